@@ -18,8 +18,9 @@
  * The functions are those of the static library `lookup_ffi`. It is proved what each answers, and what it
  * leaves in its handles and lists, except for what no contract can say, which is only tested:
  *
- *   - that TUHVONDI_SHARED, and TUHVONDI_BAD_COUNT of tuhvondi_writer_reader, are answered in the cases below
- *     alone, and TUHVONDI_NO_MEMORY only if memory was refused
+ *   - that TUHVONDI_SHARED, and TUHVONDI_BAD_COUNT of tuhvondi_writer_reader and tuhvondi_reader_learn, are
+ *     answered in the cases below alone, and TUHVONDI_NO_MEMORY only if memory was refused
+ *   - that no two readers of a writer have the same place
  *   - that a look-up by a reader sees each publication that was done before it began (but it is proved of those
  *     that tuhvondi_reader_learn told it of)
  *   - what tuhvondi_image_bytes writes

@@ -352,7 +352,8 @@ uint32_t tuhvondi_network_copy(struct tuhvondi_network *network, struct tuhvondi
  * TUHVONDI_UNKNOWN_ROUTER, TUHVONDI_UNKNOWN_LINK, TUHVONDI_UNKNOWN_PREFIX if no router was attached to the
  * prefix at the opening, TUHVONDI_ALREADY_UP, TUHVONDI_IS_DOWN, TUHVONDI_SESSIONS_SPENT,
  * TUHVONDI_NOTHING_TO_DELIVER, TUHVONDI_NOTHING_DUE, TUHVONDI_NOTHING_RIPE, TUHVONDI_NOT_ATTACHED.
- * The last is TUHVONDI_NO_MEMORY. */
+ * The last is TUHVONDI_NO_MEMORY. With it no link is refused that goes down, no release of a message whose link
+ * has left its session, and no delivery for which the router has room. */
 uint32_t tuhvondi_network_step(struct tuhvondi_network *network, const struct tuhvondi_step *step);
 
 /* Does steps in their order, up to the first that is refused, and writes how many were done. It answers why

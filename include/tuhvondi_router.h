@@ -24,15 +24,15 @@
  * neighbour that hears of a row may send packets by it at once. examples/c/router.c does so with three
  * routers in one process.
  *
- * If every router of a network is of this library, and every program keeps the five duties of
+ * If every router of a network is of this library, and every program keeps the six duties of
  * docs/daemons.md (order within a session, later sessions, forwarding first, letting in, one call at a
- * time), it is proved of the network as a whole:
+ * time, other neighbours only between sessions), it is proved of the network as a whole:
  *
  *   - No packet meets a router twice, even while links fail, messages are lost and processes begin anew
- *     (`no_packet_circles` of crates/daemon_laws).
+ *     (`no_daemon_packet_circles` of crates/daemon_laws).
  *   - Once links, costs and attachments stay as they are and no process begins anew, the network comes to
- *     rest. It does so at least cost if it has at most 65,536 routers, no message is lost and the ends of
- *     each link agree (`processes_converge` of crates/daemons_come_to_rest).
+ *     rest. It does so at least cost if it has at most 65,536 routers, no message of a present session
+ *     was lost, and the ends of each link agree (`processes_converge` of crates/daemons_come_to_rest).
  *
  * The library refuses what no router sends (TUHVONDI_UNASKED, TUHVONDI_ASKED_TWICE, TUHVONDI_OTHER_SESSION),
  * and a prefix more than the router may know (TUHVONDI_TOO_MANY_PREFIXES). If a message is refused, end the

@@ -41,6 +41,9 @@
  *   - a publication: so long after the router had something to publish as its delay says
  *   - an item on a link: so long after it was put as the delay of its direction says
  *
+ * A link that fails is noticed so, too: each end takes the notice after the delay of its direction, and not after
+ * a time without a sign of life. So outages are those of a network that notices a failure at once.
+ *
  * Of one moment changes come first, in the order in which you gave them, and then routers by number. So what
  * happens is determined by what you give. Items of one direction of a link arrive in their order.
  *
@@ -48,8 +51,8 @@
  * of the network. The proof holds for every call that keeps to the rules of "tuhvondi.h" and
  * "tuhvondi_network.h". All that is proved of a network holds of this one at every moment, whatever the delays
  * are: for example, no packet meets a router twice. It is also proved that nothing is done before it is due, and
- * that nothing that is due is left out. A record is exact: a spell stands in it if and only if there was one
- * (docs/network.md).
+ * that nothing that is due is left out. A record is exact: a spell stands in it if and only if there was one,
+ * and those that ended stand there once each, in the order in which they did (docs/network.md).
  */
 #ifndef TUHVONDI_TIMED_H
 #define TUHVONDI_TIMED_H

@@ -88,6 +88,8 @@ class Router:
         self.published = dict(self.control)
         self.gate: deque[Message] = deque()
         self.ripe = 0
+        # Rows of the process before that still stand. While no port is up any of them may be the longest match.
+        self.left: dict[int, Entry] = {}
 
     def meets(self, prefix: int, event: Callable[[Machine], list[Send]]) -> None:
         """The machine of a prefix meets an event. What it sends is held, and its row is chosen anew."""
@@ -111,7 +113,7 @@ class Router:
 
     def of_both_kinds(self, covers: list[int]) -> list[Entry]:
         """The rows that may match longest where some of the chosen ones are in force already."""
-        entries: list[Entry] = []
+        entries: list[Entry] = [self.left[prefix] for prefix in covers if prefix in self.left]
         for prefix in covers:
             entries += [rows[prefix] for rows in (self.control, self.published) if prefix in rows]
             if prefix in self.published:
@@ -120,15 +122,16 @@ class Router:
 
 
 class Processes:
-    """Routers, what is on its way to each end, the last session of each, and that of the message that it took last."""
+    """Routers, what is on its way to each end, the last session of each of which something is left, that of the message
+    that it took last, and of which sessions a message to it was lost."""
 
     def __init__(self, plan: Plan) -> None:
-        self.prefixes, self.far = plan.prefixes, plan.far
+        self.prefixes, self.far = plan.prefixes, dict(plan.far)
         self.routers = [Router(costs, attachments) for costs, attachments in zip(plan.costs, plan.attachments)]
         self.coming: dict[End, deque[Message]] = {end: deque() for end in plan.far}
         self.last = dict.fromkeys(plan.far, 0)
         self.heard = dict.fromkeys(plan.far, 0)
-        self.is_lost = False
+        self.lost: dict[End, set[int]] = {end: set() for end in plan.far}
         self.faults: list[str] = []
 
     def port(self, end: End) -> Port:
@@ -182,6 +185,15 @@ class Processes:
     def enters(self, near: End, session: int) -> bool:
         return self.lets_in(self.far[near])
 
+    def outlives(self, near: End, session: int, i: int) -> bool:
+        """Whether a packet on its way from an end is not lost where the process of router i begins anew."""
+        far = self.far[near]
+        return i != far.router and (i != near.router or session <= self.own_session(far))
+
+    def comes_in_order(self, end: End, session: int) -> bool:
+        """Whether a packet that tells no session comes before each message of a session later than that of its row."""
+        return self.heard[end] <= session
+
     # ---- what happens; each says in a word what it was
 
     def up(self, end: End, session: int, cost: int) -> str:
@@ -189,6 +201,7 @@ class Processes:
         if port.up or session < self.first_session(end):
             return "cannot come up"
         port.up, port.session, port.cost = True, session, cost
+        self.clears(end.router)
         self.last[end] = max(self.last[end], session)
         self.routers[end.router].all_meet(UP, end.port)
         return f"comes up {'where the other end is' if self.is_up_at(end) else 'alone'}"
@@ -229,8 +242,7 @@ class Processes:
 
     def loses(self, end: End) -> str:
         if self.coming[end]:
-            self.coming[end].popleft()
-            self.is_lost = True
+            self.lost[end].add(self.coming[end].popleft().session)
         return "loses"
 
     def publishes(self, i: int) -> str:
@@ -265,9 +277,56 @@ class Processes:
         self.coming[self.far[End(i, message.port)]].extend(sent)
         return "releases" if sent else "releases what is dropped"
 
+    def own_session(self, end: End) -> int:
+        """The last session that the process at an end was in."""
+        return self.port(end).session
+
+    def latest_coming(self, end: End) -> int:
+        """The latest session of a message that is on its way over a link, either way."""
+        return max((it.session for at in (end, self.far[end]) for it in self.coming[at]), default=0)
+
+    def last_anew(self, i: int, end: End) -> int:
+        """What an end has to exceed once the process of router i begins anew: of which something is left."""
+        last, far = self.last[end], self.far[end]
+        if end.router == i:
+            return min(last, max(self.own_session(far), self.latest_coming(end)))
+        return max(self.own_session(end), min(last, self.latest_coming(end))) if far.router == i else last
+
     def begins_anew(self, i: int, costs: list[int], attachments: dict[int, int]) -> str:
+        anew = {end: self.last_anew(i, end) for end in self.far}
+        is_less = any(anew[end] < self.last[end] for end in self.far)
+        for end in self.far:
+            pair = end, self.far[end]
+            self.lost[end] = {it for it in self.lost[end] if not any(anew[one] < it <= self.last[one] for one in pair)}
+            self.heard[end] = 0 if end.router == i else self.heard[end]
+        self.last = anew
+        left = self.routers[i].left | self.routers[i].published
         self.routers[i] = Router(costs, attachments)
-        return "begins anew"
+        self.routers[i].left = left
+        return f"begins anew{', and sessions may be used again' * is_less}"
+
+    def clears(self, i: int) -> None:
+        """The process clears the rows of the one before, before its first port is up."""
+        self.routers[i].left = {}
+
+    def may_rewire(self, a: End, c: End) -> bool:
+        """Whether the links at two ends may exchange their other ends: all four are in no session."""
+        ends = {a, c, self.far[a], self.far[c]}
+        return len(ends) == 4 and not any(self.port(end).up for end in ends)
+
+    def last_rewired(self, end: End) -> int:
+        return max(self.own_session(end), self.own_session(self.far[end]))
+
+    def rewires(self, a: End, c: End) -> str:
+        if not self.may_rewire(a, c) or a.router == c.router or self.far[a].router == self.far[c].router:
+            return "may not get another neighbour"
+        b, d = self.far[a], self.far[c]
+        self.far |= {a: c, c: a, b: d, d: b}
+        self.last |= {end: self.last_rewired(end) for end in (a, b, c, d)}
+        for end in a, b, c, d:
+            self.coming[end].clear()
+            self.lost[end], self.heard[end] = set(), 0
+        return "gets another neighbour"
 
     def does(self, happening: Happening) -> str:
         self.faults = []
@@ -329,8 +388,12 @@ class Processes:
                 costs[end.router] = min(costs[end.router], costs[self.far[end].router] + self.port(end).cost)
         return costs
 
+    def is_whole(self) -> bool:
+        """Whether nothing was lost of a session that an end is in."""
+        return not any(self.port(end).up and self.port(end).session in self.lost[end] for end in self.far)
+
     def wrong_at_rest(self) -> list[str]:
-        """What is wrong where nothing is left to do but to forget, nothing was lost, and the ends of each link agree."""
+        """What is wrong where nothing is left to do but to forget, all is whole, and the ends of each link agree."""
         if any(machine.origin is not None for router in self.routers for machine in router.machines.values()):
             return [ACTIVE]
         bests = [(prefix, self.best(prefix)) for prefix in self.prefixes]

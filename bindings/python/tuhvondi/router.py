@@ -162,7 +162,7 @@ class Router(Owner):
     >>> far.state("10.0.0.0/8").distance
     6
 
-    If every router of a network is of this library, and every program keeps the five duties of
+    If every router of a network is of this library, and every program keeps the six duties of
     docs/daemons.md, it is proved that no packet meets a router twice. `examples/python/own_loop.py` has an
     event loop with delays.
 

@@ -65,7 +65,8 @@ class TimedNetwork(Whole):
 
     - delay: how long an item is on its way over a link, in microseconds: a number for all; a dict by the names
       of the router that sends and the router that receives; or a function of the two. If a dict has one
-      direction alone, that counts for both.
+      direction alone, that counts for both. An end notices a failed link after that delay, too, and not after a
+      time without a sign of life.
     - publication: how long after a router has something to publish it publishes, in microseconds: a number for
       all, a dict by name, or a function of the name.
     - up: whether all links come up at moment 0; else all are down.
@@ -89,7 +90,7 @@ class TimedNetwork(Whole):
 
     All that is proved of a network holds of this one at every moment, whatever the delays are. It is also
     proved that nothing is done before it is due, and that nothing that is due is left out. A record is exact: a
-    spell stands in it if and only if there was one.
+    spell stands in it if and only if there was one, and those that ended stand there once each, in that order.
 
     Raises what a `Network` raises, and ValueError if a delay is none.
     """

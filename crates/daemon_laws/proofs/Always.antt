@@ -1,18 +1,21 @@
 -- What holds at every moment, whatever has happened.
-use Rattle.std.proofs.Common.{List, inl, ℕ}
+use Rattle.std.proofs.Common.{List, [], ◌∷◌, inl, ℕ}
 use Rattle.no_packet_loops.proofs.Common.{Prefix, Topology}
 use Rattle.loop_freedom.proofs.FourFacts.{link_facts}
 use Rattle.daemon_laws.specs.Processes.{Processes}
 use Rattle.daemon_laws.specs.Packets.{NoPacketCircles, NoPacketLoops, NoMixtureLoops, NoUnmarkedCircles, NoUnmarkedLoops, NoUnmarkedMixtureLoops, NoUnmarkedWrittenCircles, NoWrittenCircles}
-use Rattle.daemon_laws.proofs.Shown.{AllShown, after_shown, begins_shown}
+use Rattle.daemon_laws.proofs.Shown.{AllShown, next_shown, begins_shown}
 use Rattle.daemon_laws.proofs.Ways.{marked_free, unmarked_free, marked_written, unmarked_written}
-use Rattle.daemon_laws.specs.Happenings.{Happening, Begins, AllCanHappen, after, HoldsAlways, NoneRefused}
-use Rattle.daemon_laws.specs.Facts.{fds_after, first_fds, end_from, FourFactsAlwaysHold}
+use Rattle.daemon_laws.specs.Happenings.{Happening, Begins, AllCanHappen, after, AfterIsReached, next, IsReached, Begun, Happened, Rewired, MayRewire, rewired, CanHappen, HoldsAlways, NoneRefused}
+use Rattle.daemon_laws.specs.Facts.{fds_next, fds_after, first_fds, end_from, FourFactsAlwaysHold}
+use Rattle.daemon_laws.specs.Moments.{fds_reached, FourFactsHoldThere}
 use Rattle.daemon_laws.specs.Rest.{RestIsAlwaysBest}
 use Rattle.daemon_laws.proofs.Beginning.{begins_kept}
-use Rattle.daemon_laws.proofs.Invariant.{Invariant, links_far}
-use Rattle.daemon_laws.proofs.Steps.{after_keeps}
-use Rattle.daemon_laws.proofs.Order.{after_orderly, begins_orderly}
+use Rattle.daemon_laws.proofs.Invariant.{Placed, Invariant, links_far}
+use Rattle.daemon_laws.proofs.Order.{after_keeps, next_orderly, begins_orderly}
+use Rattle.daemon_laws.proofs.Steps.{next_keeps}
+use Rattle.daemon_laws.proofs.Placed.{placed_next}
+use Rattle.daemon_laws.proofs.Rewiring.{rewired_keeps, rewired_orderly, rewired_placed}
 use Rattle.daemon_laws.proofs.Orderly.{Orderly}
 use Rattle.daemon_laws.proofs.Taken.{taken_there}
 use Rattle.daemon_laws.proofs.Resting.{best}
@@ -22,29 +25,69 @@ use Rattle.daemon_laws.proofs.Walks.{published_free, mixture_free, unmarked_publ
 abbrev fds : Topology → Processes → List Happening → Prefix → ℕ → ℕ
 fds t first hs p = fds_after t p first hs (first_fds p first)
 
+-- what is kept at every moment, for one prefix, and the feasible distances with which the routers have published last
+pub record Always (t : Topology) (p : Prefix) (fds : ℕ → ℕ) (w : Processes) : Type 0 where
+  pub invariant : Invariant t p fds w
+  pub orderly : Orderly t p w
+  pub placed : Placed t w
+  pub shown : AllShown p w.routers fds
+
+-- so it is after what happens
+pub always_next : (t : Topology) (p : Prefix) (fds : ℕ → ℕ) (w : Processes) (h : Happening) → Always t p fds w → CanHappen w h → Always t p (fds_next p w h fds) (next t w h)
+always_next t p fds w h A can = record {
+  invariant = next_keeps t p fds w A.invariant A.orderly A.placed h can;
+  orderly = next_orderly t p fds w A.invariant A.orderly h can;
+  placed = placed_next t w A.placed h;
+  shown = next_shown p t w h fds can A.shown;
+}
+
+-- and where ports get other neighbours
+pub always_rewired : (t t' : Topology) (p : Prefix) (fds : ℕ → ℕ) (w : Processes) → Always t p fds w → MayRewire t t' w → Always t' p fds (rewired t t' w)
+always_rewired t t' p fds w A R = record {
+  invariant = rewired_keeps t t' p fds w A.invariant A.orderly R;
+  orderly = rewired_orderly t t' p fds w A.invariant A.orderly R;
+  placed = rewired_placed t t' w;
+  shown = A.shown;
+}
+
+-- so it is, whatever has happened, and whichever neighbours ports have got
+pub always : (p : Prefix) (t : Topology) (w : Processes) (M : IsReached t w) → Always t p (fds_reached t w M p) w
+always p _ _ (Begun t w B) = record {
+  invariant = begins_kept t p w B;
+  orderly = begins_orderly t p w B;
+  placed = λ e out. B.nothing_comes e;
+  shown = begins_shown p w B;
+}
+always p _ _ (Happened t w h M can) = always_next t p (fds_reached t w M p) w h (always p t w M) can
+always p _ _ (Rewired t t' w M R) = always_rewired t t' p (fds_reached t w M p) w (always p t w M) R
+
+-- all that may happen comes to such a moment
+pub after_is_reached : AfterIsReached
+after_is_reached t first hs B can = from t first hs (Begun t first B) can
+  where
+    from : (t : Topology) (w : Processes) (hs : List Happening) → IsReached t w → AllCanHappen t w hs → IsReached t (after t w hs)
+    from t w [] M can = M
+    from t w (h ∷ hs) M can = from t (next t w h) hs (Happened t w h M can.0) can.1
+
 -- the invariant holds
-pub kept_always : (t : Topology) (first : Processes) (hs : List Happening) → Begins first → AllCanHappen t first hs → (p : Prefix) → Invariant t p (fds t first hs p) (after t first hs)
-kept_always t first hs B can p = after_keeps t p (first_fds p first) first hs (begins_kept t p first B) can
+kept_always : (t : Topology) (first : Processes) (hs : List Happening) → Begins first → AllCanHappen t first hs → (p : Prefix) → Invariant t p (fds t first hs p) (after t first hs)
+kept_always t first hs B can p = after_keeps t p (first_fds p first) first hs (begins_kept t p first B) (begins_orderly t p first B) (λ e out. B.nothing_comes e) can
 
 -- no packet meets a router twice
 pub always_packets_free : HoldsAlways NoPacketLoops
-always_packets_free t first hs B can addr p walk h = published_free t p (fds t first hs p) (after t first hs) (kept_always t first hs B can p) addr walk h
+always_packets_free t w M addr p walk h = let A = always p t w M in published_free t p (fds_reached t w M p) w A.invariant addr walk h
 
 -- nor in a mixture
 pub always_mixtures_free : HoldsAlways NoMixtureLoops
-always_mixtures_free t first hs B can by_control addr p walk h = mixture_free t p (fds t first hs p) (after t first hs) (kept_always t first hs B can p) by_control addr walk h
-
--- the order of sessions holds
-orderly_always : (t : Topology) (first : Processes) (hs : List Happening) → Begins first → AllCanHappen t first hs → (p : Prefix) → Orderly t p (after t first hs)
-orderly_always t first hs B can p = after_orderly t p (first_fds p first) first hs (begins_kept t p first B) (begins_orderly t p first B) can
+always_mixtures_free t w M by_control addr p walk h = let A = always p t w M in mixture_free t p (fds_reached t w M p) w A.invariant by_control addr walk h
 
 -- where packets carry no session, none meets a router twice
 pub always_unmarked_free : HoldsAlways NoUnmarkedLoops
-always_unmarked_free t first hs B can addr p walk h = unmarked_published_free t p (fds t first hs p) (after t first hs) (kept_always t first hs B can p) (orderly_always t first hs B can p) addr walk h
+always_unmarked_free t w M addr p walk h = let A = always p t w M in unmarked_published_free t p (fds_reached t w M p) w A.invariant A.orderly addr walk h
 
 -- nor in a mixture
 pub always_unmarked_mixtures_free : HoldsAlways NoUnmarkedMixtureLoops
-always_unmarked_mixtures_free t first hs B can by_control addr p walk h = unmarked_mixture_free t p (fds t first hs p) (after t first hs) (kept_always t first hs B can p) (orderly_always t first hs B can p) by_control addr walk h
+always_unmarked_mixtures_free t w M by_control addr p walk h = let A = always p t w M in unmarked_mixture_free t p (fds_reached t w M p) w A.invariant A.orderly by_control addr walk h
 
 -- the four facts hold
 pub always_facts : FourFactsAlwaysHold
@@ -53,29 +96,32 @@ always_facts t first hs B can p e n v one two =
     let w = after t first hs in
     link_facts (end_from t p n (fds t first hs p) w e) (end_from t p n (fds t first hs p) w (t.far e)) (I.links e v n (inl one) (inl two)) (links_far I e v n (inl one) (inl two))
 
+-- also where ports have got other neighbours
+pub facts_there : FourFactsHoldThere
+facts_there t w M p e n v one two =
+    let I = (always p t w M).invariant in
+    let here = fds_reached t w M p in
+    link_facts (end_from t p n here w e) (end_from t p n here w (t.far e)) (I.links e v n (inl one) (inl two)) (links_far I e v n (inl one) (inl two))
+
 -- where all is at rest each router has its best row
 pub rest_is_always_best : RestIsAlwaysBest
-rest_is_always_best t first hs B can n few A p i l = best t p (fds t first hs p) (after t first hs) (kept_always t first hs B can p) n few A i l
-
--- a prefix without a published row was unheard
-shown_always : (t : Topology) (first : Processes) (hs : List Happening) → Begins first → AllCanHappen t first hs → (p : Prefix) → AllShown p (after t first hs).routers (fds t first hs p)
-shown_always t first hs B can p = after_shown p t first hs (first_fds p first) can (begins_shown p first B)
+rest_is_always_best t w M n few R p i l = let A = always p t w M in best t p (fds_reached t w M p) w A.invariant n few R i l
 
 -- no packet circles, whichever prefixes match it
 pub always_no_circles : HoldsAlways NoPacketCircles
-always_no_circles t first hs B can = marked_free t (after t first hs) (fds t first hs) (kept_always t first hs B can) (shown_always t first hs B can)
+always_no_circles t w M = marked_free t w (fds_reached t w M) (λ p. (always p t w M).invariant) (λ p. (always p t w M).shown)
 
 -- nor where packets carry no session
 pub always_no_unmarked_circles : HoldsAlways NoUnmarkedCircles
-always_no_unmarked_circles t first hs B can = unmarked_free t (after t first hs) (fds t first hs) (kept_always t first hs B can) (shown_always t first hs B can) (orderly_always t first hs B can)
+always_no_unmarked_circles t w M = unmarked_free t w (fds_reached t w M) (λ p. (always p t w M).invariant) (λ p. (always p t w M).shown) (λ p. (always p t w M).orderly)
 
 -- nor while rows are written
 pub always_no_written_circles : HoldsAlways NoWrittenCircles
-always_no_written_circles t first hs B can = marked_written t (after t first hs) (fds t first hs) (kept_always t first hs B can) (shown_always t first hs B can)
+always_no_written_circles t w M = marked_written t w (fds_reached t w M) (λ p. (always p t w M).invariant) (λ p. (always p t w M).shown)
 
 pub always_no_unmarked_written_circles : HoldsAlways NoUnmarkedWrittenCircles
-always_no_unmarked_written_circles t first hs B can = unmarked_written t (after t first hs) (fds t first hs) (kept_always t first hs B can) (shown_always t first hs B can) (orderly_always t first hs B can)
+always_no_unmarked_written_circles t w M = unmarked_written t w (fds_reached t w M) (λ p. (always p t w M).invariant) (λ p. (always p t w M).shown) (λ p. (always p t w M).orderly)
 
 -- no router refuses a message of the session that it is in
 pub always_none_refused : HoldsAlways NoneRefused
-always_none_refused t first hs B can e c v at on = taken_there t (after t first hs) e v c at (fds t first hs (c.message).prefix) (kept_always t first hs B can (c.message).prefix) on
+always_none_refused t w M e c v at on = let A = always (c.message).prefix t w M in taken_there t w e v c at (fds_reached t w M (c.message).prefix) A.invariant on

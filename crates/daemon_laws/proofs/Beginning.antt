@@ -257,7 +257,7 @@ module _ (t : Topology) (p : Prefix) (w : Processes) (B : Begins w) where
     last_is = λ e. (let z = (known e.router).never e.port in omega (arith, z));
     coming_lawful = λ e. rw (B.nothing_comes e) tt;
     cheap = λ i. (known i).cheap;
-    told = λ whole e v n one two. record { last_is = λ on. absurd (both_ways (is_in p (router_at w (t.far e)) (t.far e).port n) (off (t.far e) n) on); answers = record { answered = (let a : one_if (end_from t p n fds w e).awaits ≡ 0 = ap one_if (and_left (is_in p (router_at w e) e.port n) (awaits (machine_of (router_at w e) p) e.port) (off e n)) in omega (arith, a)) } };
+    told = λ e v n whole one two. record { last_is = λ on. absurd (both_ways (is_in p (router_at w (t.far e)) (t.far e).port n) (off (t.far e) n) on); answers = record { answered = (let a : one_if (end_from t p n fds w e).awaits ≡ 0 = ap one_if (and_left (is_in p (router_at w e) e.port n) (awaits (machine_of (router_at w e) p) e.port) (off e n)) in omega (arith, a)) } };
     links = λ e v n one two.
         let f = t.far e in
         let mx = machine_of (router_at w e) p in

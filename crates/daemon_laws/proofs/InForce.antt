@@ -1,5 +1,5 @@
 -- A router that puts rows in force, or forgets a prefix, keeps the invariant.
-use Rattle.std.proofs.Common.{sym, ap, subst, ◌∙◌, arith, inl, inr, ◌≡◌, ◌≢◌, ℕ, ◌≤◌, true, false, ◌&&◌, ◌==◌, List, option_and_then, take, drop}
+use Rattle.std.proofs.Common.{sym, ap, subst, ◌∙◌, arith, inl, inr, ◌≡◌, ◌≢◌, ℕ, Bool, ◌≤◌, true, ◌&&◌, ◌==◌, List, option_and_then, take, drop}
 use Rattle.no_packet_loops.proofs.Common.{and_parts, Prefix, prefix_cmp, Router, machine_of, session_at, next_hop, kept, ripe_of, unripe_of, IsSound, is_up_at, is_port, is_current, Topology, LinkEnd}
 use Rattle.network_model.proofs.Common.{cases_eq, and_left, infinity}
 use Rattle.network_model.specs.World.{Gate}
@@ -16,7 +16,7 @@ use Rattle.daemon_laws.proofs.Cheap.{IsCheap}
 use Rattle.daemon_laws.proofs.Told.{Told}
 use Rattle.daemon_laws.proofs.Gone.{Gone}
 use Rattle.daemon_laws.proofs.Shows.{told_here, told_there, gone_here, gone_there}
-use Rattle.daemon_laws.proofs.Invariant.{router_at, session_of, end_from, MayBe, Left, Invariant}
+use Rattle.daemon_laws.proofs.Invariant.{Whole, router_at, session_of, end_from, MayBe, Left, Invariant}
 
 -- ---- a router
 
@@ -145,10 +145,10 @@ module _ (t : Topology) (p : Prefix) (pfd pfd' : ℕ → ℕ) (w w' : Processes)
       along (λ z. EndInvariant (end_from t p n pfd' w' e) z) n f (λ S. invariant_there S near) near
 
   -- what the one was told of the other
-  told' : w'.lost ≡ false → (e : LinkEnd) → t.valid e ≡ true → (n : ℕ) → MayBe p n w' e → MayBe p n w' (t.far e) → Told (end_from t p n pfd' w' e) (end_from t p n pfd' w' (t.far e))
-  told' whole e v n one two =
+  told' : (e : LinkEnd) → t.valid e ≡ true → (n : ℕ) → Whole t n w'.lost e → MayBe p n w' e → MayBe p n w' (t.far e) → Told (end_from t p n pfd' w' e) (end_from t p n pfd' w' (t.far e))
+  told' e v n whole one two =
       let f = t.far e in
-      let first : Told (end_from t p n pfd w e) (end_from t p n pfd w f) = I.told (sym P.lost_same ∙ whole) e v n (may_before n e one) (may_before n f two) in
+      let first : Told (end_from t p n pfd w e) (end_from t p n pfd w f) = I.told e v n (subst (λ (l : LinkEnd → ℕ → Bool). Whole t n l e) P.lost_same whole) (may_before n e one) (may_before n f two) in
       let near = along (λ z. Told z (end_from t p n pfd w f)) n e (λ S. told_here S first) first in
       along (λ z. Told (end_from t p n pfd' w' e) z) n f (λ S. told_there S near) near
 

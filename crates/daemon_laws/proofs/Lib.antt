@@ -22,9 +22,12 @@ pub mod Releasing
 pub mod Orderly
 pub mod Walks
 pub mod Beginning
+pub mod Anew
 pub mod Restarting
 pub mod Losing
 pub mod Steps
+pub mod Placed
+pub mod Rewiring
 pub mod Order
 pub mod Quiet
 pub mod Resting
@@ -32,5 +35,6 @@ pub mod Shown
 pub mod Ways
 pub mod Taken
 pub mod Always
+pub mod Numbers
 pub mod Example
 pub mod RestExample

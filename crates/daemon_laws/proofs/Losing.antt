@@ -1,12 +1,13 @@
--- A message that is lost keeps the invariant, but for what was told.
-use Rattle.std.proofs.Common.{refl, sym, ap, subst, ◌∙◌, arith, inl, inr, ◌≡◌, ◌⊎◌, ℕ, ◌≤◌, Bool, true, false, ◌==◌, if◌then◌else◌, List, [], ◌∷◌, ◌++◌, drop}
-use Rattle.no_packet_loops.proofs.Common.{false≢true, Prefix, prefix_eq, msg_of, kept, ripe_of, Reported, Topology, LinkEnd}
+-- A message that is lost keeps the invariant, but for what was told in its session.
+use Rattle.std.proofs.Common.{refl, sym, ap, subst, ◌∙◌, arith, inl, inr, ◌≡◌, ◌⊎◌, ℕ, ◌≤◌, Bool, true, false, ◌&&◌, ◌==◌, if◌then◌else◌, List, [], ◌∷◌, ◌++◌, drop}
+use Rattle.no_packet_loops.proofs.Common.{false≢true, or_parts, Prefix, prefix_eq, msg_of, kept, ripe_of, Reported, Topology, LinkEnd}
 use Rattle.network_model.proofs.Common.{Kind, Query, Reply, Report}
 use Rattle.loop_freedom.specs.Facts.{End, pipe, count, messages, live, AtLeast, AtLeastFromLastQuery}
 use Rattle.loop_freedom.proofs.Link.{EndInvariant}
 use Rattle.loop_freedom.proofs.Notices.{IsLawfullyHeld}
 use Rattle.daemon_laws.specs.Processes.{Carried, Processes}
-use Rattle.daemon_laws.specs.Happenings.{Loses, is_same_end, next}
+use Rattle.daemon_laws.specs.Happenings.{Loses, is_same_end, is_first_of, next}
+use Rattle.daemon_laws.proofs.Told.{Told}
 use Rattle.daemon_laws.proofs.Seen.{carried, arriving}
 use Rattle.daemon_laws.proofs.Gone.{Gone, gone_less}
 use Rattle.daemon_laws.proofs.Invariant.{end_from, Invariant}
@@ -141,6 +142,31 @@ module _ (t : Topology) (p : Prefix) (pfd : ℕ → ℕ) (w : Processes) (I : In
       by_same true is = as_out (drop 1 (w.coming (t.far e))) (ap (λ b. if b then drop 1 (w.coming (t.far e)) else w.coming (t.far e)) is) (drop_one n (w.coming (t.far e)))
       by_same false is = as_out (w.coming (t.far e)) (ap (λ b. if b then drop 1 (w.coming (t.far e)) else w.coming (t.far e)) is) (inl refl)
 
+  -- where the first message is not of the session, nothing of it goes with that
+  drop_same : (n : ℕ) (cs : List Carried) → is_first_of n cs ≡ false → messages (arriving n (carried p (drop 1 cs))) ≡ messages (arriving n (carried p cs))
+  drop_same n [] other = refl
+  drop_same n (c ∷ cs) other = by_prefix (prefix_eq p (c.message).prefix)
+    where
+      by_prefix : (b : Bool) → messages (arriving n (carried p cs)) ≡ messages (arriving n (if b then record { session = c.session; message = msg_of c.message } ∷ carried p cs else carried p cs))
+      by_prefix true = sym (ap (λ b. messages (if b then Reported (msg_of c.message) ∷ arriving n (carried p cs) else arriving n (carried p cs))) other)
+      by_prefix false = refl
+
+  -- so where nothing of the session was lost, an end is as before
+  out_same : (n : ℕ) (e : LinkEnd) → w'.lost (t.far e) n ≡ false → new n e ≡ old n e
+  out_same n e whole = by_same (is_same_end (t.far e) e0) refl
+    where
+      as_same : (cs : List Carried) → w'.coming (t.far e) ≡ cs → messages (arriving n (carried p cs)) ≡ messages (arriving n (carried p (w.coming (t.far e)))) → new n e ≡ old n e
+      as_same cs is same = λ z. with_out ((ap (λ ds. messages (arriving n (carried p ds))) is ∙ same) z ++ live n (kept p e.port (ripe_of (w.routers e.router)))) (old n e)
+
+      other : (b : Bool) → (b && is_first_of n (w.coming (t.far e))) ≡ false → b ≡ true → is_first_of n (w.coming (t.far e)) ≡ false
+      other true h is = h
+      other false h is = absurd (false≢true is)
+
+      by_same : (b : Bool) → is_same_end (t.far e) e0 ≡ b → new n e ≡ old n e
+      by_same true is = as_same (drop 1 (w.coming (t.far e))) (ap (λ b. if b then drop 1 (w.coming (t.far e)) else w.coming (t.far e)) is)
+          (drop_same n (w.coming (t.far e)) (other (is_same_end (t.far e) e0) (or_parts (w.lost (t.far e) n) (is_same_end (t.far e) e0 && is_first_of n (w.coming (t.far e))) whole).1 is))
+      by_same false is = as_same (w.coming (t.far e)) (ap (λ b. if b then drop 1 (w.coming (t.far e)) else w.coming (t.far e)) is) refl
+
   -- what holds of an end before, and then of one of whose messages the first is lost, holds of it after
   along : (P : End → Type 0) (n : ℕ) (e : LinkEnd) → ((m : Report) → (old n e).out ≡ m ∷ (new n e).out → P (new n e)) → P (old n e) → P (new n e)
   along P n e lost h = by_out (out n e)
@@ -190,6 +216,12 @@ module _ (t : Topology) (p : Prefix) (pfd : ℕ → ℕ) (w : Processes) (I : In
     last_is = I.last_is;
     coming_lawful = coming';
     links = λ e v n one two. there_after n (t.far e) (new n e) (here_after n e (old n (t.far e)) (I.links e v n one two));
-    told = λ whole e v n one two. absurd (false≢true (sym whole));
+    told = λ e v n whole one two.
+        let f = t.far e in
+        let off = or_parts (w.lost e n) (is_same_end e e0 && is_first_of n (w.coming e)) whole.0 in
+        let off_far = or_parts (w.lost f n) (is_same_end f e0 && is_first_of n (w.coming f)) whole.1 in
+        let back : w'.lost (t.far f) n ≡ false = subst (λ (d : LinkEnd). w'.lost d n ≡ false) (sym (t.far_far e v)) whole.0 in
+        subst (λ (x : End). Told x (new n f)) (sym (out_same n e whole.1))
+        (subst (λ (y : End). Told (old n e) y) (sym (out_same n f back)) (I.told e v n (off.0, off_far.0) one two));
     alone = λ e v n left two. gone_there_after n (t.far e) (new n e) (gone_here_after n e (old n (t.far e)) (I.alone e v n (record { off = left.off; past = left.past }) two));
   }

@@ -1,5 +1,5 @@
 -- A step of one router, at one of whose ports something may be taken, keeps the invariant.
-use Rattle.std.proofs.Common.{refl, sym, ap, subst, ◌∙◌, arith, append_assoc, inl, inr, ◌≡◌, ◌≢◌, ℕ, ◌<◌, ◌≤◌, true, false, [], ◌++◌, Option, None}
+use Rattle.std.proofs.Common.{refl, sym, ap, subst, ◌∙◌, arith, append_assoc, inl, inr, ◌≡◌, ◌≢◌, ℕ, Bool, ◌<◌, ◌≤◌, true, false, [], ◌++◌, Option, None}
 use Rattle.no_packet_loops.proofs.Common.{Prefix, Router, machine_of, session_at, kept, ripe_of, unripe_of, IsSound, Topology, LinkEnd, at_port, place_cases, is_next_hop, next_hop_at}
 use Rattle.network_model.proofs.Common.{cases_eq, Report}
 use Rattle.loop_freedom.specs.Facts.{live}
@@ -16,7 +16,7 @@ use Rattle.daemon_laws.proofs.Goes.{Goes}
 use Rattle.daemon_laws.proofs.Cheap.{IsCheap}
 use Rattle.daemon_laws.proofs.Told.{Told, told_keeps}
 use Rattle.daemon_laws.proofs.Gone.{Gone, Leaves, gone_keeps}
-use Rattle.daemon_laws.proofs.Invariant.{router_at, session_of, end_from, MayBe, Left, Invariant, links_far, gone_before}
+use Rattle.daemon_laws.proofs.Invariant.{Whole, router_at, session_of, end_from, MayBe, Left, Invariant, links_far, gone_before}
 
 -- router i makes a step, at whose port q it may take a message; nothing else changes
 pub record GoesAt (t : Topology) (p : Prefix) (w w' : Processes) : Type 0 where
@@ -191,8 +191,8 @@ module _ (t : Topology) (p : Prefix) (pfd : ℕ → ℕ) (w w' : Processes) (I :
   links' e v n one two = step_keeps (linked e v n one two).step
 
   -- and what the one was told of the other
-  told' : w'.lost ≡ false → (e : LinkEnd) → t.valid e ≡ true → (n : ℕ) → MayBe p n w' e → MayBe p n w' (t.far e) → Told (end_from t p n pfd w' e) (end_from t p n pfd w' (t.far e))
-  told' whole e v n one two = let L = linked e v n one two in told_keeps L.step ((L.two).moved).speaks (I.told (sym G.lost_same ∙ whole) e v n (L.one).was (L.two).was)
+  told' : (e : LinkEnd) → t.valid e ≡ true → (n : ℕ) → Whole t n w'.lost e → MayBe p n w' e → MayBe p n w' (t.far e) → Told (end_from t p n pfd w' e) (end_from t p n pfd w' (t.far e))
+  told' e v n whole one two = let L = linked e v n one two in told_keeps L.step ((L.two).moved).speaks (I.told e v n (subst (λ (l : LinkEnd → ℕ → Bool). Whole t n l e) G.lost_same whole) (L.one).was (L.two).was)
 
   -- in a session that the one has left after the step, and the other has not
   alone' : (e : LinkEnd) → t.valid e ≡ true → (n : ℕ) → Left p n w' e → MayBe p n w' (t.far e) → Gone (end_from t p n pfd w' e) (end_from t p n pfd w' (t.far e))

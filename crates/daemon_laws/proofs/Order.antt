@@ -1,5 +1,5 @@
 -- Whatever happens keeps the order of sessions.
-use Rattle.std.proofs.Common.{refl, sym, ap, subst, ◌∙◌, arith, inl, inr, ◌≡◌, ◌⊎◌, ℕ, ◌≤◌, max, Bool, true, false, ◌&&◌, ◌==◌, is_none, if◌then◌else◌, List, [], ◌∷◌, take, drop, Some, None, slice_get, eq-eqb}
+use Rattle.std.proofs.Common.{refl, sym, ap, subst, ◌∙◌, arith, inl, inr, ◌≡◌, ◌⊎◌, ℕ, ◌≤◌, max, Bool, true, false, ◌&&◌, ◌==◌, is_none, if◌then◌else◌, List, [], ◌∷◌, take, drop, Some, None, slice_get, eq-eqb, ne_eqb, min, Option}
 use Rattle.no_packet_loops.proofs.Common.{and_parts, and_from, false≢true, take-append-le, Prefix, Held, Router, machine_of, session_at, router_publishing, router_releasing, ripe_front, next_hop_at, ripe_of, is_up_at, is_port, is_next_hop, Topology, LinkEnd, at_port, place_cases}
 use Rattle.network_model.proofs.Common.{cases_eq, both_ways}
 use Rattle.loop_freedom.specs.Facts.{End}
@@ -22,14 +22,37 @@ use Rattle.daemon_laws.proofs.Releasing.{as_carried, Sent, OnItsWay, Lost}
 use Rattle.no_packet_loops.proofs.Releasing.{front_of, ripe_front_is}
 use Rattle.daemon_laws.proofs.Beginning.{Made, made}
 use Rattle.daemon_laws.proofs.Orderly.{CarriedPast, HeldPast, carried_later, carried_append, carried_drop, carried_first, held_later, held_append, held_drop, held_take, stamped_past, HoldsMore, told_more, Shows, Orderly, hop_from}
+use Rattle.c_interface.specs.declared.fault.CallFault.{CallFault}
+use Rattle.c_interface.specs.Faults.{first_of}
+use Rattle.network_model.specs.declared.item.Message.{Message}
+use Rattle.single_router.specs.Inputs.{kind_fault, message_fault}
+use Rattle.daemon_laws.specs.Happenings.{latest_coming, last_anew, heard_anew}
+use Rattle.daemon_laws.specs.Facts.{fds_after}
+use Rattle.daemon_laws.proofs.Items.{session_is}
+use Rattle.daemon_laws.proofs.Telling.{passed, neither, message_passes}
+use Rattle.daemon_laws.proofs.Invariant.{Placed}
+use Rattle.daemon_laws.proofs.Anew.{carried_least, anew_less, anew_least, anew_far}
+use Rattle.daemon_laws.proofs.Placed.{placed_next}
 use Rattle.daemon_laws.proofs.Steps.{router_here, router_away, end_same, tells_at, taken_at, publishes_puts, publishes_some_puts, forgets_puts, sent_is, next_keeps}
+
+-- a message that is taken is of the session of its port
+in_its_session : (r : Router) (q session : ℕ) (m : Message) → is_none (told_fault (input.Message q session m) r) ≡ true → session_at r.ports q ≡ session
+in_its_session r q session m none = by_fault (told_fault (input.Message q session m) r) refl none
+  where
+    by_fault : (o : Option CallFault) → told_fault (input.Message q session m) r ≡ o → is_none o ≡ true → session_at r.ports q ≡ session
+    by_fault (Some x) is h = absurd (false≢true h)
+    by_fault None is h =
+        let fault = kind_fault (machine_of r m.prefix).computation q m.kind in
+        let P = passed (slice_get r.ports q) (λ x. first_of (message_fault session x) fault) is in
+        let u = message_passes session P.port (neither (message_fault session P.port) fault P.passes).0 in
+        session_is r q P.port P.there ∙ u.1
 
 -- ---- a router that holds more
 
 -- what an end took last is what it had taken last, or the first message that was on its way to it
 data Hears (w w' : Processes) (d : LinkEnd) : Type 0 where
   Before : w'.heard d ≡ w.heard d → Hears w w' d
-  Now : (c : Carried) → slice_get (w.coming d) 0 ≡ Some c → w'.heard d ≡ c.session → Hears w w' d
+  Now : (c : Carried) → slice_get (w.coming d) 0 ≡ Some c → w'.heard d ≡ c.session → c.session ≤ session_of w d → Hears w w' d
 
 -- one router holds more, and some first message may be taken; nothing else changes
 record Grows (t : Topology) (p : Prefix) (w w' : Processes) : Type 0 where
@@ -91,20 +114,35 @@ module _ (t : Topology) (p : Prefix) (pfd : ℕ → ℕ) (w w' : Processes) (I :
   ]
 
   -- what is held is of sessions that its sender has been in
-  held' : (e : LinkEnd) → HeldPast e.port (w'.last e) ((router_at w' e).gate).held
+  held' : (e : LinkEnd) → HeldPast e.port (session_of w' e) ((router_at w' e).gate).held
   held' e = elim (cases_eq e.router i) [
-    | inl r ↦ subst (λ (f : LinkEnd). HeldPast f.port (w'.last f) ((router_at w' f).gate).held) (sym (ap (λ (k : ℕ). at_port k e.port) r)) (here e.port)
-    | inr d ↦ subst (λ (r : Router). HeldPast e.port (w'.last e) (r.gate).held) (sym ((G.at).routers_elsewhere e.router d))
-        (held_later e.port (w.last e) (w'.last e) ((router_at w e).gate).held ((G.at).last_grows e) (O.held_past e))
+    | inl r ↦ subst (λ (f : LinkEnd). HeldPast f.port (session_of w' f) ((router_at w' f).gate).held) (sym (ap (λ (k : ℕ). at_port k e.port) r)) (here e.port)
+    | inr d ↦ subst (λ (r : Router). HeldPast e.port (session_at r.ports e.port) (r.gate).held) (sym ((G.at).routers_elsewhere e.router d)) (O.held_past e)
   ]
     where
-      here : (q : ℕ) → HeldPast q (w'.last (at_port i q)) ((w'.routers i).gate).held
+      here : (q : ℕ) → HeldPast q (session_of w' (at_port i q)) ((w'.routers i).gate).held
       here q =
           let e = at_port i q in
-          subst (λ hs. HeldPast q (w'.last e) hs) (sym (G.more).held_is)
-          (held_append q (w'.last e) ((w.routers i).gate).held (G.more).more
-          (held_later q (w.last e) (w'.last e) ((w.routers i).gate).held ((G.at).last_grows e) (O.held_past e))
-          (stamped_past q (w'.last e) (w'.routers i).ports (G.more).more ((G.at).last_after e) (G.more).stamped))
+          let s' = session_of w' e in
+          subst (λ hs. HeldPast q s' hs) (sym (G.more).held_is)
+          (held_append q s' ((w.routers i).gate).held (G.more).more
+          (held_later q (session_of w e) s' ((w.routers i).gate).held (((G.at).goes).later q) (O.held_past e))
+          (stamped_past q s' (w'.routers i).ports (G.more).more (omega arith) (G.more).stamped))
+
+  -- no end was last in an earlier session than before
+  session_grows : (e : LinkEnd) → session_of w e ≤ session_of w' e
+  session_grows e = elim (cases_eq e.router i) [
+    | inl r ↦ subst (λ (f : LinkEnd). session_of w f ≤ session_of w' f) (sym (ap (λ (k : ℕ). at_port k e.port) r)) (((G.at).goes).later e.port)
+    | inr d ↦ (let same : session_of w' e ≡ session_of w e = ap (λ (r : Router). session_at r.ports e.port) ((G.at).routers_elsewhere e.router d) in omega (arith, same))
+  ]
+
+  -- what it took last is of one that its process was in
+  heard_here' : (e : LinkEnd) → w'.heard e ≤ session_of w' e
+  heard_here' e = by_hears (G.hears e)
+    where
+      by_hears : Hears w w' e → w'.heard e ≤ session_of w' e
+      by_hears (Before same) = (let h = O.heard_here e in let g = session_grows e in omega (arith, same, h, g))
+      by_hears (Now c at is here) = (let g = session_grows e in omega (arith, is, here, g))
 
   -- what an end took last is of no session later than n, where what is on its way and what it had taken are
   heard' : (d : LinkEnd) (n : ℕ) → w.heard d ≤ n → CarriedPast n (w.coming d) → w'.heard d ≤ n
@@ -112,7 +150,7 @@ module _ (t : Topology) (p : Prefix) (pfd : ℕ → ℕ) (w w' : Processes) (I :
     where
       by_hears : Hears w w' d → w'.heard d ≤ n
       by_hears (Before same) = omega (arith, same, le)
-      by_hears (Now c at is) = (let l = carried_first n (w.coming d) c at past in omega (arith, is, l))
+      by_hears (Now c at is here) = (let l = carried_first n (w.coming d) c at past in omega (arith, is, l))
 
   -- such a step keeps the order
   grows_orderly : Orderly t p w'
@@ -121,6 +159,8 @@ module _ (t : Topology) (p : Prefix) (pfd : ℕ → ℕ) (w w' : Processes) (I :
     held_past = held';
     coming_past = λ e v. G.coming_fewer (t.far e) (w'.last e) (carried_later (w.last e) (w'.last e) (w.coming (t.far e)) ((G.at).last_grows e) (O.coming_past e v));
     heard_past = λ e v. (let h = heard' (t.far e) (w.last e) (O.heard_past e v) (O.coming_past e v) in let l = (G.at).last_grows e in omega (arith, h, l));
+    heard_here = heard_here';
+    row_past = λ e k h. (let le = O.row_past e k (shows_before e k h) in let g = session_grows e in omega (arith, le, g));
     row_held = λ e k h. subst (λ hs. HeldPast e.port k hs) (sym (ripe_same e)) (O.row_held e k (shows_before e k h));
     row_coming = λ e v k h. G.coming_fewer (t.far e) k (O.row_coming e v k (shows_before e k h));
     row_heard = λ e v k h. heard' (t.far e) k (O.row_heard e v k (shows_before e k h)) (O.row_coming e v k (shows_before e k h));
@@ -203,11 +243,14 @@ module _ (t : Topology) (p : Prefix) (pfd : ℕ → ℕ) (w : Processes) (I : In
           omega (arith, l, s)
     ];
     held_past = λ e. elim (cases_eq e.router i) [
-      | inl g ↦ subst (λ (y : Router). HeldPast e.port (w.last e) (y.gate).held) (sym (released_now e g)) (held_drop e.port (w.last e) (r.gate).held (subst (λ (j : ℕ). HeldPast e.port (w.last e) ((w.routers j).gate).held) g (O.held_past e)))
-      | inr d ↦ subst (λ (y : Router). HeldPast e.port (w.last e) (y.gate).held) (sym (released_away e d)) (O.held_past e)
+      | inl g ↦ subst (λ (y : Router). HeldPast e.port (session_at y.ports e.port) (y.gate).held) (sym (released_now e g))
+          (held_drop e.port (session_at r.ports e.port) (r.gate).held (subst (λ (j : ℕ). HeldPast e.port (session_at (w.routers j).ports e.port) ((w.routers j).gate).held) g (O.held_past e)))
+      | inr d ↦ subst (λ (y : Router). HeldPast e.port (session_at y.ports e.port) (y.gate).held) (sym (released_away e d)) (O.held_past e)
     ];
     coming_past = λ e va. coming_then e va (w.last e) (O.coming_past e va) (λ is. past_last e is);
     heard_past = O.heard_past;
+    heard_here = λ e. (let h = O.heard_here e in let s = session_same e in omega (arith, h, s));
+    row_past = λ e k x. (let le = O.row_past e k (shows_still e k x) in let s = session_same e in omega (arith, le, s));
     row_held = λ e k x. elim (cases_eq e.router i) [
       | inl g ↦ subst (λ (y : Router). HeldPast e.port k (ripe_of y)) (sym (released_now e g)) (rest e k g (O.row_held e k (shows_still e k x)))
       | inr d ↦ subst (λ (y : Router). HeldPast e.port k (ripe_of y)) (sym (released_away e d)) (O.row_held e k (shows_still e k x))
@@ -226,7 +269,13 @@ module _ (t : Topology) (p : Prefix) (pfd : ℕ → ℕ) (w : Processes) (I : In
       past_row e k is past = first_past e.port k h (ripe_of (router_releasing r)) (whole e k (ap (λ (d : LinkEnd). d.router) is) past) (sym (ap (λ (d : LinkEnd). d.port) is))
 
       past_last : (e : LinkEnd) → e ≡ at_port i h.port → h.session ≤ w.last e
-      past_last e is = past_row e (w.last e) is (held_take e.port (w.last e) ((router_at w e).gate).ripe ((router_at w e).gate).held (O.held_past e))
+      past_last e is = (let le = past_row e (session_of w e) is (held_take e.port (session_of w e) ((router_at w e).gate).ripe ((router_at w e).gate).held (O.held_past e)) in let l = I.last_is e in omega (arith, le, l))
+
+      session_same : (e : LinkEnd) → session_of v e ≡ session_of w e
+      session_same e = elim (cases_eq e.router i) [
+        | inl g ↦ ap (λ (y : Router). session_at y.ports e.port) (released_now e g) ∙ ap (λ (j : ℕ). session_at (w.routers j).ports e.port) (sym g)
+        | inr d ↦ ap (λ (y : Router). session_at y.ports e.port) (released_away e d)
+      ]
 
 -- ---- each happening
 
@@ -258,18 +307,22 @@ module _ (t : Topology) (p : Prefix) (pfd : ℕ → ℕ) (w : Processes) (I : In
         more = subst (HoldsMore (w.routers e.router)) (sym (router_here e.router (told m) w.routers)) (told_more m (w.routers e.router));
         last_most = λ d. omega arith;
         coming_fewer = fewer e;
-        hears = λ d. as_hears (after_message e w c) c d (hears c at le d (is_same_end d e) refl (is_none (told_fault m (w.routers e.router))));
+        hears = λ d. as_hears (after_message e w c) c d (hears c at le d (is_same_end d e) refl (is_none (told_fault m (w.routers e.router))) refl);
       }))
     where
-      hears : (c : Carried) → slice_get (w.coming e) 0 ≡ Some c → (le : c.session ≤ w.last e) (d : LinkEnd) → (b : Bool) → is_same_end d e ≡ b → (f : Bool)
-          → (if b && f then c.session else w.heard d) ≡ w.heard d ⊎ ((slice_get (w.coming d) 0 ≡ Some c) × ((if b && f then c.session else w.heard d) ≡ c.session))
-      hears c at le d true is true = inr (ap (λ (g : LinkEnd). slice_get (w.coming g) 0) (end_same d e is) ∙ at, refl)
-      hears c at le d true is false = inl refl
-      hears c at le d false is f = inl refl
+      hears : (c : Carried) → slice_get (w.coming e) 0 ≡ Some c → (le : c.session ≤ w.last e) (d : LinkEnd) → (b : Bool) → is_same_end d e ≡ b → (f : Bool) → is_none (told_fault (input.Message e.port c.session c.message) (w.routers e.router)) ≡ f
+          → (if b && f then c.session else w.heard d) ≡ w.heard d ⊎ ((slice_get (w.coming d) 0 ≡ Some c) × ((if b && f then c.session else w.heard d) ≡ c.session) × (c.session ≤ session_of w d))
+      hears c at le d true is true none = inr (
+        ap (λ (g : LinkEnd). slice_get (w.coming g) 0) (end_same d e is) ∙ at,
+        refl,
+        subst (λ (g : LinkEnd). c.session ≤ session_of w g) (sym (end_same d e is)) (let s = in_its_session (w.routers e.router) e.port c.session c.message none in omega (arith, s)),
+      )
+      hears c at le d true is false none = inl refl
+      hears c at le d false is f none = inl refl
 
-      as_hears : (v : Processes) (c : Carried) (d : LinkEnd) → (v.heard d ≡ w.heard d) ⊎ ((slice_get (w.coming d) 0 ≡ Some c) × (v.heard d ≡ c.session)) → Hears w v d
+      as_hears : (v : Processes) (c : Carried) (d : LinkEnd) → (v.heard d ≡ w.heard d) ⊎ ((slice_get (w.coming d) 0 ≡ Some c) × (v.heard d ≡ c.session) × (c.session ≤ session_of w d)) → Hears w v d
       as_hears v c d (inl same) = Before same
-      as_hears v c d (inr now) = Now c now.0 now.1
+      as_hears v c d (inr now) = Now c now.0 now.1 now.2
 
   -- a message is lost
   loses_orderly : (e : LinkEnd) → Orderly t p (next t w (Loses e))
@@ -278,6 +331,8 @@ module _ (t : Topology) (p : Prefix) (pfd : ℕ → ℕ) (w : Processes) (I : In
     held_past = O.held_past;
     coming_past = λ f v. fewer e (t.far f) (w.last f) (O.coming_past f v);
     heard_past = O.heard_past;
+    heard_here = O.heard_here;
+    row_past = O.row_past;
     row_held = O.row_held;
     row_coming = λ f v k h. fewer e (t.far f) k (O.row_coming f v k h);
     row_heard = O.row_heard;
@@ -288,9 +343,11 @@ module _ (t : Topology) (p : Prefix) (pfd : ℕ → ℕ) (w : Processes) (I : In
       → Orderly t p (record { routers = with_router i f w.routers; coming = w.coming; last = w.last; heard = w.heard; lost = w.lost })
   puts_orderly i f fd fd' P = record {
     up_last = λ e u. (let s = same e in let l = O.up_last e (sym (s.up_is) ∙ u) in let q = s.session_is in omega (arith, l, q));
-    held_past = λ e. subst (λ hs. HeldPast e.port (w.last e) hs) (sym (same e).held_is) (O.held_past e);
+    held_past = λ e. held_now e (session_of (record { routers = with_router i f w.routers; coming = w.coming; last = w.last; heard = w.heard; lost = w.lost }) e) (let q = (same e).session_is in omega (arith, q));
     coming_past = O.coming_past;
     heard_past = O.heard_past;
+    heard_here = λ e. (let h = O.heard_here e in let q = (same e).session_is in omega (arith, h, q));
+    row_past = λ e k h. (let le = by_past e k (shows e k h) in let q = (same e).session_is in omega (arith, le, q));
     row_held = λ e k h. by_row e k (shows e k h);
     row_coming = λ e v k h. by_coming e v k (shows e k h);
     row_heard = λ e v k h. by_heard e v k (shows e k h);
@@ -310,16 +367,23 @@ module _ (t : Topology) (p : Prefix) (pfd : ℕ → ℕ) (w : Processes) (I : In
 
       -- what an end shows then is of the last session of its end, or it showed that before, and may release no more
       Either : LinkEnd → ℕ → Type 0
-      Either e k = (w.last e ≤ k) ⊎ (Shows p w e k × (ripe_of (with_router i f w.routers e.router) ≡ ripe_of (w.routers e.router)))
+      Either e k = ((w.last e ≤ k) × (k ≤ session_of w e)) ⊎ (Shows p w e k × (ripe_of (with_router i f w.routers e.router) ≡ ripe_of (w.routers e.router)))
 
-      in_last : (e : LinkEnd) → e.router ≡ i → (k : ℕ) → is_in p (w.routers i) e.port k ≡ true → w.last e ≤ k
+      held_now : (e : LinkEnd) (k : ℕ) → session_of w e ≤ k → HeldPast e.port k ((with_router i f w.routers e.router).gate).held
+      held_now e k le = subst (λ hs. HeldPast e.port k hs) (sym (same e).held_is) (held_later e.port (session_of w e) k ((router_at w e).gate).held le (O.held_past e))
+
+      by_past : (e : LinkEnd) (k : ℕ) → Either e k → k ≤ session_of w e
+      by_past e k (inl late) = late.1
+      by_past e k (inr before) = O.row_past e k before.0
+
+      in_last : (e : LinkEnd) → e.router ≡ i → (k : ℕ) → is_in p (w.routers i) e.port k ≡ true → (w.last e ≤ k) × (k ≤ session_of w e)
       in_last e g k on =
           let r = w.routers i in
           let up : is_up_at (machine_of r p) e.port ≡ true = (and_parts (is_up_at (machine_of r p) e.port) (session_at r.ports e.port == k) on).0 in
           let s : session_at r.ports e.port ≡ k = in_session p r e.port k on in
           let l = O.up_last e (subst (λ (j : ℕ). is_up_at (machine_of (w.routers j) p) e.port ≡ true) (sym g) up) in
           let q : session_of w e ≡ session_at r.ports e.port = ap (λ (j : ℕ). session_at (w.routers j).ports e.port) g in
-          omega (arith, l, q, s)
+          (omega (arith, l, q, s), omega (arith, q, s))
 
       by_ends : (e : LinkEnd) → e.router ≡ i → (k : ℕ) → is_next_hop e.port k (next_hop_at p (f (w.routers i))) ≡ true → Ends p (w.routers i) (f (w.routers i)) fd fd' → Either e k
       by_ends e g k shown (AsChosen ends) =
@@ -341,15 +405,15 @@ module _ (t : Topology) (p : Prefix) (pfd : ℕ → ℕ) (w : Processes) (I : In
       by_row : (e : LinkEnd) (k : ℕ) → Either e k → HeldPast e.port k (ripe_of (with_router i f w.routers e.router))
       by_row e k (inl late) =
           let r = with_router i f w.routers e.router in
-          held_take e.port k (r.gate).ripe (r.gate).held (held_later e.port (w.last e) k (r.gate).held late (subst (λ hs. HeldPast e.port (w.last e) hs) (sym (same e).held_is) (O.held_past e)))
+          held_take e.port k (r.gate).ripe (r.gate).held (held_now e k (let a = late.0 in let l = I.last_is e in omega (arith, a, l)))
       by_row e k (inr before) = subst (λ hs. HeldPast e.port k hs) (sym before.1) (O.row_held e k before.0)
 
       by_coming : (e : LinkEnd) → t.valid e ≡ true → (k : ℕ) → Either e k → CarriedPast k (w.coming (t.far e))
-      by_coming e v k (inl late) = carried_later (w.last e) k (w.coming (t.far e)) late (O.coming_past e v)
+      by_coming e v k (inl late) = carried_later (w.last e) k (w.coming (t.far e)) late.0 (O.coming_past e v)
       by_coming e v k (inr before) = O.row_coming e v k before.0
 
       by_heard : (e : LinkEnd) → t.valid e ≡ true → (k : ℕ) → Either e k → w.heard (t.far e) ≤ k
-      by_heard e v k (inl late) = (let a = O.heard_past e v in omega (arith, a, late))
+      by_heard e v k (inl late) = (let a = O.heard_past e v in let b = late.0 in omega (arith, a, b))
       by_heard e v k (inr before) = O.row_heard e v k before.0
 
   -- a router releases a message
@@ -362,28 +426,48 @@ module _ (t : Topology) (p : Prefix) (pfd : ℕ → ℕ) (w : Processes) (I : In
     up_last = λ e u. elim (cases_eq e.router i) [
       | inl g ↦ absurd (both_ways (is_up_at (machine_of (with_router i (λ r. made_router costs attachments) w.routers e.router) p) e.port) ((made_at e g).none_up e.port) u)
       | inr d ↦
-          let same = away e d in
-          let l = O.up_last e (ap (λ (r : Router). is_up_at (machine_of r p) e.port) (sym same) ∙ u) in
-          let s : session_at (with_router i (λ r. made_router costs attachments) w.routers e.router).ports e.port ≡ session_of w e = ap (λ (r : Router). session_at r.ports e.port) same in
-          omega (arith, l, s)
+          let l = O.up_last e (ap (λ (r : Router). is_up_at (machine_of r p) e.port) (sym (away e d)) ∙ u) in
+          let s = session_away e d in
+          let less = anew_less t i w e (I.last_is e) in
+          omega (arith, l, s, less)
     ];
     held_past = λ e. elim (cases_eq e.router i) [
-      | inl g ↦ subst (λ hs. HeldPast e.port (w.last e) hs) (sym (made_at e g).holds_none) tt
-      | inr d ↦ subst (λ (r : Router). HeldPast e.port (w.last e) (r.gate).held) (sym (away e d)) (O.held_past e)
+      | inl g ↦ subst (λ hs. HeldPast e.port (session_at (with_router i (λ r. made_router costs attachments) w.routers e.router).ports e.port) hs) (sym (made_at e g).holds_none) tt
+      | inr d ↦ subst (λ (r : Router). HeldPast e.port (session_at r.ports e.port) (r.gate).held) (sym (away e d)) (O.held_past e)
     ];
-    coming_past = O.coming_past;
-    heard_past = O.heard_past;
+    coming_past = λ e v. carried_later (min (w.last e) (latest_coming t w e)) (last_anew t i w e) (w.coming (t.far e)) (anew_least t i w e) (carried_least (w.last e) (latest_coming t w e) (w.coming (t.far e)) (omega arith) (O.coming_past e v));
+    heard_past = λ e v. elim (cases_eq (t.far e).router i) [
+      | inl g ↦ (let z = heard_none (t.far e) g in omega (arith, z))
+      | inr d ↦ (let s = heard_same (t.far e) d in let far = anew_far t i w e (w.heard (t.far e)) d (O.heard_here (t.far e)) (O.heard_past e v) in omega (arith, s, far))
+    ];
+    heard_here = λ e. elim (cases_eq e.router i) [
+      | inl g ↦ (let z = heard_none e g in omega (arith, z))
+      | inr d ↦ (let s = heard_same e d in let q = session_away e d in let h = O.heard_here e in omega (arith, s, q, h))
+    ];
+    row_past = λ e k h. (let le = O.row_past e k (before e k h) in let q = session_away e (not_made e k h) in omega (arith, le, q));
     row_held = λ e k h. O_row_held e k h;
     row_coming = λ e v k h. O.row_coming e v k (before e k h);
-    row_heard = λ e v k h. O.row_heard e v k (before e k h);
+    row_heard = λ e v k h. (let le = O.row_heard e v k (before e k h) in let l = heard_less (t.far e) in omega (arith, le, l));
   }
     where
+      heard_none : (e : LinkEnd) → e.router ≡ i → heard_anew i w.heard e ≡ 0
+      heard_none e g = rw (eq-eqb e.router i g) refl
+
+      heard_same : (e : LinkEnd) → (e.router ≡ i → ⊥) → heard_anew i w.heard e ≡ w.heard e
+      heard_same e d = rw (ne_eqb e.router i d) refl
+
+      heard_less : (e : LinkEnd) → heard_anew i w.heard e ≤ w.heard e
+      heard_less e = elim (cases_eq e.router i) [ inl g ↦ (let z = heard_none e g in omega (arith, z)) | inr d ↦ (let s = heard_same e d in omega (arith, s)) ]
+
       made_at : (e : LinkEnd) → e.router ≡ i → Made p (with_router i (λ r. made_router costs attachments) w.routers e.router)
       made_at e g = subst (Made p) (sym (ap (with_router i (λ r. made_router costs attachments) w.routers) g ∙ router_here i (λ r. made_router costs attachments) w.routers))
           (made p (made_router costs attachments) (record { costs = costs; attachments = attachments; good = good; made = refl }))
 
       away : (e : LinkEnd) → (e.router ≡ i → ⊥) → with_router i (λ r. made_router costs attachments) w.routers e.router ≡ w.routers e.router
       away e d = router_away i (λ r. made_router costs attachments) w.routers e.router d
+
+      session_away : (e : LinkEnd) → (e.router ≡ i → ⊥) → session_at (with_router i (λ r. made_router costs attachments) w.routers e.router).ports e.port ≡ session_of w e
+      session_away e d = ap (λ (r : Router). session_at r.ports e.port) (away e d)
 
       not_made : (e : LinkEnd) (k : ℕ) → Shows p (next t w (BeginsAnew i costs attachments)) e k → e.router ≡ i → ⊥
       not_made e k h g = false≢true (sym (ap (λ o. is_next_hop e.port k o) (made_at e g).no_hop_is) ∙ h)
@@ -405,18 +489,24 @@ module _ (t : Topology) (p : Prefix) (pfd : ℕ → ℕ) (w : Processes) (I : In
   next_orderly (Releases i) can = releases_orderly i
   next_orderly (BeginsAnew i costs attachments) can = anew_orderly i costs attachments can
 
--- all that happens keeps it
-pub after_orderly : (t : Topology) (p : Prefix) (pfd : ℕ → ℕ) (w : Processes) (hs : List Happening) → Invariant t p pfd w → Orderly t p w → AllCanHappen t w hs → Orderly t p (after t w hs)
-after_orderly t p pfd w [] I O can = O
-after_orderly t p pfd w (h ∷ hs) I O can = after_orderly t p (fds_next p w h pfd) (next t w h) hs (next_keeps t p pfd w I h can.0) (next_orderly t p pfd w I O h can.0) can.1
+-- all that happens keeps it, and the invariant
+pub after_orderly : (t : Topology) (p : Prefix) (pfd : ℕ → ℕ) (w : Processes) (hs : List Happening) → Invariant t p pfd w → Orderly t p w → Placed t w → AllCanHappen t w hs → Orderly t p (after t w hs)
+after_orderly t p pfd w [] I O P can = O
+after_orderly t p pfd w (h ∷ hs) I O P can = after_orderly t p (fds_next p w h pfd) (next t w h) hs (next_keeps t p pfd w I O P h can.0) (next_orderly t p pfd w I O h can.0) (placed_next t w P h) can.1
+
+pub after_keeps : (t : Topology) (p : Prefix) (pfd : ℕ → ℕ) (w : Processes) (hs : List Happening) → Invariant t p pfd w → Orderly t p w → Placed t w → AllCanHappen t w hs → Invariant t p (fds_after t p w hs pfd) (after t w hs)
+after_keeps t p pfd w [] I O P can = I
+after_keeps t p pfd w (h ∷ hs) I O P can = after_keeps t p (fds_next p w h pfd) (next t w h) hs (next_keeps t p pfd w I O P h can.0) (next_orderly t p pfd w I O h can.0) (placed_next t w P h) can.1
 
 -- the order holds where routers begin
 pub begins_orderly : (t : Topology) (p : Prefix) (w : Processes) → Begins w → Orderly t p w
 begins_orderly t p w B = record {
   up_last = λ e u. absurd (both_ways (is_up_at (machine_of (router_at w e) p) e.port) ((known e).none_up e.port) u);
-  held_past = λ e. subst (λ hs. HeldPast e.port (w.last e) hs) (sym (known e).holds_none) tt;
+  held_past = λ e. subst (λ hs. HeldPast e.port (session_of w e) hs) (sym (known e).holds_none) tt;
   coming_past = λ e v. subst (CarriedPast (w.last e)) (sym (B.nothing_comes (t.far e))) tt;
   heard_past = λ e v. (let z = B.never_heard (t.far e) in omega (arith, z));
+  heard_here = λ e. (let z = B.never_heard e in omega (arith, z));
+  row_past = λ e k h. absurd (hidden e k h);
   row_held = λ e k h. absurd (hidden e k h);
   row_coming = λ e v k h. absurd (hidden e k h);
   row_heard = λ e v k h. absurd (hidden e k h);

@@ -1,5 +1,5 @@
 -- A router that releases a message keeps the invariant.
-use Rattle.std.proofs.Common.{refl, sym, ap, subst, ◌∙◌, arith, append_assoc, inl, inr, ◌≡◌, ◌≢◌, ℕ, ◌-◌, ◌+◌, ◌≤◌, Bool, true, false, ◌==◌, if◌then◌else◌, List, [], ◌∷◌, ◌++◌, Some, append-nil, length-drop, eq-eqb, ne_eqb}
+use Rattle.std.proofs.Common.{refl, sym, ap, subst, ◌∙◌, arith, append_assoc, inl, inr, ◌≡◌, ◌≢◌, ℕ, ◌+◌, ◌≤◌, Bool, true, false, ◌==◌, if◌then◌else◌, List, [], ◌∷◌, ◌++◌, Some, append-nil, length-drop, eq-eqb, ne_eqb}
 use Rattle.no_packet_loops.proofs.Common.{and_from, and_right, is_next_hop, Prefix, prefix_eq, Held, Router, machine_of, session_at, router_releasing, ripe_front, next_hop_at, kept, is_kept, held_as, ripe_of, unripe_of, IsSound, Topology, LinkEnd, at_port, place_cases}
 use Rattle.network_model.proofs.Common.{cases_eq, cases_Bool, both_ways, and_left, Kind, Reply, Report, SeenHeld}
 use Rattle.loop_freedom.specs.Facts.{End, live, count, pipe}
@@ -16,7 +16,7 @@ use Rattle.daemon_laws.proofs.Routers.{RouterKept}
 use Rattle.daemon_laws.proofs.Cheap.{IsCheap}
 use Rattle.daemon_laws.proofs.Told.{Told}
 use Rattle.daemon_laws.proofs.Gone.{Gone, gone_less}
-use Rattle.daemon_laws.proofs.Invariant.{router_at, session_of, end_from, MayBe, Left, Invariant}
+use Rattle.daemon_laws.proofs.Invariant.{Whole, router_at, session_of, end_from, MayBe, Left, Invariant}
 
 -- ---- the router
 
@@ -274,13 +274,13 @@ module _ (t : Topology) (p : Prefix) (pfd : ℕ → ℕ) (w w' : Processes) (I :
       end_invariant_same (end_may n e v may_e) (end_may n f (t.far_valid e v) may_f) (I.links e v n may_e may_f)
 
   -- what the one was told of the other
-  told' : w'.lost ≡ false → (e : LinkEnd) → t.valid e ≡ true → (n : ℕ) → MayBe p n w' e → MayBe p n w' (t.far e) → Told (end_from t p n pfd w' e) (end_from t p n pfd w' (t.far e))
-  told' whole e v n one two =
+  told' : (e : LinkEnd) → t.valid e ≡ true → (n : ℕ) → Whole t n w'.lost e → MayBe p n w' e → MayBe p n w' (t.far e) → Told (end_from t p n pfd w' e) (end_from t p n pfd w' (t.far e))
+  told' e v n whole one two =
       let f = t.far e in
       let may_e = may_before n e one in
       let may_f = may_before n f two in
       subst (λ (x : End). Told x (end_from t p n pfd w' f)) (sym (end_may n e v may_e))
-      (subst (λ (y : End). Told (end_from t p n pfd w e) y) (sym (end_may n f (t.far_valid e v) may_f)) (I.told (sym L.lost_same ∙ whole) e v n may_e may_f))
+      (subst (λ (y : End). Told (end_from t p n pfd w e) y) (sym (end_may n f (t.far_valid e v) may_f)) (I.told e v n (subst (λ (l : LinkEnd → ℕ → Bool). Whole t n l e) L.lost_same whole) may_e may_f))
 
   -- in a session that the one has left, and the other has not
   alone' : (e : LinkEnd) → t.valid e ≡ true → (n : ℕ) → Left p n w' e → MayBe p n w' (t.far e) → Gone (end_from t p n pfd w' e) (end_from t p n pfd w' (t.far e))

@@ -1,5 +1,5 @@
 -- The two routers once more: router 1 takes the route, begins anew, and takes it again in a second session; then both are at rest.
-use Rattle.std.proofs.Common.{refl, sym, ap, subst, ◌∙◌, inl, inr, arith, ◌≡◌, ℕ, zero, suc, ◌<◌, Bool, true, false, ◌&&◌, ◌==◌, if◌then◌else◌, List, [], ◌∷◌, ◌++◌, slice_get, ne_eqb}
+use Rattle.std.proofs.Common.{refl, sym, ap, subst, ◌∙◌, inl, inr, arith, ◌≡◌, ℕ, zero, suc, ◌<◌, Bool, true, false, ◌&&◌, ◌==◌, if◌then◌else◌, List, [], ◌∷◌, ◌++◌, slice_get, ne_eqb, eqb-true}
 use Rattle.no_packet_loops.proofs.Common.{option_map_or, list_any, Port, Router, is_quiet_router, LinkEnd, at_port}
 use Rattle.network_model.proofs.Common.{cases_eq, both_ways, false_from_ne_true, or_left, or_right}
 use Rattle.loop_freedom.proofs.Example.{pair}
@@ -8,16 +8,18 @@ use Rattle.single_router.specs.declared.input.Input.TheVariants as input
 use Rattle.daemon_laws.specs.Processes.{Processes}
 use Rattle.daemon_laws.specs.Packets.{is_in_session}
 use Rattle.daemon_laws.specs.Happenings.{Happening, Tells, Takes, Loses, Publishes, PublishesSome, Forgets, Releases, BeginsAnew, next, after}
-use Rattle.daemon_laws.specs.Rest.{IsUpIn}
+use Rattle.daemon_laws.specs.Rest.{IsUpIn, NothingLost}
 use Rattle.daemon_laws.specs.Reached.{SomeRest}
 use Rattle.daemon_laws.proofs.Cases.{by_take, by_release}
 use Rattle.daemon_laws.proofs.Example.{first, begins, happenings, seven}
 
--- router 1 takes the route and begins anew, and both ends come up in a second session
+-- router 1 takes the route, its answer is lost, it begins anew, and both ends come up in a second session
 abbrev pub until_up : List Happening
 until_up =
     happenings
-    ++ BeginsAnew 1 (7 ∷ []) []
+    ++ Releases 1
+    ∷ Loses (at_port 0 0)
+    ∷ BeginsAnew 1 (7 ∷ []) []
     ∷ Tells 1 (input.Up 0 2 7)
     ∷ Tells 0 (input.Down 0)
     ∷ Tells 0 (input.Up 0 2 7)
@@ -99,6 +101,10 @@ agree e session h = elim (cases_eq e.router 0) [
   ]
 ]
 
+-- what was lost is of the first session, and no end is in that
+nothing_lost : NothingLost pair rest
+nothing_lost e session is = each_place (λ d. is_in_session rest d session ≡ true → rest.lost d session ≡ false) (λ on. subst (λ (k : ℕ). rest.lost (at_port 0 0) k ≡ false) (eqb-true 2 session on) refl) (λ on. refl) e is.valid is.near
+
 -- the two routers are at rest
 pub some_rest : SomeRest
 some_rest = record {
@@ -106,17 +112,18 @@ some_rest = record {
   first = first;
   happenings = until_rest;
   begins = begins;
-  can = ((omega arith, seven), ((omega arith, seven), (tt, (tt, (tt, (tt, (refl, ((omega arith, seven), (tt, ((omega arith, seven), (tt, (tt, (tt, (tt, (tt, (tt, tt))))))))))))))));
+  can = ((omega arith, seven), ((omega arith, seven), (tt, (tt, (tt, (tt, (tt, (tt, (refl, ((omega arith, seven), (tt, ((omega arith, seven), (tt, (tt, (tt, (tt, (tt, (tt, tt))))))))))))))))));
   prefix = record { addr = 0; len = 0 };
   rests = record {
     quiet = each_router (λ i. is_quiet_router (rest.routers i) ≡ true) refl refl;
     placed = each_place (λ e. e.router < 2) (omega arith) (omega arith);
     nothing_comes = λ e session is. each_place (λ e. rest.coming e ≡ []) refl refl e is.valid;
-    nothing_lost = refl;
+    nothing_lost = nothing_lost;
     agree = agree;
   };
   is_local = refl;
   sends_on = refl;
   goes = refl;
+  was_lost = refl;
   distance = refl;
 }

@@ -1,5 +1,5 @@
 -- Where routers in processes of their own are at rest, each has its best row.
-use Rattle.std.proofs.Common.{refl, sym, ap, subst, ◌∙◌, inl, arith, ◌≡◌, ℕ, ◌+◌, ◌<◌, ◌≤◌, Bool, true, ◌==◌, if◌then◌else◌, List, [], ◌∷◌, ◌++◌, Option, Some, None, slice_get, eq-eqb}
+use Rattle.std.proofs.Common.{refl, sym, ap, subst, ◌∙◌, inl, arith, ◌≡◌, ℕ, ◌+◌, ◌<◌, ◌≤◌, Bool, true, false, ◌==◌, if◌then◌else◌, List, [], ◌∷◌, ◌++◌, Option, Some, None, slice_get, eq-eqb}
 use Rattle.no_packet_loops.proofs.Common.{option_map_or, and_parts, and_from, false≢true, Prefix, test_at, Machine, Neighbour, Local, Via, Port, machine_of, is_up_at, Topology, IsEdgeWalk, walk_map, LinkEnd, State, next_hop_at}
 use Rattle.network_model.proofs.Common.{infinity}
 use Rattle.network_model.specs.Network.{most_routers}
@@ -100,9 +100,10 @@ module _ (t : Topology) (p : Prefix) (pfd : ℕ → ℕ) (w : Processes) (I : In
       let k = session_of w e in
       let here : is_in p (router_at w e) e.port k ≡ true = is_in_now e u in
       let there : is_in p (router_at w f) f.port k ≡ true = in_it t p pfd w I f k (up_in e u).far in
+      let back : IsUpIn t w f k = record { valid = t.far_valid e v; near = (up_in e u).far; far = subst (λ (d : LinkEnd). is_in_session w d k ≡ true) (sym (t.far_far e v)) (up_in e u).near } in
       let T : Told (end_from t p k pfd w f) (end_from t p k pfd w e) =
       subst (λ (d : LinkEnd). Told (end_from t p k pfd w f) (end_from t p k pfd w d)) (t.far_far e v)
-      (I.told A.nothing_lost f (t.far_valid e v) k (inl there) (subst (λ (d : LinkEnd). MayBe p k w d) (sym (t.far_far e v)) (inl here))) in
+      (I.told f (t.far_valid e v) k (A.nothing_lost f k back, subst (λ (d : LinkEnd). w.lost d k ≡ false) (sym (t.far_far e v)) (A.nothing_lost e k (up_in e u))) (inl there) (subst (λ (d : LinkEnd). MayBe p k w d) (sym (t.far_far e v)) (inl here))) in
       sym (ap (λ b. if b then reported_at (machine f.router) f.port else infinity) there)
       ∙ sym (ap (last_value (listens (end_from t p k pfd w f))) (pipe_none e u k))
       ∙ T.last_is here

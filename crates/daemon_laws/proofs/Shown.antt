@@ -1,5 +1,5 @@
 -- A prefix for which a router has published no row was unheard there when it published last, whatever has happened.
-use Rattle.std.proofs.Common.{refl, sym, ap, subst, ◌∙◌, inl, inr, ◌≡◌, ◌≢◌, ℕ, Bool, true, false, if◌then◌else◌, List, [], ◌∷◌, take, None, is_some, is_none, ◌&&◌, eq-eqb, ne_eqb}
+use Rattle.std.proofs.Common.{refl, sym, ap, subst, ◌∙◌, inl, inr, ◌≡◌, ◌≢◌, ℕ, Bool, true, false, if◌then◌else◌, List, take, None, is_some, is_none, ◌&&◌, eq-eqb, ne_eqb}
 use Rattle.no_packet_loops.proofs.Common.{Prefix, prefix_cmp, prefix_eq, Entry, infinity, Router, machine_of, router_publishing, router_releasing, Topology}
 use Rattle.network_model.proofs.Common.{cases_eq}
 use Rattle.std.specs.FinMap.{find as row_of}
@@ -13,8 +13,8 @@ use Rattle.single_router.specs.declared.input.Input.TheVariants as input
 use Rattle.single_router.specs.Inputs.{told_fault, router_after}
 use Rattle.single_router.specs.Openings.{made_router}
 use Rattle.daemon_laws.specs.Processes.{Processes}
-use Rattle.daemon_laws.specs.Happenings.{Happening, Tells, Takes, Loses, Publishes, PublishesSome, Forgets, Releases, BeginsAnew, CanHappen, IsMade, Begins, with_router, told, forgotten, next, after, AllCanHappen}
-use Rattle.daemon_laws.specs.Facts.{fd_then, fds_next, fds_after, first_fds}
+use Rattle.daemon_laws.specs.Happenings.{Happening, Tells, Takes, Loses, Publishes, PublishesSome, Forgets, Releases, BeginsAnew, CanHappen, IsMade, Begins, with_router, told, forgotten, next}
+use Rattle.daemon_laws.specs.Facts.{fd_then, fds_next, first_fds}
 use Rattle.daemon_laws.proofs.Cases.{by_take, by_release}
 use Rattle.daemon_laws.proofs.SomeRows.{none_in_force, row_beside, chosen_without}
 use Rattle.daemon_laws.proofs.Beginning.{made}
@@ -68,7 +68,7 @@ module _ (p : Prefix) where
   follows_without k r F = ap (λ rows. without k rows) F ∙ chosen_without k r.ports r.machines
 
   -- so it is after what happens
-  next_shown : (t : Topology) (w : Processes) (h : Happening) (fds : ℕ → ℕ) → CanHappen w h → AllShown w.routers fds → AllShown (next t w h).routers (fds_next p w h fds)
+  pub next_shown : (t : Topology) (w : Processes) (h : Happening) (fds : ℕ → ℕ) → CanHappen w h → AllShown w.routers fds → AllShown (next t w h).routers (fds_next p w h fds)
   next_shown t w (Tells i x) fds can A = changed_shown i (told x) w.routers fds fds (λ j d. refl) A (told_shown x (w.routers i) (fds i) (A i))
   next_shown t w (Takes e) fds can A = by_take t w (λ v. AllShown v.routers fds) A e (λ c at le.
       let m = input.Message e.port c.session c.message in changed_shown e.router (told m) w.routers fds fds (λ j d. refl) A (told_shown m (w.routers e.router) (fds e.router) (A e.router)))
@@ -103,11 +103,6 @@ module _ (p : Prefix) where
       (λ h is. changed_shown i router_releasing w.routers fds fds (λ j d. refl) A (record { follows = (A i).follows; unheard_then = (A i).unheard_then }))
   next_shown t w (BeginsAnew i costs attachments) fds can A = changed_shown i (λ r. made_router costs attachments) w.routers fds (fds_next p w (BeginsAnew i costs attachments) fds) (λ j d. rw (ne_eqb j i d) refl) A
       (rw (eq-eqb i i refl) (made_shown (made_router costs attachments) (record { costs = costs; attachments = attachments; good = can; made = refl })))
-
-  -- and after all that happens
-  pub after_shown : (t : Topology) (w : Processes) (hs : List Happening) (fds : ℕ → ℕ) → AllCanHappen t w hs → AllShown w.routers fds → AllShown (after t w hs).routers (fds_after t p w hs fds)
-  after_shown t w [] fds can A = A
-  after_shown t w (h ∷ hs) fds can A = after_shown t (next t w h) hs (fds_next p w h fds) can.1 (next_shown t w h fds can.0 A)
 
   -- so it is where routers begin
   pub begins_shown : (w : Processes) → Begins w → AllShown w.routers (first_fds p w)

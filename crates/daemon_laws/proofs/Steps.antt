@@ -11,13 +11,14 @@ use Rattle.single_router.specs.declared.input.Input.{Input}
 use Rattle.single_router.specs.declared.input.Input.TheVariants as input
 use Rattle.daemon_laws.specs.Processes.{Carried, Processes}
 use Rattle.daemon_laws.specs.Packets.{is_in_session}
-use Rattle.daemon_laws.specs.Happenings.{Happening, Tells, Takes, Loses, Publishes, PublishesSome, Forgets, Releases, BeginsAnew, IsOwn, CanHappen, with_router, is_same_end, with_coming, told, forgotten, sent_from, with_released, next, after, AllCanHappen}
-use Rattle.daemon_laws.specs.Facts.{fd_then, fds_next, fds_after}
+use Rattle.daemon_laws.specs.Happenings.{Happening, Tells, Takes, Loses, Publishes, PublishesSome, Forgets, Releases, BeginsAnew, IsOwn, CanHappen, with_router, is_same_end, with_coming, told, forgotten, sent_from, with_released, next}
+use Rattle.daemon_laws.specs.Facts.{fd_then, fds_next}
 use Rattle.daemon_laws.proofs.Cases.{after_message, by_take, by_release}
 use Rattle.daemon_laws.proofs.Seen.{carried, is_in}
 use Rattle.daemon_laws.proofs.Goes.{Goes}
 use Rattle.daemon_laws.proofs.Telling.{in_session_is, GoesAlone, goes_told, GoesWith, goes_with}
-use Rattle.daemon_laws.proofs.Invariant.{router_at, Invariant}
+use Rattle.daemon_laws.proofs.Orderly.{Orderly}
+use Rattle.daemon_laws.proofs.Invariant.{router_at, Placed, Invariant}
 use Rattle.daemon_laws.proofs.Meeting.{GoesAt, goes_keeps}
 use Rattle.daemon_laws.proofs.Polite.{first_is, polite}
 use Rattle.daemon_laws.proofs.InForce.{PutsInForce, puts_keeps}
@@ -42,7 +43,7 @@ pub router_away : (i : ℕ) (f : Router → Router) (rs : ℕ → Router) (j : �
 router_away i f rs j d = rw (ne_eqb j i d) refl
 
 -- an end is the same as itself
-end_itself : (e : LinkEnd) → is_same_end e e ≡ true
+pub end_itself : (e : LinkEnd) → is_same_end e e ≡ true
 end_itself e = and_from (e.router == e.router) (e.port == e.port) (eq-eqb e.router e.router refl) (eq-eqb e.port e.port refl)
 
 -- ends that pass the test are one
@@ -252,32 +253,27 @@ module _ (t : Topology) (p : Prefix) (pfd : ℕ → ℕ) (w : Processes) (I : In
   }))
 
   -- a process ends, and another begins in its place
-  anew_keeps : (i : ℕ) (costs : List ℕ) (attachments : List Attachment) → make_fault costs attachments ≡ None → Invariant t p (fds_next p w (BeginsAnew i costs attachments) pfd) (next t w (BeginsAnew i costs attachments))
-  anew_keeps i costs attachments good =
+  anew_keeps : Orderly t p w → Placed t w → (i : ℕ) (costs : List ℕ) (attachments : List Attachment) → make_fault costs attachments ≡ None → Invariant t p (fds_next p w (BeginsAnew i costs attachments) pfd) (next t w (BeginsAnew i costs attachments))
+  anew_keeps O P i costs attachments good =
       let now : with_router i (λ r. made_router costs attachments) w.routers i ≡ made_router costs attachments = router_here i (λ r. made_router costs attachments) w.routers in
-      restart_keeps t p pfd (fds_next p w (BeginsAnew i costs attachments) pfd) w (next t w (BeginsAnew i costs attachments)) I (record {
+      restart_keeps t p pfd (fds_next p w (BeginsAnew i costs attachments) pfd) w (next t w (BeginsAnew i costs attachments)) I O P (record {
         i = i;
         made_here = subst (Made p) (sym now) (made p (made_router costs attachments) (record { costs = costs; attachments = attachments; good = good; made = refl }));
         routers_elsewhere = λ j d. router_away i (λ r. made_router costs attachments) w.routers j d;
         coming_is = λ e. refl;
-        last_same = λ e. refl;
-        lost_same = refl;
+        last_is = λ e. refl;
+        lost_is = λ e n. refl;
         pfd_is = ap (λ b. if b then (machine_of (made_router costs attachments) p).fd else pfd i) (eq-eqb i i refl) ∙ ap (λ (r : Router). (machine_of r p).fd) (sym now);
         pfd_elsewhere = λ j d. rw (ne_eqb j i d) refl;
       })
 
   -- whatever happens keeps it
-  pub next_keeps : (h : Happening) → CanHappen w h → Invariant t p (fds_next p w h pfd) (next t w h)
-  next_keeps (Tells i x) can = tells_keeps i x can
-  next_keeps (Takes e) can = takes_keeps e
-  next_keeps (Loses e) can = loses_keeps t p pfd w I e
-  next_keeps (Publishes i) can = puts_at i router_publishing (fds_next p w (Publishes i) pfd) (λ j d. rw (ne_eqb j i d) refl) (publishes_puts i)
-  next_keeps (PublishesSome i n) can = puts_at i (router_publishing_some n) (fds_next p w (PublishesSome i n) pfd) (λ j d. rw (ne_eqb j i d) refl) (publishes_some_puts i n)
-  next_keeps (Forgets i k) can = puts_at i (forgotten k) (fds_next p w (Forgets i k) pfd) (λ j d. ap (λ b. if b && prefix_eq p k && may_forget k (w.routers i) then infinity else pfd j) (ne_eqb j i d)) (forgets_puts i k)
-  next_keeps (Releases i) can = releases_keeps i
-  next_keeps (BeginsAnew i costs attachments) can = anew_keeps i costs attachments can
-
--- all that happens keeps it
-pub after_keeps : (t : Topology) (p : Prefix) (pfd : ℕ → ℕ) (w : Processes) (hs : List Happening) → Invariant t p pfd w → AllCanHappen t w hs → Invariant t p (fds_after t p w hs pfd) (after t w hs)
-after_keeps t p pfd w [] I can = I
-after_keeps t p pfd w (h ∷ hs) I can = after_keeps t p (fds_next p w h pfd) (next t w h) hs (next_keeps t p pfd w I h can.0) can.1
+  pub next_keeps : Orderly t p w → Placed t w → (h : Happening) → CanHappen w h → Invariant t p (fds_next p w h pfd) (next t w h)
+  next_keeps O P (Tells i x) can = tells_keeps i x can
+  next_keeps O P (Takes e) can = takes_keeps e
+  next_keeps O P (Loses e) can = loses_keeps t p pfd w I e
+  next_keeps O P (Publishes i) can = puts_at i router_publishing (fds_next p w (Publishes i) pfd) (λ j d. rw (ne_eqb j i d) refl) (publishes_puts i)
+  next_keeps O P (PublishesSome i n) can = puts_at i (router_publishing_some n) (fds_next p w (PublishesSome i n) pfd) (λ j d. rw (ne_eqb j i d) refl) (publishes_some_puts i n)
+  next_keeps O P (Forgets i k) can = puts_at i (forgotten k) (fds_next p w (Forgets i k) pfd) (λ j d. ap (λ b. if b && prefix_eq p k && may_forget k (w.routers i) then infinity else pfd j) (ne_eqb j i d)) (forgets_puts i k)
+  next_keeps O P (Releases i) can = releases_keeps i
+  next_keeps O P (BeginsAnew i costs attachments) can = anew_keeps O P i costs attachments can

@@ -182,7 +182,7 @@ module _ (t : Topology) (p : Prefix) (pfd : ℕ → ℕ) (w : Processes) (I : In
 
   module _ (O : Orderly t p w) where
     -- no published row is of a session that the router across has not been in
-    row_reached : (e : LinkEnd) → t.valid e ≡ true → (n : ℕ) → is_next_hop e.port n (next_hop_at p (router_at w e)) ≡ true → n ≤ w.last (t.far e)
+    pub row_reached : (e : LinkEnd) → t.valid e ≡ true → (n : ℕ) → is_next_hop e.port n (next_hop_at p (router_at w e)) ≡ true → n ≤ w.last (t.far e)
     row_reached e v n shown = elim (cases_lt (w.last (t.far e)) n) [
       | inr le ↦ le
       | inl lt ↦
@@ -194,12 +194,12 @@ module _ (t : Topology) (p : Prefix) (pfd : ℕ → ℕ) (w : Processes) (I : In
     ]
 
     -- the router across lets in what comes in the session that it is in, which is the last of its end
-    record LetsIn (e : LinkEnd) : Type 0 where
-      here : is_in p (router_at w e) e.port (w.heard e) ≡ true
-      last_is : w.last e ≡ w.heard e
+    pub record LetsIn (e : LinkEnd) : Type 0 where
+      pub here : is_in p (router_at w e) e.port (w.heard e) ≡ true
+      pub last_is : w.last e ≡ w.heard e
 
     -- so it is of each end that lets in
-    let_in : (e : LinkEnd) → lets_in w e ≡ true → LetsIn e
+    pub let_in : (e : LinkEnd) → lets_in w e ≡ true → LetsIn e
     let_in e h =
         let on : is_in p (router_at w e) e.port (w.heard e) ≡ true = in_it e (w.heard e) h in
         let up : is_up_at (machine_of (router_at w e) p) e.port ≡ true = (and_parts (is_up_at (machine_of (router_at w e) p) e.port) (session_of w e == w.heard e) on).0 in

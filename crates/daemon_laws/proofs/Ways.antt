@@ -1,8 +1,9 @@
 -- No packet meets a router twice, whichever prefixes match it on its way between routers in processes of their own.
-use Rattle.std.proofs.Common.{refl, sym, ap, subst, ◌∙◌, inl, inr, arith, ◌≡◌, ℕ, ◌<◌, ◌≤◌, Bool, true, false, if◌then◌else◌, List, Option, Some, None, IsSome, option_and_then}
-use Rattle.no_packet_loops.proofs.Common.{Prefix, prefix_cmp, covers, longest_match, infinity, machine_of, Entry, None_not_Some, Some_injective, false≢true, Topology, meets_twice}
+use Rattle.std.proofs.Common.{refl, sym, ap, subst, ◌∙◌, inl, inr, arith, ◌≡◌, ℕ, ◌<◌, ◌≤◌, Bool, true, false, ◌&&◌, ◌||◌, ◌==◌, if◌then◌else◌, List, [], ◌∷◌, ne_eqb, Option, Some, None, IsSome, option_and_then}
+use Rattle.no_packet_loops.proofs.Common.{Prefix, prefix_cmp, covers, longest_match, infinity, machine_of, Entry, None_not_Some, Some_injective, false≢true, Topology, LinkEnd, at_port, and_parts, is_met, meets_twice}
+use Rattle.network_model.proofs.Common.{both_ways}
 use Rattle.no_packet_loops.proofs.Publishing.{control_sorted}
-use Rattle.network_model.specs.declared.route.Entry.TheVariants.{Unreachable}
+use Rattle.network_model.specs.declared.route.Entry.TheVariants.{Local, Unreachable, Via}
 use Rattle.std.specs.FinMap.{find as row_of}
 use Rattle.std.specs.FinMap.Entries.{is_sorted}
 use Rattle.all_packets.specs.Packets.{IsWayBy}
@@ -10,9 +11,9 @@ use Rattle.all_packets.proofs.Known.{unheard}
 use Rattle.ipv4_prefix.proofs.LongestMatches.{longest_match-found}
 use Rattle.no_packet_loops.proofs.Walks.{match_is_row}
 use Rattle.all_packets.proofs.Matches.{GoesBefore, found}
-use Rattle.all_packets.proofs.Improving.{Improves, Goes, none_twice, matched_once, way_by}
+use Rattle.all_packets.proofs.Improving.{Improves, Goes, none_twice, matched_once}
 use Rattle.daemon_laws.specs.Processes.{Processes}
-use Rattle.daemon_laws.specs.Packets.{entry_leads, unmarked_leads, mixture_rows, MayGoOn, GoesHalfWritten}
+use Rattle.daemon_laws.specs.Packets.{is_in_session, entry_leads, unmarked_leads, mixture_rows, MayGoOn, IsHalfWritten, IsShut, GoesHalfWritten}
 use Rattle.daemon_laws.proofs.Invariant.{Invariant}
 use Rattle.daemon_laws.proofs.Orderly.{Orderly}
 use Rattle.daemon_laws.proofs.Shown.{AllShown}
@@ -28,26 +29,26 @@ module _ (t : Topology) (w : Processes) (fds : Prefix → ℕ → ℕ) (I : (p :
   fd_by b p i = if b then (machine_of (w.routers i) p).fd else fds p i
 
   -- they are in the order of the prefixes
-  in_order : (b : Bool) (i : ℕ) → is_sorted prefix_cmp (rows b i) ≡ true
+  pub in_order : (b : Bool) (i : ℕ) → is_sorted prefix_cmp (rows b i) ≡ true
   in_order true i =
       let K = (I (record { addr = 0; len = 0 })).keeps i in
       control_sorted (w.routers i) K.control_is K.sorted
   in_order false i = ((I (record { addr = 0; len = 0 })).keeps i).published_sorted
 
   -- along a row that leads to a router both its feasible distances fall
-  falls : (b c : Bool) (p : Prefix) (i k : ℕ) (e : Entry) → row_of prefix_cmp p (rows b i) ≡ Some e → entry_leads t w i e ≡ Some k → fd_by c p k < fd_by b p i
+  pub falls : (b c : Bool) (p : Prefix) (i k : ℕ) (e : Entry) → row_of prefix_cmp p (rows b i) ≡ Some e → entry_leads t w i e ≡ Some k → fd_by c p k < fd_by b p i
   falls true true p i k e row lead = (control_both t p (fds p) w (I p) i e k row (leads t p (fds p) w (I p) i e k lead)).0
   falls true false p i k e row lead = (control_both t p (fds p) w (I p) i e k row (leads t p (fds p) w (I p) i e k lead)).1
   falls false true p i k e row lead = (published_both t p (fds p) w (I p) i e k row (leads t p (fds p) w (I p) i e k lead)).0
   falls false false p i k e row lead = (published_both t p (fds p) w (I p) i e k row (leads t p (fds p) w (I p) i e k lead)).1
 
   -- no feasible distance is above infinity
-  bounded : (b : Bool) (p : Prefix) (i : ℕ) → fd_by b p i ≤ infinity
+  pub bounded : (b : Bool) (p : Prefix) (i : ℕ) → fd_by b p i ≤ infinity
   bounded true p i = (let s = (I p).sound i in let a = s.fd_below in let c = s.rd_bounded in omega (arith, a, c))
   bounded false p i = (I p).pfd_bounded i
 
   -- a router whose feasible distance is below infinity has a row that goes with it
-  has_row : (c : Bool) (p : Prefix) (k : ℕ) → fd_by c p k < infinity → (e : Entry) × (row_of prefix_cmp p (rows c k) ≡ Some e)
+  pub has_row : (c : Bool) (p : Prefix) (k : ℕ) → fd_by c p k < infinity → (e : Entry) × (row_of prefix_cmp p (rows c k) ≡ Some e)
   has_row c p k below = by_row (row_of prefix_cmp p (rows c k)) refl
     where
       far : (d : Bool) → row_of prefix_cmp p (rows d k) ≡ None → fd_by d p k ≡ infinity
@@ -66,33 +67,101 @@ module _ (t : Topology) (w : Processes) (fds : Prefix → ℕ → ℕ) (I : (p :
     ahead = λ b c p i k e row lead. has_row c p k (let f = falls b c p i k e row (means b p i k e row lead) in let top = bounded b p i in omega (arith, f, top));
   }
 
-  module _ (goes : ℕ → Entry → Option ℕ) (I' : Improves rows goes fd_by) (leads_nowhere : (i : ℕ) → goes i Unreachable ≡ None) (addr : ℕ) where
+  -- ---- while rows are written
+
+  -- a port of router k is up
+  record Entered (k : ℕ) : Type 0 where
+    port : ℕ
+    session : ℕ
+    is_up : is_in_session w (at_port k port) session ≡ true
+
+  -- so it is of the router across a link, where that is in a session
+  entered_over : (valid : Bool) (f : LinkEnd) (session k : ℕ) → (if valid && is_in_session w f session then Some f.router else None) ≡ Some k → Entered k
+  entered_over valid f session k h = by_test (valid && is_in_session w f session) refl h
+    where
+      by_test : (b : Bool) → (valid && is_in_session w f session) ≡ b → (if b then Some f.router else None) ≡ Some k → Entered k
+      by_test false is g = absurd (None_not_Some g)
+      by_test true is g = record {
+        port = f.port;
+        session = session;
+        is_up = subst (λ (x : ℕ). is_in_session w (at_port x f.port) session ≡ true) (Some_injective g) (and_parts valid (is_in_session w f session) is).1;
+      }
+
+  -- so it is of each router that an entry leads to, where packets carry the session of the row
+  entered_marked : (i k : ℕ) (e : Entry) → entry_leads t w i e ≡ Some k → Entered k
+  entered_marked i k Local h = absurd (None_not_Some h)
+  entered_marked i k Unreachable h = absurd (None_not_Some h)
+  entered_marked i k (Via q session) h = entered_over (t.valid (at_port i q)) (t.far (at_port i q)) session k h
+
+  -- and where they carry none
+  entered_unmarked : (i k : ℕ) (e : Entry) → unmarked_leads t w i e ≡ Some k → Entered k
+  entered_unmarked i k Local h = absurd (None_not_Some h)
+  entered_unmarked i k Unreachable h = absurd (None_not_Some h)
+  entered_unmarked i k (Via q session) h = entered_over (t.valid (at_port i q)) (t.far (at_port i q)) (w.heard (t.far (at_port i q))) k h
+
+  -- a router that is entered is not shut
+  not_shut : (k : ℕ) → Entered k → IsShut w k → ⊥
+  not_shut k E shut = both_ways (is_in_session w (at_port k E.port) E.session) (shut E.port E.session) E.is_up
+
+  module _ (goes : ℕ → Entry → Option ℕ) (I' : Improves rows goes fd_by) (leads_nowhere : (i : ℕ) → goes i Unreachable ≡ None) (enters : (i k : ℕ) (e : Entry) → goes i e ≡ Some k → Entered k) (addr : ℕ) where
     -- a packet that goes by a table into which rows are being written goes by a row that was published or chosen
-    by_written : (i k : ℕ) → GoesHalfWritten goes w addr i k → Goes rows goes fd_by I' addr i k
-    by_written i k H = by_match (longest_match addr H.table) refl H.goes
+    by_written : (i k : ℕ) (table : List (Prefix × Entry)) → IsHalfWritten ((w.routers i).table).published ((w.routers i).table).control table
+        → option_and_then (λ (r : Prefix × Entry). goes i r.1) (longest_match addr table) ≡ Some k → Goes rows goes fd_by I' addr i k
+    by_written i k table H went = by_match (longest_match addr table) refl went
       where
         -- nothing that the router has published for a prefix that covers the address goes before the match
-        first : (r : Prefix × Entry) → longest_match addr H.table ≡ Some r → (q : Prefix) → covers q addr ≡ true → ((c : Bool) → (e : Entry) × (row_of prefix_cmp q (rows c i) ≡ Some e)) → GoesBefore r.0 q
-        first r m q covered have = by_row (row_of prefix_cmp q H.table) refl ((H.written).has_all q (subst IsSome (sym (have false).1) refl))
+        first : (r : Prefix × Entry) → longest_match addr table ≡ Some r → (q : Prefix) → covers q addr ≡ true → ((c : Bool) → (e : Entry) × (row_of prefix_cmp q (rows c i) ≡ Some e)) → GoesBefore r.0 q
+        first r m q covered have = by_row (row_of prefix_cmp q table) refl (H.has_all q (subst IsSome (sym (have false).1) refl))
           where
-            by_row : (o : Option Entry) → row_of prefix_cmp q H.table ≡ o → IsSome o → GoesBefore r.0 q
+            by_row : (o : Option Entry) → row_of prefix_cmp q table ≡ o → IsSome o → GoesBefore r.0 q
             by_row None is some = absurd (false≢true some)
-            by_row (Some e) is some = let F = found addr q e H.table (H.written).in_order is covered in subst (λ (x : Prefix × Entry). GoesBefore x.0 q) (Some_injective (sym F.matched ∙ m)) F.before
+            by_row (Some e) is some = let F = found addr q e table H.in_order is covered in subst (λ (x : Prefix × Entry). GoesBefore x.0 q) (Some_injective (sym F.matched ∙ m)) F.before
 
-        goes_by : (b : Bool) (r : Prefix × Entry) → longest_match addr H.table ≡ Some r → row_of prefix_cmp r.0 (rows b i) ≡ Some r.1 → goes i r.1 ≡ Some k → Goes rows goes fd_by I' addr i k
-        goes_by b r m row lead = (b, record { prefix = r.0; entry = r.1; covered = (longest_match-found addr H.table r m).covered; is_row = row; before = first r m; leads_to = lead })
+        goes_by : (b : Bool) (r : Prefix × Entry) → longest_match addr table ≡ Some r → row_of prefix_cmp r.0 (rows b i) ≡ Some r.1 → goes i r.1 ≡ Some k → Goes rows goes fd_by I' addr i k
+        goes_by b r m row lead = (b, record { prefix = r.0; entry = r.1; covered = (longest_match-found addr table r m).covered; is_row = row; before = first r m; leads_to = lead })
 
-        by_match : (o : Option (Prefix × Entry)) → longest_match addr H.table ≡ o → option_and_then (λ (r : Prefix × Entry). goes i r.1) o ≡ Some k → Goes rows goes fd_by I' addr i k
+        by_match : (o : Option (Prefix × Entry)) → longest_match addr table ≡ o → option_and_then (λ (r : Prefix × Entry). goes i r.1) o ≡ Some k → Goes rows goes fd_by I' addr i k
         by_match None m g = absurd (None_not_Some g)
-        by_match (Some r) m g = elim ((H.written).is_known r.0 r.1 (match_is_row addr r.0 r.1 H.table (H.written).in_order m)) [
+        by_match (Some r) m g = elim (H.is_known r.0 r.1 (match_is_row addr r.0 r.1 table H.in_order m)) [
           | inl published ↦ goes_by false r m published g
           | inr (inl chosen) ↦ goes_by true r m chosen g
           | inr (inr nowhere) ↦ absurd (None_not_Some (sym (leads_nowhere i) ∙ ap (goes i) (sym nowhere) ∙ g))
         ]
 
+    -- a router to which a packet goes is entered
+    goes_in : (i k : ℕ) → GoesHalfWritten goes w addr i k → Entered k
+    goes_in i k H = by_match (longest_match addr H.table) H.goes
+      where
+        by_match : (o : Option (Prefix × Entry)) → option_and_then (λ (r : Prefix × Entry). goes i r.1) o ≡ Some k → Entered k
+        by_match None g = absurd (None_not_Some g)
+        by_match (Some r) g = enters i k r.1 g
+
+    -- so from there on it goes by rows that were published or chosen
+    goes_on : (k : ℕ) → Entered k → (ks : List ℕ) → IsWayBy (GoesHalfWritten goes w addr) (k ∷ ks) → IsWayBy (Goes rows goes fd_by I' addr) (k ∷ ks)
+    goes_on k E [] h = tt
+    goes_on k E (l ∷ ls) h = elim (h.0).written [
+      | inl written ↦ (by_written k l (h.0).table written (h.0).goes, goes_on l (goes_in k l h.0) ls h.1)
+      | inr shut ↦ absurd (not_shut k E shut)
+    ]
+
+    -- and never to a router that is shut
+    not_there : (i : ℕ) → IsShut w i → (k : ℕ) → Entered k → (i == k) ≡ false
+    not_there i shut k E = ne_eqb i k (λ same. not_shut k E (subst (IsShut w) same shut))
+
+    never_in : (i : ℕ) → IsShut w i → (k : ℕ) → Entered k → (ks : List ℕ) → IsWayBy (GoesHalfWritten goes w addr) (k ∷ ks) → is_met i (k ∷ ks) ≡ false
+    never_in i shut k E [] h = ap (λ b. b || false) (not_there i shut k E)
+    never_in i shut k E (l ∷ ls) h = ap (λ b. b || is_met i (l ∷ ls)) (not_there i shut k E) ∙ never_in i shut l (goes_in k l h.0) ls h.1
+
     -- so it meets no router twice
     written_once : (way : List ℕ) → IsWayBy (GoesHalfWritten goes w addr) way → meets_twice way ≡ false
-    written_once way h = none_twice rows goes fd_by I' addr way (way_by (GoesHalfWritten goes w addr) (Goes rows goes fd_by I' addr) by_written way h)
+    written_once [] h = refl
+    written_once (i ∷ []) h = refl
+    written_once (i ∷ k ∷ ks) h =
+        let on : IsWayBy (Goes rows goes fd_by I' addr) (k ∷ ks) = goes_on k (goes_in i k h.0) ks h.1 in
+        elim (h.0).written [
+          | inl written ↦ none_twice rows goes fd_by I' addr (i ∷ k ∷ ks) (by_written i k (h.0).table written (h.0).goes, on)
+          | inr shut ↦ ap (λ b. b || meets_twice (k ∷ ks)) (never_in i shut k (goes_in i k h.0) ks h.1) ∙ none_twice rows goes fd_by I' addr (k ∷ ks) on
+        ]
 
   -- where packets carry the session of the row
   improves_marked : Improves rows (entry_leads t w) fd_by
@@ -116,7 +185,7 @@ module _ (t : Topology) (w : Processes) (fds : Prefix → ℕ → ℕ) (I : (p :
 
   -- nor while rows are written
   pub marked_written : (addr : ℕ) (way : List ℕ) → IsWayBy (GoesHalfWritten (entry_leads t w) w addr) way → meets_twice way ≡ false
-  marked_written = written_once (entry_leads t w) improves_marked (λ i. refl)
+  marked_written = written_once (entry_leads t w) improves_marked (λ i. refl) entered_marked
 
   pub unmarked_written : ((p : Prefix) → Orderly t p w) → (addr : ℕ) (way : List ℕ) → IsWayBy (GoesHalfWritten (unmarked_leads t w) w addr) way → meets_twice way ≡ false
-  unmarked_written O = written_once (unmarked_leads t w) (improves_unmarked O) (λ i. refl)
+  unmarked_written O = written_once (unmarked_leads t w) (improves_unmarked O) (λ i. refl) entered_unmarked

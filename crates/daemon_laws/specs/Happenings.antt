@@ -1,5 +1,5 @@
 -- What happens to routers in processes of their own: each end of a link begins and ends its sessions by itself.
-use Rattle.std.specs.Prelude.{◌≡◌, ℕ, ◌<◌, max, Bool, true, false, ◌&&◌, ◌==◌, nat_lt, if◌then◌else◌, List, [], ◌∷◌, ◌++◌, drop, Option, Some, None, is_none, slice_get, ⊤}
+use Rattle.std.specs.Prelude.{◌≡◌, ℕ, ◌<◌, min, max, Bool, true, false, not, ◌&&◌, ◌||◌, ◌==◌, nat_lt, nat_le, if◌then◌else◌, List, [], ◌∷◌, ◌++◌, drop, Option, Some, None, is_none, slice_get, ⊤}
 use Rattle.std.specs.Option.{option_map_or}
 use Rattle.metric.specs.Distance.{IsCost}
 use Rattle.ipv4_prefix.specs.Prefix.{Prefix}
@@ -20,27 +20,27 @@ use Rattle.daemon_laws.specs.Packets.{is_in_session}
 
 -- ---- what may happen
 
--- what may happen at any moment, in any order
+-- what may happen at any moment, in any order: each call of a router is one of these, unless memory is refused
 pub data Happening : Type 0 where
-  -- the process of router i tells it of its own: that a link of it came up, went down or has another cost, or of an attachment
+  -- the process of router i tells it of its own: that a link of it came up, went down or has another cost, or of an attachment (`tell`)
   Tells : (i : ℕ) (input : Input) → Happening
-  -- the process at an end of a link takes the oldest message that is on its way there
+  -- the process at an end of a link takes the oldest message that is on its way there (`tell`)
   Takes : (e : LinkEnd) → Happening
-  -- the oldest message that is on its way to an end of a link is lost
+  -- the oldest message that is on its way to an end of a link is lost; so is one that the limit of prefixes refuses
   Loses : (e : LinkEnd) → Happening
-  -- router i publishes
+  -- router i publishes (`publish`)
   Publishes : (i : ℕ) → Happening
-  -- router i puts the first n of its changed rows in force, and no more
+  -- router i puts the first n of its changed rows in force, and no more (`publish`, without room for all)
   PublishesSome : (i n : ℕ) → Happening
-  -- router i forgets a prefix, where it may
+  -- router i forgets a prefix, where it may (`forget`)
   Forgets : (i : ℕ) (p : Prefix) → Happening
-  -- router i releases a message
+  -- router i releases a message (`release`)
   Releases : (i : ℕ) → Happening
-  -- the process of router i ends, and one begins in its place, with a router that is made of these costs and attachments
+  -- the process of router i ends, and one begins in its place, with a router that is made of these costs and attachments (`new`)
   BeginsAnew : (i : ℕ) (costs : List ℕ) (attachments : List Attachment) → Happening
 
--- an input that the process of router i finds by itself: a link comes up in a session later than each that its end was in,
--- and a cost is a cost; messages come from others
+-- an input that the process of router i finds by itself: a link comes up in a session later than each that its end was in and of
+-- which something is left, and a cost is a cost; messages come from others
 abbrev pub IsOwn : Processes → ℕ → Input → Type 0
 IsOwn w i (Up port session cost) = (w.last (at_port i port) < session) × IsCost cost
 IsOwn w i (Down port) = ⊤
@@ -90,6 +90,15 @@ with_last routers last e = max (last e) (session_at (routers e.router).ports e.p
 abbrev pub with_heard : LinkEnd → Option CallFault → ℕ → (LinkEnd → ℕ) → LinkEnd → ℕ
 with_heard e fault session heard d = if is_same_end d e && is_none fault then session else heard d
 
+-- whether the first of these messages is of this session
+abbrev pub is_first_of : ℕ → List Carried → Bool
+is_first_of session [] = false
+is_first_of session (c ∷ cs) = c.session == session
+
+-- of which sessions something was lost at each end, once the oldest message that is on its way to this end is lost
+abbrev pub with_lost : LinkEnd → (LinkEnd → List Carried) → (LinkEnd → ℕ → Bool) → LinkEnd → ℕ → Bool
+with_lost e coming lost d session = lost d session || (is_same_end d e && is_first_of session (coming d))
+
 -- the process at this end took the message. One of a session that the end has not been in yet waits
 abbrev pub with_taken : LinkEnd → Processes → Carried → Processes
 with_taken e w c =
@@ -114,6 +123,42 @@ sent_from t w e h =
 abbrev pub with_released : Topology → ℕ → Processes → Held → Processes
 with_released t i w h = record { routers = with_router i router_releasing w.routers; coming = sent_from t w (at_port i h.port) h; last = w.last; heard = w.heard; lost = w.lost }
 
+-- ---- a process that begins anew
+
+-- the latest session of these messages, 0 for none
+abbrev pub latest : List Carried → ℕ
+latest [] = 0
+latest (c ∷ cs) = max c.session (latest cs)
+
+-- the latest session of a message that is on its way over the link of this end, either way
+abbrev pub latest_coming : Topology → Processes → LinkEnd → ℕ
+latest_coming t w e = max (latest (w.coming e)) (latest (w.coming (t.far e)))
+
+-- the last session that an end was in since its process began, 0 for none
+abbrev pub own_session : Processes → LinkEnd → ℕ
+own_session w e = session_at (w.routers e.router).ports e.port
+
+-- what each end has to exceed, once the process of router i begins anew. Of the sessions that an end of it was in those count of which something
+-- is left: the process at the other end was in them, or a message of them is on its way. Of those that the other end was in before its own
+-- process began only messages are left
+abbrev pub last_anew : Topology → ℕ → Processes → LinkEnd → ℕ
+last_anew t i w e =
+    if e.router == i
+    then min (w.last e) (max (own_session w (t.far e)) (latest_coming t w e))
+    else (if (t.far e).router == i then max (own_session w e) (min (w.last e) (latest_coming t w e)) else w.last e)
+
+-- the new process has taken nothing
+abbrev pub heard_anew : ℕ → (LinkEnd → ℕ) → LinkEnd → ℕ
+heard_anew i heard e = if e.router == i then 0 else heard e
+
+-- whether an end may come again into a session that it was in
+abbrev pub may_come_again : Topology → ℕ → Processes → LinkEnd → ℕ → Bool
+may_come_again t i w e session = nat_lt (last_anew t i w e) session && nat_le session (w.last e)
+
+-- what was lost in a session that one end of the link may come into again does not count for that
+abbrev pub lost_anew : Topology → ℕ → Processes → LinkEnd → ℕ → Bool
+lost_anew t i w e session = w.lost e session && not (may_come_again t i w e session || may_come_again t i w (t.far e) session)
+
 -- the processes after what happens
 abbrev pub next : Topology → Processes → Happening → Processes
 next t w (Tells i input) = record {
@@ -124,12 +169,12 @@ next t w (Tells i input) = record {
   lost = w.lost;
 }
 next t w (Takes e) = option_map_or (with_taken e w) (slice_get (w.coming e) 0) w
-next t w (Loses e) = record { routers = w.routers; coming = with_coming e (drop 1) w.coming; last = w.last; heard = w.heard; lost = true }
+next t w (Loses e) = record { routers = w.routers; coming = with_coming e (drop 1) w.coming; last = w.last; heard = w.heard; lost = with_lost e w.coming w.lost }
 next t w (Publishes i) = record { routers = with_router i router_publishing w.routers; coming = w.coming; last = w.last; heard = w.heard; lost = w.lost }
 next t w (PublishesSome i n) = record { routers = with_router i (router_publishing_some n) w.routers; coming = w.coming; last = w.last; heard = w.heard; lost = w.lost }
 next t w (Forgets i p) = record { routers = with_router i (forgotten p) w.routers; coming = w.coming; last = w.last; heard = w.heard; lost = w.lost }
 next t w (Releases i) = option_map_or (with_released t i w) (ripe_front (w.routers i)) w
-next t w (BeginsAnew i costs attachments) = record { routers = with_router i (λ r. made_router costs attachments) w.routers; coming = w.coming; last = w.last; heard = w.heard; lost = w.lost }
+next t w (BeginsAnew i costs attachments) = record { routers = with_router i (λ r. made_router costs attachments) w.routers; coming = w.coming; last = last_anew t i w; heard = heard_anew i w.heard; lost = lost_anew t i w }
 
 -- the processes after all this, one after another
 abbrev pub after : Topology → Processes → List Happening → Processes
@@ -156,11 +201,48 @@ pub record Begins (w : Processes) : Type 0 where
   pub nothing_comes : (e : LinkEnd) → w.coming e ≡ []
   pub never_up : (e : LinkEnd) → w.last e ≡ 0
   pub never_heard : (e : LinkEnd) → w.heard e ≡ 0
-  pub nothing_lost : w.lost ≡ false
+  pub never_lost : (e : LinkEnd) (session : ℕ) → w.lost e session ≡ false
 
--- what holds at every moment, whatever has happened since
+-- ---- ports that get other neighbours
+
+-- whether the link at an end is the same in both topologies
+abbrev pub link_stays : Topology → Topology → LinkEnd → Bool
+link_stays t t' e = t.valid e && (t'.valid e && is_same_end (t.far e) (t'.far e))
+
+-- whether the link at an end was not there
+abbrev pub is_new_link : Topology → Topology → LinkEnd → Bool
+is_new_link t t' e = t'.valid e && not (link_stays t t' e)
+
+-- the links may be those of t' from now on: the ends of each that was not there are in no session
+abbrev pub MayRewire : Topology → Topology → Processes → Type 0
+MayRewire t t' w = (e : LinkEnd) → is_new_link t t' e ≡ true → (session : ℕ) → is_in_session w e session ≡ false
+
+-- the processes then: but at links that stay nothing is on its way, or was taken or lost; and the ends of a link that was not there have to
+-- exceed each session that the process at either was in
+abbrev pub rewired : Topology → Topology → Processes → Processes
+rewired t t' w = record {
+  routers = w.routers;
+  coming = λ e. if link_stays t t' e then w.coming e else [];
+  last = λ e. if is_new_link t t' e then max (own_session w e) (own_session w (t'.far e)) else w.last e;
+  heard = λ e. if link_stays t t' e then w.heard e else 0;
+  lost = λ e session. link_stays t t' e && w.lost e session;
+}
+
+-- ---- every moment
+
+-- these processes may be at some moment, with the links of this topology
+pub data IsReached : Topology → Processes → Type 0 where
+  Begun : (t : Topology) (w : Processes) → Begins w → IsReached t w
+  Happened : (t : Topology) (w : Processes) (h : Happening) → IsReached t w → CanHappen w h → IsReached t (next t w h)
+  Rewired : (t t' : Topology) (w : Processes) → IsReached t w → MayRewire t t' w → IsReached t' (rewired t t' w)
+
+-- where routers begin, and then all this happens, it comes to such a moment
+abbrev pub AfterIsReached : Type 0
+AfterIsReached = (t : Topology) (first : Processes) (hs : List Happening) → Begins first → AllCanHappen t first hs → IsReached t (after t first hs)
+
+-- what holds at every moment, whatever has happened since, and whichever neighbours ports have got
 abbrev pub HoldsAlways : (Topology → Processes → Type 0) → Type 0
-HoldsAlways P = (t : Topology) (first : Processes) (hs : List Happening) → Begins first → AllCanHappen t first hs → P t (after t first hs)
+HoldsAlways P = (t : Topology) (w : Processes) → IsReached t w → P t w
 
 -- no router refuses a message of the session that its end of the link is in
 abbrev pub NoneRefused : Topology → Processes → Type 0

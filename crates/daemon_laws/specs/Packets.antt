@@ -100,13 +100,19 @@ pub record IsHalfWritten (published chosen table : List (Prefix × Entry)) : Typ
       → (row_of prefix_cmp p published ≡ Some e) ⊎ (row_of prefix_cmp p chosen ≡ Some e) ⊎ (e ≡ Unreachable)
   pub has_all : (p : Prefix) → IsSome (row_of prefix_cmp p published) → IsSome (row_of prefix_cmp p table)
 
--- a packet for the address goes from one router to the other, by the row that matches it longest in such a table
+-- a router lets nothing in: none of its ports is up
+abbrev pub IsShut : Processes → ℕ → Type 0
+IsShut w i = (q session : ℕ) → is_in_session w (at_port i q) session ≡ false
+
+-- a packet for the address goes from one router to the other, by the row that matches it longest in such a table, or in any table of a
+-- router that lets nothing in
 pub record GoesHalfWritten (entry_goes : ℕ → Entry → Option ℕ) (w : Processes) (addr i k : ℕ) : Type 0 where
   pub table : List (Prefix × Entry)
-  pub written : IsHalfWritten ((w.routers i).table).published ((w.routers i).table).control table
+  pub written : IsHalfWritten ((w.routers i).table).published ((w.routers i).table).control table ⊎ IsShut w i
   pub goes : option_and_then (λ (r : Prefix × Entry). entry_goes i r.1) (longest_match addr table) ≡ Some k
 
--- no packet meets a router twice while routers write rows into their tables, one by one and in any order
+-- no packet meets a router twice while routers write rows into their tables, one by one and in any order, nor while a process that has begun
+-- anew, and lets nothing in yet, takes out those of the process before
 abbrev pub NoWrittenCircles : Topology → Processes → Type 0
 NoWrittenCircles t w = (addr : ℕ) (way : List ℕ) → IsWayBy (GoesHalfWritten (entry_leads t w) w addr) way → meets_twice way ≡ false
 

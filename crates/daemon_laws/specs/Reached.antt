@@ -1,14 +1,16 @@
 -- That the laws have something to say.
-use Rattle.std.specs.Prelude.{◌≡◌, ℕ, true, List, Some}
+use Rattle.std.specs.Prelude.{◌≡◌, ℕ, true, List, [], ◌∷◌, ◌++◌, Some}
 use Rattle.ipv4_prefix.specs.Prefix.{Prefix}
 use Rattle.network_model.specs.declared.route.Entry.TheVariants.{Local, Via}
+use Rattle.network_model.specs.View.{at_port}
 use Rattle.network_model.specs.World.{machine_of}
 use Rattle.router_core.specs.Alone.{may_forget}
 use Rattle.loop_freedom.specs.Network.{Topology}
 use Rattle.single_router.specs.Inputs.{attachment_of}
+use Rattle.single_router.specs.declared.opening.Attachment.{Attachment}
 use Rattle.daemon_laws.specs.Processes.{Processes}
 use Rattle.daemon_laws.specs.Packets.{IsForwarded, entry_leads, unmarked_leads, published_rows}
-use Rattle.daemon_laws.specs.Happenings.{Happening, Begins, AllCanHappen, after}
+use Rattle.daemon_laws.specs.Happenings.{Happening, BeginsAnew, Begins, AllCanHappen, after, is_new_link, MayRewire, rewired}
 use Rattle.daemon_laws.specs.Rest.{IsAtRest, published_entry}
 
 -- something may happen after which a packet goes from one router to another by a published row
@@ -25,7 +27,7 @@ pub record SomePacketGoes : Type 0 where
   pub goes : IsForwarded (entry_leads topology (after topology first happenings)) (published_rows (after topology first happenings)) addr prefix from to
 
 -- something may happen after which two routers are at rest: router 0 is attached at cost 1, and router 1, which has begun anew
--- since, is at distance 8 by way of its port 0, in session 2
+-- since, is at distance 8 by way of its port 0, in session 2; in the first session a message was lost
 pub record SomeRest : Type 0 where
   pub topology : Topology
   pub first : Processes
@@ -38,7 +40,35 @@ pub record SomeRest : Type 0 where
   pub sends_on : published_entry (after topology first happenings) 1 prefix ≡ Some (Via 0 2)
   -- also a packet that carries no session goes by it
   pub goes : unmarked_leads topology (after topology first happenings) 1 (Via 0 2) ≡ Some 0
+  pub was_lost : (after topology first happenings).lost (at_port 0 0) 1 ≡ true
   pub distance : (machine_of ((after topology first happenings).routers 1) prefix).rd ≡ 8
+
+-- something may happen twice, with the same sessions, if two neighbours begin anew between; and then a packet goes
+pub record SomeSessionAgain : Type 0 where
+  pub topology : Topology
+  pub first : Processes
+  pub once : List Happening
+  pub cost : ℕ
+  pub in_session : (after topology first once).last (at_port 0 0) ≡ 1
+  pub begins : Begins first
+  pub attachments : List Attachment
+  pub can : AllCanHappen topology first (once ++ BeginsAnew 0 (cost ∷ []) attachments ∷ BeginsAnew 1 (cost ∷ []) [] ∷ once)
+  pub prefix : Prefix
+  pub goes : IsForwarded (entry_leads topology (after topology first (once ++ BeginsAnew 0 (cost ∷ []) attachments ∷ BeginsAnew 1 (cost ∷ []) [] ∷ once)))
+      (published_rows (after topology first (once ++ BeginsAnew 0 (cost ∷ []) attachments ∷ BeginsAnew 1 (cost ∷ []) [] ∷ once))) prefix.addr prefix 1 0
+
+-- a port may get a neighbour, and then a packet goes over the link that was not there
+pub record SomeNeighbour : Type 0 where
+  pub before : Topology
+  pub topology : Topology
+  pub first : Processes
+  pub begins : Begins first
+  pub new : is_new_link before topology (at_port 1 0) ≡ true
+  pub may : MayRewire before topology first
+  pub happenings : List Happening
+  pub can : AllCanHappen topology (rewired before topology first) happenings
+  pub prefix : Prefix
+  pub goes : IsForwarded (entry_leads topology (after topology (rewired before topology first) happenings)) (published_rows (after topology (rewired before topology first) happenings)) prefix.addr prefix 1 0
 
 -- something may happen after which a router may forget a prefix to which it was attached
 pub record SomeForgets : Type 0 where

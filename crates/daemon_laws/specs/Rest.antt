@@ -76,13 +76,17 @@ pub record HasBestRow (t : Topology) (w : Processes) (p : Prefix) (i : ℕ) : Ty
 
 -- ---- at rest
 
--- the first n routers are quiet, all links are theirs, nothing is on its way over a link that is up, or was lost, and the two ends of
--- each link agree
+-- nothing was lost of a session that a link is up in. What was lost of one that has ended does not matter
+abbrev pub NothingLost : Topology → Processes → Type 0
+NothingLost t w = (e : LinkEnd) (session : ℕ) → IsUpIn t w e session → w.lost e session ≡ false
+
+-- the first n routers are quiet, all links are theirs, nothing is on its way over a link that is up, or was lost in its session, and
+-- the two ends of each link agree
 pub record IsAtRest (t : Topology) (n : ℕ) (w : Processes) : Type 0 where
   pub quiet : (i : ℕ) → i < n → is_quiet_router (w.routers i) ≡ true
   pub placed : (e : LinkEnd) → t.valid e ≡ true → e.router < n
   pub nothing_comes : (e : LinkEnd) (session : ℕ) → IsUpIn t w e session → w.coming e ≡ []
-  pub nothing_lost : w.lost ≡ false
+  pub nothing_lost : NothingLost t w
   -- where one end is in a session, a link is there, and so is the other end
   pub agree : (e : LinkEnd) (session : ℕ) → is_in_session w e session ≡ true → IsUpIn t w e session
 

@@ -8,7 +8,7 @@
 //! So these laws are of *processes* (`Processes` in `specs/Processes.antt`). These are routers, and for each
 //! end of a link what is on its way there and its sessions. A *happening* (`Happening` in
 //! `specs/Happenings.antt`) is a call of `SingleRouter`, by the definitions that its contracts cite, or the
-//! loss of a message. The five duties of a daemon are in docs/daemons.md.
+//! loss of a message. The six duties of a daemon are in docs/daemons.md.
 //!
 //! ```text
 //!    router a                                     router b
@@ -16,10 +16,10 @@
 //!     row via b, session 4    -- packet -->        not let in
 //! ```
 //!
-//! The law ([`no_packet_circles`]): whatever has happened, no packet meets a router twice. That holds if
-//! packets tell the session of the row by which they were sent. It also holds if they tell none, and routers
-//! test what comes in. A router lets in what comes by a link while it is in the session of the message that
-//! it took there last. The law holds of half-written tables, too.
+//! The law ([`no_daemon_packet_circles`]): whatever has happened, no packet meets a router twice. That holds
+//! if packets tell the session of the row by which they were sent. It also holds if they tell none, and
+//! routers test what comes in. A router lets in what comes by a link while it is in the session of the message
+//! that it took there last. The law holds of half-written tables, too.
 //!
 //! Why it is true: for each prefix, each link and each session that neither end has left, the invariant of
 //! `loop_freedom` holds (`proofs/Invariant.antt`). An end that is not in the session makes a step that
@@ -32,15 +32,26 @@
 //! session. It would have to end a computation for which it awaits the router that has left.
 //!
 //! [`none_refused`]: the tests that keep out what no router sends keep out nothing that one does.
-//! [`rest_is_best`]: at rest, if nothing was lost and the ends of each link agree, each router has its best
-//! row.
+//! [`rest_is_best`]: at rest, if nothing was lost in a session that a link is up in, and the ends of each link
+//! agree, each router has its best row.
+//!
+//! A session may be used again once nothing is left of it (`last_anew` in `specs/Happenings.antt`), and a port
+//! may get another neighbour once both ends are in no session (`MayRewire`).
 #![tactic(auto)]
 
 ghost use Rattle.daemon_laws.specs.Facts.{FourFactsAlwaysHold};
-ghost use Rattle.daemon_laws.specs.Happenings.{HoldsAlways, NoneRefused};
+ghost use Rattle.daemon_laws.specs.Happenings.{AfterIsReached, HoldsAlways, NoneRefused};
+ghost use Rattle.daemon_laws.specs.Moments.{FourFactsHoldThere};
+ghost use Rattle.daemon_laws.specs.Numbers.{NumbersSuffice};
 ghost use Rattle.daemon_laws.specs.Packets.{NoMixtureLoops, NoPacketCircles, NoPacketLoops, NoUnmarkedCircles, NoUnmarkedLoops, NoUnmarkedMixtureLoops, NoUnmarkedWrittenCircles, NoWrittenCircles};
-ghost use Rattle.daemon_laws.specs.Reached.{SomeForgets, SomePacketGoes, SomeRest};
+ghost use Rattle.daemon_laws.specs.Reached.{SomeForgets, SomeNeighbour, SomePacketGoes, SomeRest, SomeSessionAgain};
 ghost use Rattle.daemon_laws.specs.Rest.{RestIsAlwaysBest};
+
+/// The laws hold at every moment that routers come to, by happenings one after another and by ports that get
+/// other neighbours.
+pub fn after_is_reached()
+    ensures { AfterIsReached }
+{}
 
 /// Whatever happens, and in which order, no packet meets a router twice along routers that match its
 /// address by one prefix; nor where some routers forward by what they have chosen since they published.
@@ -59,8 +70,9 @@ pub fn no_unmarked_loop()
 /// Whatever happens, and in which order, no packet meets a router twice, whichever prefixes match its
 /// address on its way, and whichever routers publish while it moves: where packets carry the session of
 /// the row by which they are sent, and where they carry none, let in as above. Nor does one while rows are
-/// written into tables one by one, in any order.
-pub fn no_packet_circles()
+/// written into tables one by one, in any order, or while a process that has begun anew takes out the rows
+/// of the one before, in any order, if none of its ports is up yet.
+pub fn no_daemon_packet_circles()
     ensures marked { HoldsAlways NoPacketCircles }
     ensures unmarked { HoldsAlways NoUnmarkedCircles }
     ensures written { HoldsAlways NoWrittenCircles }
@@ -75,15 +87,25 @@ pub fn none_refused()
 
 /// At each link, in each session that both its ends are in: what a router has sent, and what the other
 /// keeps of it, is no less than its feasible distances; along each edge they fall; and so does the
-/// distance of a computation whose query has been answered.
+/// distance of a computation whose query has been answered. So it is after any list of happenings between the
+/// same neighbours, and at every moment, whichever neighbours ports have got.
 pub fn four_facts()
-    ensures { FourFactsAlwaysHold }
+    ensures listed { FourFactsAlwaysHold }
+    ensures there { FourFactsHoldThere }
 {}
 
-/// Where all is at rest and the two ends of each link agree, each router's row for a prefix is local or
-/// begins a chain of rows to an attached router at a cost that is least, or no way leads to one.
+/// Where all is at rest, nothing was lost in a session that a link is up in, and the two ends of each link
+/// agree, each router's row for a prefix is local or begins a chain of rows to an attached router at a cost
+/// that is least, or no way leads to one.
 pub fn rest_is_best()
     ensures { RestIsAlwaysBest }
+{}
+
+/// If what was on its way to a process ends with it, and so does what was on its way from it, but in sessions
+/// that the other end has come into, then what both processes at a link remember is enough to number its next
+/// session: the greater of the last sessions that the two were in, plus one.
+pub fn numbers_suffice()
+    ensures { NumbersSuffice }
 {}
 
 /// The laws are not empty of packets.
@@ -94,6 +116,16 @@ pub fn some_packet()
 /// Nor of routers at rest.
 pub fn some_rest()
     ensures { SomeRest }
+{}
+
+/// Nor of sessions whose numbers are used again.
+pub fn some_session_again()
+    ensures { SomeSessionAgain }
+{}
+
+/// Nor of ports that get a neighbour.
+pub fn some_neighbour()
+    ensures { SomeNeighbour }
 {}
 
 /// Nor of prefixes that are forgotten.

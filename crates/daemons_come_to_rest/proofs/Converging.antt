@@ -2,7 +2,6 @@
 use Rattle.std.proofs.Common.{refl, sym, ap, ◌∙◌, inl, inr, ◌≡◌, ◌⊎◌, ℕ, Bool, true, false, ◌&&◌, ◌||◌, ◌==◌, List, [], ◌∷◌, slice_get}
 use Rattle.no_packet_loops.proofs.Common.{option_map_or, false≢true, Port, Topology, LinkEnd}
 use Rattle.network_model.proofs.Common.{both_ways, cases_Bool, true_from_ne_false}
-use Rattle.single_router.specs.declared.input.Input.TheVariants as input
 use Rattle.coming_to_rest.specs.Rest.{IsFinite}
 use Rattle.coming_to_rest.proofs.Bounds.{IsIn, find_one}
 use Rattle.daemon_laws.specs.Processes.{Processes}
@@ -12,7 +11,7 @@ use Rattle.daemon_laws.proofs.Cases.{by_take, by_release}
 use Rattle.daemons_come_to_rest.specs.Rest.{HappensAlone, ComesToRest, rests, AllAlone}
 use Rattle.daemons_come_to_rest.specs.Settled.{is_loss, forgets, NothingLeft, EndsAgree, LosesNone, SameGround, Converges, AlwaysConverges}
 use Rattle.daemons_come_to_rest.proofs.Gathered.{prefixes_in, all_known}
-use Rattle.daemons_come_to_rest.proofs.Kept.{Kept, kept_next, kept_first, kept_after}
+use Rattle.daemons_come_to_rest.proofs.Kept.{Kept, kept_next, kept_reached}
 use Rattle.daemons_come_to_rest.proofs.Falling.{goes_alone}
 use Rattle.daemons_come_to_rest.proofs.Bounds.{alone_can, either, candidates, candidate, has_bound}
 use Rattle.daemons_come_to_rest.proofs.Resting.{kept_rests}
@@ -35,20 +34,20 @@ module _ (t : Topology) (F : IsFinite t) where
       λ i. ((rest i).0 ∙ (one i).0, λ p. (rest i).1 p ∙ (one i).1 p)
 
 -- what is no loss loses nothing
-lost_next : (t : Topology) (w : Processes) (h : Happening) → is_loss h ≡ false → (next t w h).lost ≡ w.lost
-lost_next t w (Tells i x) quiet = refl
-lost_next t w (Takes e) quiet = by_take t w (λ v. v.lost ≡ w.lost) refl e (λ c at le. refl)
-lost_next t w (Loses e) quiet = absurd (false≢true (sym quiet))
-lost_next t w (Publishes i) quiet = refl
-lost_next t w (PublishesSome i n) quiet = refl
-lost_next t w (Forgets i p) quiet = refl
-lost_next t w (Releases i) quiet = by_release t w (λ v. v.lost ≡ w.lost) refl i (λ h at. refl)
-lost_next t w (BeginsAnew i costs attachments) quiet = refl
+lost_next : (t : Topology) (n : ℕ) (w : Processes) (h : Happening) → HappensAlone n w h → is_loss h ≡ false → (next t w h).lost ≡ w.lost
+lost_next t n w (Tells i x) alone quiet = refl
+lost_next t n w (Takes e) alone quiet = by_take t w (λ v. v.lost ≡ w.lost) refl e (λ c at le. refl)
+lost_next t n w (Loses e) alone quiet = absurd (false≢true (sym quiet))
+lost_next t n w (Publishes i) alone quiet = refl
+lost_next t n w (PublishesSome i k) alone quiet = refl
+lost_next t n w (Forgets i p) alone quiet = refl
+lost_next t n w (Releases i) alone quiet = by_release t w (λ v. v.lost ≡ w.lost) refl i (λ h at. refl)
+lost_next t n w (BeginsAnew i costs attachments) alone quiet = absurd alone
 
 -- nor do any of them
-lost_after : (t : Topology) (w : Processes) (hs : List Happening) → LosesNone hs → (after t w hs).lost ≡ w.lost
-lost_after t w [] none = refl
-lost_after t w (h ∷ hs) none = lost_after t (next t w h) hs none.1 ∙ lost_next t w h none.0
+lost_after : (t : Topology) (n : ℕ) (w : Processes) (hs : List Happening) → AllAlone t n w hs → LosesNone hs → (after t w hs).lost ≡ w.lost
+lost_after t n w [] all none = refl
+lost_after t n w (h ∷ hs) all none = lost_after t n (next t w h) hs all.1 none.1 ∙ lost_next t n w h all.0 none.0
 
 -- on the same ground an end is in the same sessions
 same_session : (w v : Processes) → SameGround w v → (e : LinkEnd) (session : ℕ) → is_in_session v e session ≡ is_in_session w e session
@@ -104,15 +103,19 @@ kept_converges t F w K =
       bounded = has_bound t F w K C;
       somewhere = leads t F w K C;
       ground = λ hs all. ground_after t F w hs K all;
-      arrives = λ agree whole few hs all none left p i lt.
+      stays_whole = λ whole hs all none e session is.
+          let G = ground_after t F w hs K all in
+          ap (λ (l : LinkEnd → ℕ → Bool). l e session) (lost_after t F.routers w hs all none)
+          ∙ whole e session (record { valid = is.valid; near = sym (same_session w (after t w hs) G e session) ∙ is.near; far = sym (same_session w (after t w hs) G (t.far e) session) ∙ is.far });
+      arrives = λ agree few hs all whole left p i lt.
           settled_best t F.routers (after t w hs) (record {
             nothing_left = left;
             placed = λ e valid. (F.within e valid).0;
-            nothing_lost = lost_after t w hs none ∙ whole;
+            nothing_lost = whole;
             agree = still_agree t w (after t w hs) (ground_after t F w hs K all) agree;
           }) (kept_alone t F w hs K all) few p i lt;
     }
 
 -- every moment converges
 pub always_converges : AlwaysConverges
-always_converges t first hs B can F = kept_converges t F (after t first hs) (kept_after t first hs (kept_first t first B) can)
+always_converges t w M F = kept_converges t F w (kept_reached t w M)

@@ -1,5 +1,5 @@
 -- What a router has to publish, to release and may have to forget: whatever it does of that leaves less.
-use Rattle.std.proofs.Common.{refl, sym, ap, subst, ◌∙◌, arith, inl, inr, ◌≡◌, ◌⊎◌, ℕ, zero, suc, ◌+◌, ◌-◌, ◌<◌, ◌≤◌, Bool, true, false, not, cond, if◌then◌else◌, List, [], ◌∷◌, length, take, filter, Some, is_some, slice_get}
+use Rattle.std.proofs.Common.{refl, sym, ap, subst, ◌∙◌, arith, inl, inr, ◌≡◌, ◌⊎◌, ℕ, zero, suc, ◌+◌, ◌<◌, ◌≤◌, Bool, true, false, not, cond, if◌then◌else◌, List, [], ◌∷◌, length, take, filter, Some, is_some, slice_get}
 use Rattle.no_packet_loops.proofs.Common.{option_map_or, false≢true, None_not_Some, Some_injective, Prefix, prefix_cmp, prefix_eq, prefix_cmp_total, Machine, Entry, entry_eq, entry_eq-refl, Router, Table, has_row, changed_rows, with_rows}
 use Rattle.network_model.proofs.Common.{both_ways}
 use Rattle.std.specs.FinMap.{find as row_of}

@@ -1,10 +1,11 @@
 -- The two routers whose second session has begun: what still happens leads to where nothing is left.
-use Rattle.std.proofs.Common.{refl, sym, ap, ◌∙◌, arith, ◌≡◌, ◌<◌, Bool, true, false, List, [], length, None, slice_get}
-use Rattle.no_packet_loops.proofs.Common.{None_not_Some, false≢true, changed_rows, is_due, ripe_front, LinkEnd}
+use Rattle.std.proofs.Common.{refl, sym, ap, subst, ◌∙◌, arith, ◌≡◌, ℕ, ◌<◌, eqb-true, Bool, true, false, List, [], length, None, slice_get}
+use Rattle.no_packet_loops.proofs.Common.{None_not_Some, false≢true, changed_rows, is_due, ripe_front, LinkEnd, at_port}
 use Rattle.loop_freedom.proofs.Example.{pair}
-use Rattle.single_router.specs.declared.input.Input.TheVariants as input
 use Rattle.coming_to_rest.specs.Rest.{IsFinite}
 use Rattle.daemon_laws.specs.Processes.{Carried, Processes}
+use Rattle.daemon_laws.specs.Packets.{is_in_session}
+use Rattle.daemon_laws.specs.Rest.{NothingLost}
 use Rattle.daemon_laws.specs.Happenings.{Tells, Takes, Loses, Publishes, PublishesSome, Forgets, Releases, BeginsAnew, after, AllCanHappen}
 use Rattle.daemon_laws.proofs.Example.{first, begins, seven}
 use Rattle.least_cost.proofs.Reached.{each_place, each_router}
@@ -24,7 +25,7 @@ two = record { routers = 2; ports = 1; within = each_place (λ e. (e.router < 2)
 
 -- the first of it may happen
 can_up : AllCanHappen pair first until_up
-can_up = ((omega arith, seven), ((omega arith, seven), (tt, (tt, (tt, (tt, (refl, ((omega arith, seven), (tt, ((omega arith, seven), tt))))))))))
+can_up = ((omega arith, seven), ((omega arith, seven), (tt, (tt, (tt, (tt, (tt, (tt, (refl, ((omega arith, seven), (tt, ((omega arith, seven), tt))))))))))))
 
 -- what is kept then
 kept_now : Kept pair now
@@ -53,6 +54,10 @@ left (Forgets i p) alone = refl
 left (Releases i) (h, lt, front) = absurd (None_not_Some (sym (each_router (λ j. ripe_front (rest.routers j) ≡ None) refl refl i lt) ∙ front))
 left (BeginsAnew i costs attachments) alone = absurd alone
 
+-- what was lost is of the first session, and no end is in that
+nothing_lost : NothingLost pair now
+nothing_lost e session is = each_place (λ d. is_in_session now d session ≡ true → now.lost d session ≡ false) (λ on. subst (λ (k : ℕ). now.lost (at_port 0 0) k ≡ false) (eqb-true 2 session on) refl) (λ on. refl) e is.valid is.near
+
 -- the ground is that of the end
 ground_back : SameGround rest now
 ground_back i = let G = ground_after pair two now onward kept_now alone in (sym (G i).0, λ p. sym ((G i).1 p))
@@ -68,7 +73,10 @@ some_converges = record {
   begins = begins;
   can = can_up;
   agree = still_agree pair rest now ground_back agree;
-  nothing_lost = refl;
+  nothing_lost = nothing_lost;
+  end = at_port 0 0;
+  session = 1;
+  was_lost = refl;
   onward = onward;
   some = omega arith;
   alone = alone;

@@ -5,10 +5,10 @@ use Rattle.coming_to_rest.specs.Rest.{IsFinite}
 use Rattle.coming_to_rest.proofs.Order.{every}
 use Rattle.coming_to_rest.proofs.Measure.{top}
 use Rattle.daemon_laws.specs.Processes.{Processes}
-use Rattle.daemon_laws.specs.Happenings.{Happening, next, after}
+use Rattle.daemon_laws.specs.Happenings.{Happening, next}
 use Rattle.daemons_come_to_rest.specs.Rest.{HappensAlone, ComesToRest, rests, AlwaysComesToRest, AlwaysHasBound}
 use Rattle.daemons_come_to_rest.proofs.Gathered.{KnownIn, prefixes_in, all_known}
-use Rattle.daemons_come_to_rest.proofs.Kept.{Kept, kept_next, kept_first, kept_after}
+use Rattle.daemons_come_to_rest.proofs.Kept.{Kept, kept_next, kept_reached}
 use Rattle.daemons_come_to_rest.proofs.Falling.{all_places, all_loads, all_dues, ProcessesFall, goes_alone}
 use Rattle.daemons_come_to_rest.proofs.Bounds.{alone_can, has_bound}
 
@@ -43,8 +43,8 @@ kept_rests t F w K = good_rests t F (prefixes_in t F w) w (record { kept = K; kn
 
 -- every moment comes to rest
 pub always_rests : AlwaysComesToRest
-always_rests t first hs B can F = kept_rests t F (after t first hs) (kept_after t first hs (kept_first t first B) can)
+always_rests t w M F = kept_rests t F w (kept_reached t w M)
 
 -- and has a bound
 pub always_bounded : AlwaysHasBound
-always_bounded t first hs B can F = let K = kept_after t first hs (kept_first t first B) can in has_bound t F (after t first hs) K (kept_rests t F (after t first hs) K)
+always_bounded t w M F = let K = kept_reached t w M in has_bound t F w K (kept_rests t F w K)

@@ -9,7 +9,7 @@ use Rattle.single_router.specs.Inputs.{attachment_of}
 use Rattle.daemon_laws.specs.Processes.{Processes}
 use Rattle.daemon_laws.specs.Packets.{is_in_session}
 use Rattle.daemon_laws.specs.Happenings.{Happening, Tells, Takes, Loses, Publishes, PublishesSome, Forgets, Releases, BeginsAnew, after, HoldsAlways, Begins, AllCanHappen}
-use Rattle.daemon_laws.specs.Rest.{IsUpIn, IsAtRest, HasBestRow}
+use Rattle.daemon_laws.specs.Rest.{IsUpIn, NothingLost, IsAtRest, HasBestRow}
 use Rattle.daemons_come_to_rest.specs.Rest.{HappensAlone, AllAlone, HasBound}
 
 -- whether a message is lost
@@ -43,11 +43,12 @@ NothingLeft n w = (h : Happening) → HappensAlone n w h → (is_loss h || forge
 abbrev pub EndsAgree : Topology → Processes → Type 0
 EndsAgree t w = (e : LinkEnd) (session : ℕ) → is_in_session w e session ≡ true → IsUpIn t w e session
 
--- nothing more happens among the first n routers, whose all links are, nothing was lost, and the two ends of each link agree
+-- nothing more happens among the first n routers, whose all links are, nothing was lost of a session that a link is up in, and the two ends of
+-- each link agree
 pub record HasSettled (t : Topology) (n : ℕ) (w : Processes) : Type 0 where
   pub nothing_left : NothingLeft n w
   pub placed : (e : LinkEnd) → t.valid e ≡ true → e.router < n
-  pub nothing_lost : w.lost ≡ false
+  pub nothing_lost : NothingLost t w
   pub agree : EndsAgree t w
 
 -- there all is at rest: no computation goes on
@@ -69,8 +70,8 @@ LosesNone (h ∷ hs) = (is_loss h ≡ false) × LosesNone hs
 abbrev pub SameGround : Processes → Processes → Type 0
 SameGround w v = (i : ℕ) → ((v.routers i).ports ≡ (w.routers i).ports) × ((p : Prefix) → attachment_of (v.routers i) p ≡ attachment_of (w.routers i) p)
 
--- where nothing happens any more but what happens alone: that ends, whatever its order, and where no message is lost it ends where each
--- router has its best row
+-- where nothing happens any more but what happens alone: that ends, whatever its order, and where nothing is lost of a session that a link is
+-- up in it ends where each router has its best row
 pub record Converges (t : Topology) (n : ℕ) (w : Processes) : Type 0 where
   -- there is a number that no list of such happenings exceeds
   pub bounded : HasBound t n w
@@ -78,16 +79,19 @@ pub record Converges (t : Topology) (n : ℕ) (w : Processes) : Type 0 where
   pub somewhere : (hs : List Happening) × AllAlone t n w hs × LosesNone hs × NothingLeft n (after t w hs)
   -- all of them leave links and attachments
   pub ground : (hs : List Happening) → AllAlone t n w hs → SameGround w (after t w hs)
-  -- whichever they are, without a loss, where nothing is left each router has its best row, if the two ends of each link agree now
-  -- and nothing was lost before
-  pub arrives : EndsAgree t w → w.lost ≡ false → n ≤ most_routers
-      → (hs : List Happening) → AllAlone t n w hs → LosesNone hs → NothingLeft n (after t w hs) → (p : Prefix) (i : ℕ) → i < n → HasBestRow t (after t w hs) p i
+  -- whichever they are, where nothing is left each router has its best row, if the two ends of each link agree now, and nothing was
+  -- lost, before or since, of a session that a link is up in
+  pub arrives : EndsAgree t w → n ≤ most_routers
+      → (hs : List Happening) → AllAlone t n w hs → NothingLost t (after t w hs) → NothingLeft n (after t w hs) → (p : Prefix) (i : ℕ) → i < n → HasBestRow t (after t w hs) p i
+  -- so it is without a loss, if nothing was lost before of a session that a link is up in
+  pub stays_whole : NothingLost t w → (hs : List Happening) → AllAlone t n w hs → LosesNone hs → NothingLost t (after t w hs)
 
 -- so it is at every moment, whatever has happened, where the topology has finitely many link ends
 abbrev pub AlwaysConverges : Type 0
 AlwaysConverges = HoldsAlways (λ t w. (F : IsFinite t) → Converges t F.routers w)
 
--- something may happen after which ends agree and nothing was lost, but something still happens, without a loss, until nothing is left
+-- something may happen after which ends agree and nothing was lost of a session that a link is up in, though a message of another was lost;
+-- but something still happens, without a loss, until nothing is left
 pub record SomeConverges : Type 0 where
   pub topology : Topology
   pub finite : IsFinite topology
@@ -97,7 +101,10 @@ pub record SomeConverges : Type 0 where
   pub begins : Begins first
   pub can : AllCanHappen topology first happenings
   pub agree : EndsAgree topology (after topology first happenings)
-  pub nothing_lost : (after topology first happenings).lost ≡ false
+  pub nothing_lost : NothingLost topology (after topology first happenings)
+  pub end : LinkEnd
+  pub session : ℕ
+  pub was_lost : (after topology first happenings).lost end session ≡ true
   pub onward : List Happening
   pub some : 0 < length onward
   pub alone : AllAlone topology finite.routers (after topology first happenings) onward

@@ -10,7 +10,7 @@ use Rattle.world.specs.Steps.{IsDoneOr}
 use Rattle.world.proofs.Runs.{with_last_step}
 use Rattle.simulation.specs.Simulation.{Simulation, after_step, after_steps, simulation_refusal}
 use Rattle.simulation.proofs.Simulations.{after_push}
-use Rattle.network_calls.specs.Calls.{IsDoneOrFails, IsRanTo, StopsBy, running_fault}
+use Rattle.network_calls.specs.Calls.{IsDoneOrFails, IsRanTo, StepNeedsMemory, StopsBy, running_fault}
 use Rattle.network_calls.specs.Steps.{parts_of_step_fault, step_of}
 use Rattle.network_calls.specs.declared.failure.Failure.{Failure}
 use Rattle.network_calls.specs.declared.failure.Failure.TheVariants.{Given, Refused}
@@ -35,13 +35,16 @@ ran_more parts old mid new done p ran below read lawful is =
     }
 
 -- a step that was refused stops a run there
-fails_as : (o : Option Failure) (f : Failure) → IsDoneOrFails {X = Unit {0}} o (Err f) → MatchOption o (f ≡ Refused Refusal.NoMemory) (λ e. f ≡ e)
-fails_as None f h = h
-fails_as (Some e) f h = let inner : ◌≡◌ {A = Result (Unit {0}) Failure} (Err f) (Err e) = h in cc
+fails_as : (Needs : Type 0) (o : Option Failure) (f : Failure) → IsDoneOrFails {X = Unit {0}} o Needs (Err f) → MatchOption o ((f ≡ Refused Refusal.NoMemory) × Needs) (λ e. f ≡ e)
+fails_as Needs None f h = h
+fails_as Needs (Some e) f h = let inner : ◌≡◌ {A = Result (Unit {0}) Failure} (Err f) (Err e) = h in cc
 
-pub stops : (parts : List StepParts) (mid new : Simulation) (done : ℕ) (p : StepParts) (f : Failure) → done < length parts → p ≡ get_or parts done p → new ≡ mid → IsDoneOrFails {X = Unit {0}} (running_fault p mid) (Err f) → StopsBy parts new done (Err f)
-stops parts mid new done p f below read same cause =
-    (p, slice_get-get_or parts done p below ∙ ap Some (sym read), subst (λ s. MatchOption (running_fault p s) (f ≡ Refused Refusal.NoMemory) (λ e. f ≡ e)) (sym same) (fails_as (running_fault p mid) f cause))
+pub stops : (parts : List StepParts) (mid new : Simulation) (done : ℕ) (p : StepParts) (f : Failure) → done < length parts → p ≡ get_or parts done p → new ≡ mid → IsDoneOrFails {X = Unit {0}} (running_fault p mid) (StepNeedsMemory (step_of p) mid.world) (Err f) → StopsBy parts new done (Err f)
+stops parts mid new done p f below read same cause = (
+  p,
+  slice_get-get_or parts done p below ∙ ap Some (sym read),
+  subst (λ (s : Simulation). MatchOption (running_fault p s) ((f ≡ Refused Refusal.NoMemory) × StepNeedsMemory (step_of p) s.world) (λ e. f ≡ e)) (sym same) (fails_as (StepNeedsMemory (step_of p) mid.world) (running_fault p mid) f cause),
+)
 
 -- what a step that was read is refused for
 pub reads : (p : StepParts) (s : Simulation) → parts_of_step_fault p ≡ None → running_fault p s ≡ option_map (λ e. Refused e) (simulation_refusal s (step_of p))
@@ -50,10 +53,10 @@ reads p s none = ap (λ o. option_map_or (λ f. Some (Given f)) o (option_map (�
 pub unread : (p : StepParts) (s : Simulation) (f : _) → parts_of_step_fault p ≡ Some f → running_fault p s ≡ Some (Given f)
 unread p s f is = ap (λ o. option_map_or (λ g. Some (Given g)) o (option_map (λ e. Refused e) (simulation_refusal s (step_of p)))) is
 
-pub done_as : (o : Option Refusal) → IsDoneOr {X = Unit {0}} o (Ok (tt {0})) → IsDoneOrFails {X = Unit {0}} (option_map (λ e. Refused e) o) (Ok (tt {0}))
-done_as None h = tt
-done_as (Some e) h = absurd (let no : ◌≡◌ {A = Result (Unit {0}) Refusal} (Ok (tt {0})) (Err e) = h in cc)
+pub done_as : (Needs : Type 0) (o : Option Refusal) → IsDoneOr {X = Unit {0}} o (Ok (tt {0})) → IsDoneOrFails {X = Unit {0}} (option_map (λ e. Refused e) o) Needs (Ok (tt {0}))
+done_as Needs None h = tt
+done_as Needs (Some e) h = absurd (let no : ◌≡◌ {A = Result (Unit {0}) Refusal} (Ok (tt {0})) (Err e) = h in cc)
 
-pub refused_as : (o : Option Refusal) (e : Refusal) → IsDoneOr {X = Unit {0}} o (Err e) → IsDoneOrFails {X = Unit {0}} (option_map (λ x. Refused x) o) (Err (Refused e))
-refused_as None e h = ap (λ x. Refused x) h
-refused_as (Some c) e h = let inner : ◌≡◌ {A = Result (Unit {0}) Refusal} (Err e) (Err c) = h in (let same : e ≡ c = cc in ap (λ x. Err (Refused x)) same)
+pub refused_as : (Needs : Type 0) (o : Option Refusal) (e : Refusal) → IsDoneOr {X = Unit {0}} o (Err e) → (o ≡ None → Needs) → IsDoneOrFails {X = Unit {0}} (option_map (λ x. Refused x) o) Needs (Err (Refused e))
+refused_as Needs None e h needs = (ap (λ x. Refused x) h, needs refl)
+refused_as Needs (Some c) e h needs = let inner : ◌≡◌ {A = Result (Unit {0}) Refusal} (Err e) (Err c) = h in (let same : e ≡ c = cc in ap (λ x. Err (Refused x)) same)

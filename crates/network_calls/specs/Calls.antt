@@ -1,16 +1,20 @@
 -- What the calls answer, by the network that a handle holds, and what they leave.
-use Rattle.std.specs.Prelude.{◌≡◌, ◌≢◌, ◌⊎◌, ℕ, ◌≤◌, ◌==◌, nat_lt, true, if◌then◌else◌, List, [], ◌∷◌, length, map, take, Option, Some, None, option_and_then, option_map, slice_get, is_none, Result, Ok, Err, MatchOption, IfSome}
+use Rattle.std.specs.Prelude.{◌≡◌, ◌≢◌, ◌⊎◌, ℕ, ◌≤◌, ◌==◌, nat_lt, true, false, if◌then◌else◌, List, [], ◌∷◌, length, map, take, Option, Some, None, option_and_then, option_map, slice_get, is_none, Result, Ok, Err, MatchOption, IfSome}
 use Rattle.std.specs.Option.{option_map_or}
+use Rattle.network_model.specs.declared.item.Held.{Held}
 use Rattle.network_model.specs.declared.step.Refusal.{Refusal}
+use Rattle.network_model.specs.declared.step.Step.{Step}
+use Rattle.network_model.specs.declared.step.Step.TheVariants.{LinkUp, LinkDown, SetCost, Deliver, Publish, Release, Attach, Detach}
 use Rattle.network_model.specs.declared.trace.Ending.{Ending}
 use Rattle.network_model.specs.declared.trace.Ending.TheVariants.{Delivered, NoRoute, Unreachable, DeadLink, Crossed}
 use Rattle.network_model.specs.Publication.{Image, image_answer}
 use Rattle.network_model.specs.Run.{Runs}
+use Rattle.network_model.specs.Step.{release_at}
 use Rattle.network_model.specs.Turns.{is_settled}
 use Rattle.network_model.specs.Network.{first_cause}
 use Rattle.network_model.specs.World.{Router, World}
 use Rattle.ipv4_prefix.specs.Prefix.{Prefix}
-use Rattle.world.specs.Steps.{port_refusal}
+use Rattle.world.specs.Steps.{port_refusal, is_stale, DeliveryNeedsMemory}
 use Rattle.c_interface.specs.Rows.{answer_row, prefix_fault}
 use Rattle.c_interface.specs.declared.fault.CallFault.TheVariants.{Empty, BadCount}
 use Rattle.c_interface.specs.declared.row.Row.{Row}
@@ -51,11 +55,26 @@ running_fault parts s = option_map_or (λ f. Some (Given f)) (parts_of_step_faul
 abbrev pub step_fault : StepParts → Option Simulation → Option Failure
 step_fault parts held = option_map_or (λ f. Some (Given f)) (parts_of_step_fault parts) (held_fault (λ s. option_map (λ e. Refused e) (simulation_refusal s (step_of parts))) held)
 
--- refused for this cause, if there is one; else done, unless memory runs out
-abbrev pub IsDoneOrFails : {X : Type 0} → Option Failure → Result X Failure → Type 0
-IsDoneOrFails None (Ok x) = Unit {0}
-IsDoneOrFails None (Err f) = f ≡ Refused Refusal.NoMemory
-IsDoneOrFails (Some f) r = r ≡ Err f
+-- what a step may need memory for: all but a link that goes down, the release of a message that is stale, and a delivery at a router with room
+abbrev pub StepNeedsMemory : Step → World → Type 0
+StepNeedsMemory (LinkUp l) w = Unit {0}
+StepNeedsMemory (LinkDown l) w = ⊥
+StepNeedsMemory (SetCost i q cost) w = Unit {0}
+StepNeedsMemory (Deliver i q) w = DeliveryNeedsMemory w i q
+StepNeedsMemory (Publish i) w = Unit {0}
+StepNeedsMemory (Release i) w = (h : Held) → release_at w i ≡ Some h → is_stale w i h ≡ false
+StepNeedsMemory (Attach i p cost) w = Unit {0}
+StepNeedsMemory (Detach i p) w = Unit {0}
+
+-- the same of the network that a handle holds
+abbrev pub HeldNeedsMemory : Step → Option Simulation → Type 0
+HeldNeedsMemory step held = IfSome held (λ s. StepNeedsMemory step s.world)
+
+-- refused for this cause, if there is one; else done, or refused for want of memory, where it may need some
+abbrev pub IsDoneOrFails : {X : Type 0} → Option Failure → Type 0 → Result X Failure → Type 0
+IsDoneOrFails None Needs (Ok x) = Unit {0}
+IsDoneOrFails None Needs (Err f) = (f ≡ Refused Refusal.NoMemory) × Needs
+IsDoneOrFails (Some f) Needs r = r ≡ Err f
 
 -- these steps were done as far as this place, each lawful
 pub record IsRanTo (parts : List StepParts) (old new : Simulation) (done : ℕ) : Type 0 where
@@ -66,7 +85,7 @@ pub record IsRanTo (parts : List StepParts) (old new : Simulation) (done : ℕ) 
 -- all were done, or the one at this place has a fault or is refused
 abbrev pub StopsBy : List StepParts → Simulation → ℕ → Result (Unit {0}) Failure → Type 0
 StopsBy parts new done (Ok x) = done ≡ length parts
-StopsBy parts new done (Err f) = (p : StepParts) × (slice_get parts done ≡ Some p) × MatchOption (running_fault p new) (f ≡ Refused Refusal.NoMemory) (λ e. f ≡ e)
+StopsBy parts new done (Err f) = (p : StepParts) × (slice_get parts done ≡ Some p) × MatchOption (running_fault p new) ((f ≡ Refused Refusal.NoMemory) × StepNeedsMemory (step_of p) new.world) (λ e. f ≡ e)
 
 -- what the call answers that runs steps: how many were done, and why it stopped
 pub record IsRun (parts : List StepParts) (old new : Simulation) (done status : ℕ) : Type 0 where

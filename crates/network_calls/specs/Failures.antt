@@ -32,6 +32,11 @@ abbrev pub IsStatusBy : Option Failure → ℕ → Type 0
 IsStatusBy (Some f) status = status ≡ failure_number f
 IsStatusBy None status = IsDoneOrFull status
 
+-- the same of a call that may need memory for this alone
+abbrev pub IsStatusOnlyBy : Option Failure → Type 0 → ℕ → Type 0
+IsStatusOnlyBy (Some f) Needs status = status ≡ failure_number f
+IsStatusOnlyBy None Needs status = (status ≡ 0) ⊎ ((status ≡ 20) × Needs)
+
 -- what a call answers that takes no memory, by what its tests find
 abbrev pub status_by : Option Failure → ℕ
 status_by (Some f) = failure_number f

@@ -1,4 +1,5 @@
 pub mod Handles
+pub mod Headline
 pub mod Failures
 pub mod Parts
 pub mod Steps

@@ -5,6 +5,7 @@ ghost use Rattle.simulation.specs.Simulation.{opening_simulation};
 ghost use Rattle.network_model.specs.Network.{widest_limits, AreWithin};
 ghost use Rattle.c_interface.specs.declared.fault.CallFault.TheVariants.{NoMemory as LacksMemory};
 ghost use Rattle.network_calls.specs.declared.failure.Failure.TheVariants.{Given};
+ghost use Rattle.network_calls.specs.Headline.{HasHeadline};
 ghost use Rattle.network_calls.specs.Parts.{limits_of, list_fault, network_failure, parts_network, IsFaultWithin, IsOpeningFault};
 
 use crate::failure::Failure;
@@ -96,6 +97,7 @@ pub fn open_within(
         × (network_failure (limits_of limits.now) routers links.now attachments.now ≡ None)) }
     ensures opened { IfOk result (λ b. b.value
         ≡ opening_simulation (parts_network routers links.now attachments.now)) }
+    ensures headline { IfOk result (λ b. HasHeadline b.value) }
     ensures err { IfErr result
         (IsFaultWithin (limits_of limits.now) routers links.now attachments.now) }
 {
@@ -116,6 +118,7 @@ pub fn open(
         × (network_failure limits routers links.now attachments.now ≡ None)) }
     ensures opened { IfOk result (λ b. b.value
         ≡ opening_simulation (parts_network routers links.now attachments.now)) }
+    ensures headline { IfOk result (λ b. HasHeadline b.value) }
     ensures err { IfErr result (IsOpeningFault (list_fault links.now attachments.now)
         (network_failure limits routers links.now attachments.now)) }
 {
@@ -125,7 +128,8 @@ pub fn open(
 
 /// A network equal to this one, in a box of its own.
 pub fn copy_of(alloc: Global, network: &Running) -> Result<Box<Running>, NoMemory>
-    ensures { IfOk result (λ b. b.value ≡ network.now) }
+    ensures ok { IfOk result (λ b. b.value ≡ network.now) }
+    ensures headline { IfOk result (λ b. HasHeadline b.value) }
 {
     let copy = network.copy(alloc)?;
     let boxed = Box::new(alloc, copy)?;
@@ -134,7 +138,8 @@ pub fn copy_of(alloc: Global, network: &Running) -> Result<Box<Running>, NoMemor
 
 // Opens a network, in a box.
 fn boxed(alloc: Global, network: Network) -> Result<Box<Running>, NoMemory>
-    ensures { IfOk result (λ b. b.value ≡ opening_simulation network) }
+    ensures ok { IfOk result (λ b. b.value ≡ opening_simulation network) }
+    ensures headline { IfOk result (λ b. HasHeadline b.value) }
 {
     let running = Running::open(alloc, network)?;
     let boxed = Box::new(alloc, running)?;
@@ -144,6 +149,7 @@ fn boxed(alloc: Global, network: Network) -> Result<Box<Running>, NoMemory>
 // The same. Only memory can be lacked.
 fn run(alloc: Global, network: Network) -> Result<Box<Running>, (Failure, FaultPlace)>
     ensures ok { IfOk result (λ b. b.value ≡ opening_simulation network) }
+    ensures headline { IfOk result (λ b. HasHeadline b.value) }
     ensures err { IfErr result (λ f. f
         ≡ (Given LacksMemory, record { position = 0; list = 0 })) }
 {

@@ -1,12 +1,13 @@
 //! The network that runs behind a handle.
 
-ghost use Rattle.std.specs.Prelude.{◌≡◌, ◌≤◌, ◌⊎◌, true, IfOk, OnOk, OnErr, MatchOption};
+ghost use Rattle.std.specs.Prelude.{◌≡◌, ◌≤◌, ◌⊎◌, None, true, IfOk, OnOk, OnErr, MatchOption};
 ghost use Rattle.network_model.specs.Step as steps;
 ghost use Rattle.network_model.specs.Turns.{is_settled};
 ghost use Rattle.world.specs.Steps.{IsDoneOr};
 ghost use Rattle.simulation.specs.Settling.{HasTurned, IsStopped};
 ghost use Rattle.simulation.specs.Simulation.{after_step, opening_simulation, simulation_refusal};
-ghost use Rattle.network_calls.specs.Calls.{IsDoneOrFails, IsRanTo, StopsBy, running_fault};
+ghost use Rattle.network_calls.specs.Calls.{IsDoneOrFails, IsRanTo, StepNeedsMemory, StopsBy, running_fault};
+ghost use Rattle.network_calls.specs.Headline.{HasHeadline};
 ghost use Rattle.network_calls.specs.Steps.{step_of};
 
 use crate::failure::Failure;
@@ -33,20 +34,33 @@ impl Model for Running {
 impl Running {
     /// Opens a network.
     pub fn open(alloc: Global, network: Network) -> Result<Running, NoMemory>
-        ensures { IfOk result (λ r. r ≡ opening_simulation network) }
+        ensures ok { IfOk result (λ r. r ≡ opening_simulation network) }
+        ensures headline { IfOk result (λ r. HasHeadline r) }
     {
-        Ok(Running {
+        let running = Running {
             simulation: Simulation::open(alloc, network)?,
-        })
+        };
+        running.holds();
+        Ok(running)
     }
 
     /// An equal network.
     pub fn copy(&self, alloc: Global) -> Result<Running, NoMemory>
-        ensures { IfOk result (λ r. r ≡ self.now) }
+        ensures ok { IfOk result (λ r. r ≡ self.now) }
+        ensures headline { IfOk result (λ r. HasHeadline r) }
     {
-        Ok(Running {
+        let copy = Running {
             simulation: self.simulation.copy(alloc)?,
-        })
+        };
+        copy.holds();
+        Ok(copy)
+    }
+
+    // The four parts of the headline, which hold of every simulation.
+    fn holds(&self)
+        ensures { HasHeadline self.now }
+    {
+        self.simulation.holds();
     }
 
     /// The network.
@@ -56,27 +70,37 @@ impl Running {
         &self.simulation
     }
 
-    /// Does one step. Refused, it leaves all as it was.
+    /// Does one step. Refused, it leaves all as it was. Memory is refused only if the step may need some.
     pub fn step(&mut self, step: Step) -> Result<(), Refusal>
         ensures ok { OnOk result (steps.Lawful (self.old).world step
             × (self.new ≡ after_step self.old step)) }
         ensures err { OnErr result (self.new ≡ self.old) }
         ensures cause { IsDoneOr (simulation_refusal self.old step) result }
+        ensures memory { simulation_refusal self.old step ≡ None
+            → OnErr result (StepNeedsMemory step (self.old).world) }
+        ensures headline { HasHeadline self.new }
     {
-        self.simulation.step(step)
+        let outcome = self.simulation.step(step);
+        self.holds();
+        outcome
     }
 
     /// Reads and does steps in order, up to the first that has a fault or is refused.
     pub fn run(&mut self, parts: &[StepParts]) -> (usize, Result<(), Failure>)
         ensures ran { IsRanTo parts.now self.old self.new result.0 }
         ensures stop { StopsBy parts.now self.new result.0 result.1 }
+        ensures headline { HasHeadline self.new }
     {
         for (place, &part) in parts.iter().enumerate() {
             match self.read_and_step(part) {
                 Ok(()) => {}
-                Err(failure) => return (place, Err(failure)),
+                Err(failure) => {
+                    self.holds();
+                    return (place, Err(failure));
+                }
             }
         }
+        self.holds();
         (parts.len(), Ok(()))
     }
 
@@ -85,8 +109,11 @@ impl Running {
         ensures ok { OnOk result (steps.Lawful (self.old).world (step_of parts)
             × (self.new ≡ after_step self.old (step_of parts))) }
         ensures err { OnErr result (self.new ≡ self.old) }
-        ensures cause { IsDoneOrFails (running_fault parts self.old) result }
+        ensures cause { IsDoneOrFails (running_fault parts self.old)
+            (StepNeedsMemory (step_of parts) (self.old).world) result }
+        ensures headline { HasHeadline self.new }
     {
+        self.holds();
         let step = match parts.read() {
             Ok(step) => step,
             Err(fault) => return Err(Failure::Given(fault)),
@@ -103,7 +130,10 @@ impl Running {
         ensures most { result.done ≤ most }
         ensures stop { MatchOption result.refusal
             ((is_settled (self.new).world ≡ true) ⊎ (result.done ≡ most)) (IsStopped self.new) }
+        ensures headline { HasHeadline self.new }
     {
-        self.simulation.settle(order, most)
+        let ran = self.simulation.settle(order, most);
+        self.holds();
+        ran
     }
 }

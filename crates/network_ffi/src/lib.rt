@@ -19,8 +19,8 @@
 //!
 //! What always holds: the tests have an order. Faults of the numbers come first, then an empty handle, then
 //! the network's own refusal, and want of memory last (`step_fault` in `specs/Calls.antt` of `network_calls`). If a call is
-//! done, the network is what `simulation` says, by the very definitions that its contracts cite. So all that
-//! is proved of a simulation holds of it, for example that no packet circles. If a call is refused, the
+//! done, the network is what `simulation` says, by the very definitions that its contracts cite. The four parts
+//! of the headline are clauses of each call that makes or changes one (`HasHeadline`). If a call is refused, the
 //! network stays as it was, but for the steps that a run or a settling did before. Nothing is written but what
 //! the contract names. Only `tuhvondi_network_new`,
 //! `tuhvondi_network_within`, `tuhvondi_network_copy` and the calls that do steps ask for memory.
@@ -39,11 +39,12 @@ ghost use Rattle.c_interface.specs.Faults.{fault_number};
 ghost use Rattle.single_router.specs.States.{flag};
 ghost use Rattle.simulation.specs.Simulation.{after_step, opening_simulation};
 ghost use Rattle.network_ffi.specs.Handles.{handle_network};
-ghost use Rattle.network_calls.specs.Failures.{failure_number, status_by, IsStatusBy};
+ghost use Rattle.network_calls.specs.Failures.{failure_number, status_by, IsStatusBy, IsStatusOnlyBy};
 ghost use Rattle.network_model.specs.Network.{program_limits, widest_limits, AreWithin};
+ghost use Rattle.network_calls.specs.Headline.{HasHeadline};
 ghost use Rattle.network_calls.specs.Parts.{limits_of, list_fault, network_failure, parts_network, IsNotOpened};
 ghost use Rattle.network_calls.specs.Steps.{parts_of_step, step_of};
-ghost use Rattle.network_calls.specs.Calls.{at_all, at_router, counts_of, lookup_fault, step_fault, IsAnswered, IsFollowed, IsListed, IsRun, IsSettling};
+ghost use Rattle.network_calls.specs.Calls.{at_all, at_router, counts_of, lookup_fault, step_fault, HeldNeedsMemory, IsAnswered, IsFollowed, IsListed, IsRun, IsSettling};
 
 use c_interface::{CallFault, Row};
 use network_calls::{
@@ -75,6 +76,8 @@ pub extern "C" fn tuhvondi_network_new(
     ensures valid { result ≡ 0 → network_failure program_limits routers links.now attachments.now ≡ None }
     ensures done { result ≡ 0 → handle_network network.new
         ≡ Some (opening_simulation (parts_network routers links.now attachments.now)) }
+    ensures headline { result ≡ 0 → IfSome (handle_network network.new) HasHeadline }
+    ensures place { result ≡ 0 → place.new ≡ place.old }
     ensures refused { result ≢ 0 → handle_network network.new ≡ handle_network network.old }
     ensures cause { result ≢ 0 → IsNotOpened program_limits routers links.now attachments.now result place.new }
 {
@@ -113,6 +116,8 @@ pub extern "C" fn tuhvondi_network_within(
         (limits_of limits.now) routers links.now attachments.now ≡ None }
     ensures done { result ≡ 0 → handle_network network.new
         ≡ Some (opening_simulation (parts_network routers links.now attachments.now)) }
+    ensures headline { result ≡ 0 → IfSome (handle_network network.new) HasHeadline }
+    ensures place { result ≡ 0 → place.new ≡ place.old }
     ensures refused { result ≢ 0 → handle_network network.new ≡ handle_network network.old }
     ensures cause { result ≢ 0 → IsNotOpened
         (limits_of limits.now) routers links.now attachments.now result place.new }
@@ -139,6 +144,7 @@ pub extern "C" fn tuhvondi_network_copy(
 ) -> u32
     ensures status { IsStatusBy (at_all (handle_network network.old)) result }
     ensures done { result ≡ 0 → handle_network other.new ≡ handle_network network.old }
+    ensures headline { result ≡ 0 → IfSome (handle_network other.new) HasHeadline }
     ensures refused { result ≢ 0 → handle_network other.new ≡ handle_network other.old }
     ensures network { handle_network network.new ≡ handle_network network.old }
 {
@@ -158,12 +164,14 @@ pub extern "C" fn tuhvondi_network_copy(
 
 // Does a step of a handle's network.
 fn do_step(alloc: Global, network: &mut NetworkHandle, parts: StepParts) -> Result<(), Failure>
-    ensures ok { OnOk result (IsStatusBy (step_fault parts (handle_network network.old)) 0) }
+    ensures ok { OnOk result (IsStatusOnlyBy (step_fault parts (handle_network network.old))
+        (HeldNeedsMemory (step_of parts) (handle_network network.old)) 0) }
     ensures stepped { OnOk result (handle_network network.new
         ≡ option_map (λ s. after_step s (step_of parts)) (handle_network network.old)) }
+    ensures headline { OnOk result (IfSome (handle_network network.new) HasHeadline) }
     ensures unchanged { OnErr result (handle_network network.new ≡ handle_network network.old) }
-    ensures err { IfErr result (λ f. IsStatusBy
-        (step_fault parts (handle_network network.old)) (failure_number f)) }
+    ensures err { IfErr result (λ f. IsStatusOnlyBy (step_fault parts (handle_network network.old))
+        (HeldNeedsMemory (step_of parts) (handle_network network.old)) (failure_number f)) }
 {
     if let Err(fault) = parts.read() {
         return Err(Failure::Given(fault));
@@ -183,9 +191,11 @@ pub extern "C" fn tuhvondi_network_step(
     network: &mut NetworkHandle,
     parts: &StepParts,
 ) -> u32
-    ensures status { IsStatusBy (step_fault parts.now (handle_network network.old)) result }
+    ensures status { IsStatusOnlyBy (step_fault parts.now (handle_network network.old))
+        (HeldNeedsMemory (step_of parts.now) (handle_network network.old)) result }
     ensures done { result ≡ 0 → handle_network network.new
         ≡ option_map (λ s. after_step s (step_of parts.now)) (handle_network network.old) }
+    ensures headline { result ≡ 0 → IfSome (handle_network network.new) HasHeadline }
     ensures refused { result ≢ 0 → handle_network network.new ≡ handle_network network.old }
 {
     status(do_step(alloc, network, *parts))
@@ -201,6 +211,7 @@ pub extern "C" fn tuhvondi_network_run(
 ) -> u32
     ensures some { IfSome (handle_network network.old) (λ s. IfSome (handle_network network.new)
         (λ t. IsRun steps.now s t done.new result)) }
+    ensures headline { IfSome (handle_network network.new) HasHeadline }
     ensures kept { is_some (handle_network network.new) ≡ is_some (handle_network network.old) }
     ensures none { IfNone (handle_network network.old)
         ((result ≡ fault_number CallFault.Empty) × (done.new ≡ done.old)) }
@@ -253,6 +264,7 @@ pub extern "C" fn tuhvondi_network_settle(
 ) -> u32
     ensures some { IfSome (handle_network network.old) (λ s. IfSome (handle_network network.new)
         (λ t. IsSettling s t most done.new result)) }
+    ensures headline { IfSome (handle_network network.new) HasHeadline }
     ensures kept { is_some (handle_network network.new) ≡ is_some (handle_network network.old) }
     ensures none { IfNone (handle_network network.old)
         ((result ≡ fault_number CallFault.Empty) × (done.new ≡ done.old)) }

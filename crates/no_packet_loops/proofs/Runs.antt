@@ -143,10 +143,10 @@ module _ (n : Network) (N : IsWired n) (p : Prefix) (w : World) (pfd : ℕ → �
       (λ r router_at first x is k there. releases_there n N p w pfd K i r router_at h (front_of r h first) x is k there)
 
   -- a step is one of the view, which goes on showing the feasible distance that each router had when it published last
-  record Stepped (s : Step) : Type 0 where
-    fd_then : ℕ → ℕ
-    is_kept : StepKept n N p w pfd (next w s) fd_then
-    fds_then : (rs : List Router) → ((i : ℕ) → pfd i ≡ fd_in rs p i) → length rs ≡ length w.routers → (i : ℕ) → fd_then i ≡ fd_in (published_after w rs s) p i
+  pub record Stepped (s : Step) : Type 0 where
+    pub fd_then : ℕ → ℕ
+    pub is_kept : StepKept n N p w pfd (next w s) fd_then
+    pub fds_then : (rs : List Router) → ((i : ℕ) → pfd i ≡ fd_in rs p i) → length rs ≡ length w.routers → (i : ℕ) → fd_then i ≡ fd_in (published_after w rs s) p i
 
   -- a step that publishes nothing leaves the published feasible distances
   same_fds : (rs : List Router) → ((i : ℕ) → pfd i ≡ fd_in rs p i) → length rs ≡ length w.routers → (i : ℕ) → pfd i ≡ fd_in rs p i
@@ -170,7 +170,7 @@ module _ (n : Network) (N : IsWired n) (p : Prefix) (w : World) (pfd : ℕ → �
       ]
 
   -- every lawful step is one of the view
-  stepped : (s : Step) → Lawful w s → Stepped s
+  pub stepped : (s : Step) → Lawful w s → Stepped s
   stepped (LinkUp l) L = record { fd_then = pfd; is_kept = link_up n N p w pfd K l L.0 L.1 L.2; fds_then = same_fds }
   stepped (LinkDown l) L = record { fd_then = pfd; is_kept = link_down n N p w pfd K l L.0 L.1 L.2; fds_then = same_fds }
   stepped (SetCost i q cost) L = record { fd_then = pfd; is_kept = set_cost i q cost L.1 L.3 L.4 (L.5).positive; fds_then = same_fds }

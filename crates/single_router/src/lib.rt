@@ -30,9 +30,9 @@
 //! of another session (36).
 //!
 //! What is proved of many such routers, each in a process of its own, stands above this crate, because it
-//! speaks of its definitions. `daemon_laws::no_packet_circles`: no packet meets a router twice, whatever
-//! happens. `daemon_laws::none_refused` and `daemons_come_to_rest::processes_converge` say the rest.
-//! docs/daemons.md has the five duties that these laws ask of a program.
+//! speaks of its definitions. `daemon_laws::no_daemon_packet_circles`: no packet meets a router twice,
+//! whatever happens. `daemon_laws::none_refused` and `daemons_come_to_rest::processes_converge` say the rest.
+//! docs/daemons.md has the six duties that these laws ask of a program.
 //!
 //! Where there was a choice:
 //!

@@ -36,13 +36,14 @@
 ghost use Rattle.std.specs.Prelude.{◌≡◌, ◌≢◌, None, Some, false, true, IfNone, IfSome, is_some, option_map};
 ghost use Rattle.c_interface.specs.Faults.{fault_number};
 ghost use Rattle.network_model.specs.Network.{widest_limits, AreWithin};
+ghost use Rattle.network_calls.specs.Headline.{HasHeadline};
 ghost use Rattle.network_calls.specs.Parts.{limits_of, list_fault, network_failure};
 ghost use Rattle.network_calls.specs.Steps.{step_of};
 ghost use Rattle.timed_simulation.specs.Events.{next_event};
 ghost use Rattle.timed_simulation.specs.Runs.{IsAtRest};
 ghost use Rattle.timed_simulation.specs.Timed.{with_change};
 ghost use Rattle.timed_reports.specs.Recordings.{with_timed, without_first, GoesOn, IsOpened};
-ghost use Rattle.timed_ffi.specs.Handles.{handle_recording, handle_timed};
+ghost use Rattle.timed_ffi.specs.Handles.{handle_recording, handle_timed, timed_network};
 ghost use Rattle.timed_ffi.specs.Parts.{is_counted, opening_parts, parts_of_event, IsTimedNotOpened};
 ghost use Rattle.timed_ffi.specs.Calls.{first_change, given_number, IsFlagOf, IsNumberBy, IsRunToRest, IsRunUntil};
 
@@ -86,6 +87,8 @@ pub extern "C" fn tuhvondi_timed_new(
     ensures done { result ≡ 0 → handle_timed timed.new ≡ Some
         (opening_parts routers links.now attachments.now delays.now publications.now) }
     ensures form { result ≡ 0 → IfSome (handle_recording timed.new) (IsOpened false) }
+    ensures headline { result ≡ 0 → IfSome (timed_network timed.new) HasHeadline }
+    ensures place { result ≡ 0 → place.new ≡ place.old }
     ensures refused { result ≢ 0 → handle_recording timed.new ≡ handle_recording timed.old }
     ensures cause { result ≢ 0 → IsTimedNotOpened (limits_of limits.now)
         routers links.now attachments.now delays.now publications.now result place.new }
@@ -175,6 +178,7 @@ pub extern "C" fn tuhvondi_timed_run_until(
     ensures recorded { IfSome (handle_recording timed.old) (λ s. IfSome (handle_recording timed.new)
         (λ t. GoesOn s t done.new)) }
     ensures kept { is_some (handle_timed timed.new) ≡ is_some (handle_timed timed.old) }
+    ensures headline { IfSome (timed_network timed.new) HasHeadline }
     ensures none { IfNone (handle_timed timed.old)
         ((result ≡ fault_number CallFault.Empty) × (done.new ≡ done.old)) }
 {
@@ -204,6 +208,7 @@ pub extern "C" fn tuhvondi_timed_run_to_rest(
     ensures recorded { IfSome (handle_recording timed.old) (λ s. IfSome (handle_recording timed.new)
         (λ t. GoesOn s t done.new)) }
     ensures kept { is_some (handle_timed timed.new) ≡ is_some (handle_timed timed.old) }
+    ensures headline { IfSome (timed_network timed.new) HasHeadline }
     ensures none { IfNone (handle_timed timed.old)
         ((result ≡ fault_number CallFault.Empty) × (done.new ≡ done.old)) }
 {

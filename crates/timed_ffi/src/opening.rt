@@ -2,6 +2,7 @@
 
 ghost use Rattle.std.specs.Prelude.{◌≡◌, None, true, length, map, IfErr, IfOk, OnOk};
 ghost use Rattle.network_model.specs.Network.{widest_limits, AreWithin};
+ghost use Rattle.network_calls.specs.Headline.{HasHeadline};
 ghost use Rattle.network_calls.specs.Parts.{limits_of, list_fault, network_failure};
 ghost use Rattle.timed_simulation.specs.Timed.{opening_timed};
 ghost use Rattle.timed_reports.specs.Recordings.{timed_in, IsOpened};
@@ -40,6 +41,7 @@ pub fn open(
     ensures opened { IfOk result (λ b. timed_in b.value
         ≡ opening_parts routers links.now attachments.now delays.now publications.now) }
     ensures form { IfOk result (λ b. IsOpened records b.value) }
+    ensures headline { IfOk result (λ b. HasHeadline (timed_in b.value).simulation) }
     ensures err { IfErr result (IsTimedFault (limits_of limits.now)
         routers links.now attachments.now delays.now publications.now) }
 {
@@ -80,6 +82,7 @@ fn boxed(
     ensures opened { IfOk result (λ b. timed_in b.value
         ≡ opening_timed network (map delays_of delays.now) publications.now) }
     ensures form { IfOk result (λ b. IsOpened records b.value) }
+    ensures headline { IfOk result (λ b. HasHeadline (timed_in b.value).simulation) }
 {
     let read = read_delays(alloc, delays)?;
     let opened = RunningTimed::open(alloc, records, network, &read, publications)?;

@@ -2,11 +2,12 @@
 
 ghost use Rattle.std.specs.Prelude.{◌≡◌, ◌≢◌, None, Some, drop, true, IfNone, IfSome};
 ghost use Rattle.network_model.specs.Network.{widest_limits, AreWithin};
+ghost use Rattle.network_calls.specs.Headline.{HasHeadline};
 ghost use Rattle.network_calls.specs.Parts.{limits_of, list_fault, network_failure};
 ghost use Rattle.network_calls.specs.Shown.{AreShownOver};
 ghost use Rattle.single_router.specs.States.{flag};
 ghost use Rattle.timed_reports.specs.Recordings.{IsOpened};
-ghost use Rattle.timed_ffi.specs.Handles.{handle_recording, handle_report, handle_timed};
+ghost use Rattle.timed_ffi.specs.Handles.{handle_recording, handle_report, handle_timed, timed_network};
 ghost use Rattle.timed_ffi.specs.Parts.{is_counted, opening_parts, IsTimedNotOpened};
 ghost use Rattle.timed_ffi.specs.Spells.{ended_shown, going_on, going_shown, record_number};
 
@@ -55,6 +56,8 @@ pub extern "C" fn tuhvondi_timed_recorded(
     ensures done { result ≡ 0 → handle_timed timed.new ≡ Some
         (opening_parts routers links.now attachments.now delays.now publications.now) }
     ensures form { result ≡ 0 → IfSome (handle_recording timed.new) (IsOpened true) }
+    ensures headline { result ≡ 0 → IfSome (timed_network timed.new) HasHeadline }
+    ensures place { result ≡ 0 → place.new ≡ place.old }
     ensures refused { result ≢ 0 → handle_recording timed.new ≡ handle_recording timed.old }
     ensures cause { result ≢ 0 → IsTimedNotOpened (limits_of limits.now)
         routers links.now attachments.now delays.now publications.now result place.new }

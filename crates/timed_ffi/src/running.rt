@@ -2,6 +2,7 @@
 
 ghost use Rattle.std.specs.Prelude.{◌≡◌, ◌≢◌, ◌<◌, ◌≤◌, ◌⊎◌, None, Some, false, IfOk, IfSome, MatchOption, length};
 ghost use Rattle.coming_to_rest.specs.Worlds.{is_own};
+ghost use Rattle.network_calls.specs.Headline.{HasHeadline};
 ghost use Rattle.timed_simulation.specs.Timed.{opening_timed, with_change};
 ghost use Rattle.timed_simulation.specs.Events.{next_event};
 ghost use Rattle.timed_simulation.specs.Due.{IsDoneUntil, NothingIsLate};
@@ -47,9 +48,19 @@ impl RunningTimed {
         ensures opened { IfOk result (λ r. timed_in r
             ≡ opening_timed network delays.now publications.now) }
         ensures form { IfOk result (λ r. IsOpened records r) }
+        ensures headline { IfOk result (λ r. HasHeadline (timed_in r).simulation) }
     {
         let recording = Recording::open(alloc, records, network, delays, publications)?;
-        Ok(RunningTimed { recording })
+        let running = RunningTimed { recording };
+        running.holds();
+        Ok(running)
+    }
+
+    // The four parts of the headline, which hold at every moment.
+    fn holds(&self)
+        ensures { HasHeadline (timed_in self.now).simulation }
+    {
+        self.timed().holds();
     }
 
     // The network in simulated time.
@@ -136,8 +147,11 @@ impl RunningTimed {
         ensures short { IfSome result.fault
             (λ _. IsStoppedShort moment most result.done (timed_in self.new)) }
         ensures on_time { NothingIsLate (timed_in self.new) }
+        ensures headline { HasHeadline (timed_in self.new).simulation }
     {
-        self.recording.run_until(moment, most)
+        let ran = self.recording.run_until(moment, most);
+        self.holds();
+        ran
     }
 
     /// Does all that is left to do, at most so many events.
@@ -149,7 +163,10 @@ impl RunningTimed {
             (IsAtRest (timed_in self.new) ⊎ (result.done ≡ most)) (IsStoppedAt (timed_in self.new)) }
         ensures fewer { IfSome result.fault (λ _. result.done < most) }
         ensures on_time { NothingIsLate (timed_in self.new) }
+        ensures headline { HasHeadline (timed_in self.new).simulation }
     {
-        self.recording.run_to_rest(most)
+        let ran = self.recording.run_to_rest(most);
+        self.holds();
+        ran
     }
 }

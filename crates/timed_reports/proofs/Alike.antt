@@ -1,5 +1,5 @@
 -- Steps that move no way: links stay up or down in their sessions, and rows that were published and attachments stay.
-use Rattle.std.proofs.Common.{refl, sym, ap, subst, ◌∙◌, ◌≡◌, ℕ, ◌+◌, Bool, true, false, List, [], ◌∷◌, map, Option, Some, None, option_map, option_and_then, slice_get}
+use Rattle.std.proofs.Common.{refl, sym, ap, subst, ◌∙◌, ◌≡◌, ℕ, ◌+◌, Bool, false, List, [], ◌∷◌, map, Option, Some, None, option_map, option_and_then, slice_get}
 use Rattle.std.specs.FinMap.{find as row_of}
 use Rattle.no_packet_loops.proofs.Common.{option_map_or, option_map_or-ind, map-changed_at, slice_get-map, false≢true, None_not_Some, Some_injective, prefix_cmp, Prefix, Item, Held, End, A, B, Link, Router, Attachments, World, Place, side, other, changed_at, changed_side, changed_router, changed_link, changed_attachments, with_cost, with_item, with_front_taken, with_message, with_notice_taken, with_delivered, with_noticed, with_released, router_accepting, router_at_home, router_releasing, front_at, notice_at, release_at, place_at, next}
 use Rattle.network_model.specs.declared.route.Entry.{Entry}

@@ -1,5 +1,5 @@
 -- Whether a machine is in a computation, as its router tells.
-use Rattle.std.proofs.Common.{refl, sym, ap, ◌∙◌, arith, ◌≡◌, ◌↔◌, ℕ, ◌≤◌, IsTrue, Bool, true, false, not, Option, Some, None, is_none, is_some, length, slice_get, unwrap_or}
+use Rattle.std.proofs.Common.{refl, sym, ap, ◌∙◌, arith, ◌≡◌, ◌↔◌, ℕ, ◌≤◌, IsTrue, Bool, false, not, Option, Some, None, is_none, is_some, length, slice_get, unwrap_or}
 use Rattle.std.specs.FinMap.{find as row_of}
 use Rattle.no_packet_loops.proofs.Common.{false≢true, slice_get_within, Some_injective, prefix_cmp, Prefix, Machine, Router, World}
 use Rattle.network_model.specs.Machine.{Computation, opening_machine}

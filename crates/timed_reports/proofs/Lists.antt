@@ -1,5 +1,5 @@
 -- Elements of lists, by their places: after a push and after a write.
-use Rattle.std.proofs.Common.{refl, sym, ap, subst, ◌∙◌, arith, inl, inr, append-nil, append_assoc, ◌≡◌, ◌≢◌, ◌⊎◌, ℕ, zero, suc, ◌<◌, List, [], ◌∷◌, ◌++◌, map, length, set, Some, slice_get}
+use Rattle.std.proofs.Common.{refl, sym, ap, subst, ◌∙◌, arith, inl, inr, append-nil, append_assoc, ◌≡◌, ◌≢◌, ◌⊎◌, ℕ, zero, suc, ◌+◌, ◌<◌, List, [], ◌∷◌, ◌++◌, map, length, set, Some, slice_get}
 use mathlib.Core.List.{IsPrefix}
 use Rattle.no_packet_loops.proofs.Common.{None_not_Some, Some_injective}
 use Rattle.timed_reports.specs.Records.{IsListed}
@@ -13,6 +13,24 @@ module _ {A : Type 0} where
 
   pub listed_first : (x : A) (xs ys : List A) → IsListed x xs → IsListed x (xs ++ ys)
   listed_first x xs ys (k, at) = (k, get_first xs ys k x at)
+
+  -- and what stands behind one
+  pub get_next : (k : ℕ) (z : A) (xs : List A) (x : A) → slice_get xs k ≡ Some x → slice_get (z ∷ xs) (k + 1) ≡ Some x
+  get_next k z xs x at = (let on : k + 1 ≡ suc k = omega arith in ap (slice_get (z ∷ xs)) on ∙ at)
+
+  pub listed_behind : (x : A) (xs ys : List A) → IsListed x ys → IsListed x (xs ++ ys)
+  listed_behind x [] ys listed = listed
+  listed_behind x (z ∷ xs) ys listed = (let (k, at) = listed_behind x xs ys listed in (suc k, at))
+
+  -- what stands in two lists stands in one of them
+  pub listed_either : (x : A) (xs ys : List A) → IsListed x (xs ++ ys) → IsListed x xs ⊎ IsListed x ys
+  listed_either x [] ys listed = inr listed
+  listed_either x (z ∷ xs) ys (zero, at) = inl (0, at)
+  listed_either x (z ∷ xs) ys (suc k, at) = by_place (listed_either x xs ys (k, at))
+    where
+      by_place : IsListed x xs ⊎ IsListed x ys → IsListed x (z ∷ xs) ⊎ IsListed x ys
+      by_place (inl (j, there)) = inl (suc j, there)
+      by_place (inr there) = inr there
 
   -- what was pushed stands there
   pub listed_last : (x : A) (xs : List A) → IsListed x (xs ++ x ∷ [])

@@ -1,13 +1,81 @@
 -- Looks at one after another.
-use Rattle.std.proofs.Common.{refl, sym, ap, subst, ◌∙◌, arith, inl, inr, length-set, append-nil, ◌≡◌, ◌≢◌, ◌⊎◌, ◌↔◌, ℕ, ◌+◌, ◌<◌, ◌≤◌, IsTrue, Bool, true, false, List, [], ◌++◌, length, get_or, set, Option, Some, None, option_map, option_to_list, slice_get}
+use Rattle.std.proofs.Common.{refl, sym, ap, subst, ◌∙◌, arith, inl, inr, length-set, append-nil, append_assoc, ◌≡◌, ◌≢◌, ◌⊎◌, ◌↔◌, ℕ, zero, suc, ◌+◌, ◌<◌, ◌≤◌, IsTrue, Bool, true, false, List, [], ◌∷◌, ◌++◌, take, length, get_or, set, Option, Some, None, option_map, option_to_list, slice_get}
 use Rattle.std.proofs.lemmas.Bool.{cases_lt}
+use Rattle.std.proofs.lemmas.List.{take_more}
+use Rattle.std.proofs.lemmas.Option.{get_or_from_slice_get, slice_get_within}
 use Rattle.network_model.specs.World.{World}
-use Rattle.no_packet_loops.proofs.Common.{Some_injective, false≢true}
+use Rattle.no_packet_loops.proofs.Common.{None_not_Some, Some_injective, false≢true}
 use Rattle.timed_reports.specs.declared.spells.Spell.{Spell}
 use Rattle.timed_reports.specs.declared.spells.Watched.{Watched}
-use Rattle.timed_reports.specs.Records.{AreLooked, HoldsOf, IsEnding, IsListed, IsLooked, IsSeen, Kind, ended_by, seen, spell}
+use Rattle.timed_reports.specs.Records.{AreLooked, EndByLooks, HoldsOf, IsListed, IsLooked, IsSeen, Kind, ended_by, seen, spell}
 use Rattle.timed_reports.proofs.Watching.{read_is}
-use Rattle.timed_reports.proofs.Lists.{get_within, listed_first, listed_last, listed_pushed, prefix_longer, prefix_same, set_other, set_same}
+use Rattle.timed_reports.proofs.Lists.{get_next, get_within, listed_behind, set_other, set_same}
+
+-- ---- what ends by looks
+
+module _ (K : Kind) (v : World) (now : ℕ) (Aside : Watched → Type 0) where
+  abbrev Ends : List Watched → List Spell → Type 0
+  Ends cs ss = EndByLooks K v now Aside cs ss
+
+  -- where all are left aside, nothing does
+  none_end : ((c : Watched) → Aside c) → (cs : List Watched) → Ends cs []
+  none_end aside [] = refl
+  none_end aside (c ∷ cs) = inl (aside c, none_end aside cs)
+
+  -- one more is left aside
+  end_beside : (cs : List Watched) (ss : List Spell) (c : Watched) → Ends cs ss → Aside c → Ends (cs ++ c ∷ []) ss
+  end_beside [] ss c E aside = inl (aside, E)
+  end_beside (d ∷ cs) ss c (inl (beside, E)) aside = inl (beside, end_beside cs ss c E aside)
+  end_beside (d ∷ cs) ss c (inr (holds, rest, is, all, E)) aside = inr (holds, rest, is, all, end_beside cs rest c E aside)
+
+  -- one more was looked at
+  end_more : (cs : List Watched) (ss : List Spell) (c : Watched) (holds : Bool) → Ends cs ss → (IsTrue holds ↔ HoldsOf K v c) → Ends (cs ++ c ∷ []) (ss ++ option_to_list (ended_by now holds c))
+  end_more [] ss c holds none is =
+      inr (holds, [], is, ap (λ (xs : List Spell). xs ++ option_to_list (ended_by now holds c)) none ∙ sym (append-nil (option_to_list (ended_by now holds c))), refl)
+  end_more (d ∷ cs) ss c holds (inl (beside, E)) is = inl (beside, end_more cs ss c holds E is)
+  end_more (d ∷ cs) ss c holds (inr (held, rest, was, all, E)) is =
+      inr (
+        held,
+        rest ++ option_to_list (ended_by now holds c),
+        was,
+        ap (λ (xs : List Spell). xs ++ option_to_list (ended_by now holds c)) all ∙ append_assoc (option_to_list (ended_by now held d)) rest (option_to_list (ended_by now holds c)),
+        end_more cs rest c holds E is,
+      )
+
+  -- what ended stood there, and does not hold
+  pub ending : (P : Spell → Type 0) (cs : List Watched) (ss : List Spell) → Ends cs ss → ((x : ℕ) (c : Watched) (from : ℕ) → slice_get cs x ≡ Some c → c.since ≡ Some from → (HoldsOf K v c → ⊥) → P (spell c.router c.prefix from now)) → (s : Spell) → IsListed s ss → P s
+  ending P [] ss none each s (k, at) = absurd (None_not_Some (ap (λ (xs : List Spell). slice_get xs k) (sym none) ∙ at))
+  ending P (c ∷ cs) ss (inl (beside, E)) each s listed = ending P cs ss E (λ x d from there. each (x + 1) d from (get_next x c cs d there)) s listed
+  ending P (c ∷ cs) ss (inr (holds, rest, is, all, E)) each s listed = by_first (ending P cs rest E (λ x d from there. each (x + 1) d from (get_next x c cs d there)) s) holds is c.since refl (subst (IsListed s) all listed)
+    where
+      by_first : (IsListed s rest → P s) → (b : Bool) → (IsTrue b ↔ HoldsOf K v c) → (o : Option ℕ) → c.since ≡ o → IsListed s (option_to_list (ended_by now b c) ++ rest) → P s
+      by_first later true is o began there = later there
+      by_first later false is None began there = later (subst (λ (o : Option ℕ). IsListed s (option_to_list (option_map (λ f. spell c.router c.prefix f now) o) ++ rest)) began there)
+      by_first later false is (Some from) began there = by_place (subst (λ (o : Option ℕ). IsListed s (option_to_list (option_map (λ f. spell c.router c.prefix f now) o) ++ rest)) began there)
+        where
+          by_place : IsListed s (spell c.router c.prefix from now ∷ rest) → P s
+          by_place (zero, at) = subst P (Some_injective at) (each 0 c from refl began (λ so. false≢true (is.1 so)))
+          by_place (suc k, at) = later (k, at)
+
+  -- and what does not hold any more, ended
+  pub is_ended : (cs : List Watched) (ss : List Spell) → Ends cs ss → (x : ℕ) (c : Watched) (from : ℕ) → slice_get cs x ≡ Some c → c.since ≡ Some from → Aside c ⊎ HoldsOf K v c ⊎ IsListed (spell c.router c.prefix from now) ss
+  is_ended [] ss none x c from at began = absurd (None_not_Some at)
+  is_ended (d ∷ cs) ss (inl (beside, E)) zero c from at began = inl (subst Aside (Some_injective at) beside)
+  is_ended (d ∷ cs) ss (inl (beside, E)) (suc x) c from at began = is_ended cs ss E x c from at began
+  is_ended (d ∷ cs) ss (inr (holds, rest, is, all, E)) zero c from at began = inr (by_holds holds is all)
+    where
+      same : d ≡ c
+      same = Some_injective at
+
+      by_holds : (b : Bool) → (IsTrue b ↔ HoldsOf K v d) → ss ≡ option_to_list (ended_by now b d) ++ rest → HoldsOf K v c ⊎ IsListed (spell c.router c.prefix from now) ss
+      by_holds true is all = inl (subst (HoldsOf K v) same (is.0 refl))
+      by_holds false is all = inr (0, ap (λ (xs : List Spell). slice_get xs 0) (all ∙ ap (λ (z : Watched). option_to_list (ended_by now false z) ++ rest) same ∙ ap (λ (o : Option ℕ). option_to_list (option_map (λ f. spell c.router c.prefix f now) o) ++ rest) began))
+  is_ended (d ∷ cs) ss (inr (holds, rest, is, all, E)) (suc x) c from at began = by_rest (is_ended cs rest E x c from at began)
+    where
+      by_rest : Aside c ⊎ HoldsOf K v c ⊎ IsListed (spell c.router c.prefix from now) rest → Aside c ⊎ HoldsOf K v c ⊎ IsListed (spell c.router c.prefix from now) ss
+      by_rest (inl aside) = inl aside
+      by_rest (inr (inl so)) = inr (inl so)
+      by_rest (inr (inr there)) = inr (inr (subst (IsListed (spell c.router c.prefix from now)) (sym all) (listed_behind (spell c.router c.prefix from now) (option_to_list (ended_by now holds d)) rest there)))
 
 module _ (K : Kind) (v : World) (now : ℕ) (Aside : Watched → Type 0) (old : List Watched) (before : List Spell) where
   abbrev Looked : ℕ → List Watched → List Spell → Type 0
@@ -19,10 +87,7 @@ module _ (K : Kind) (v : World) (now : ℕ) (Aside : Watched → Type 0) (old : 
     as_many = refl;
     looked = λ x c d below. absurd (omega (arith, below));
     rest = λ x past. refl;
-    grown = prefix_same before;
-    kept = λ s listed. listed;
-    made = λ s listed. inl listed;
-    listed = λ x c from below. absurd (omega (arith, below));
+    ended = ([], sym (append-nil before), refl);
   }
 
   -- all are left aside
@@ -31,10 +96,7 @@ module _ (K : Kind) (v : World) (now : ℕ) (Aside : Watched → Type 0) (old : 
     as_many = refl;
     looked = λ x c d below at there. inl (Some_injective (sym there ∙ at), aside c);
     rest = λ x past. refl;
-    grown = prefix_same before;
-    kept = λ s listed. listed;
-    made = λ s listed. inl listed;
-    listed = λ x c from below at began. inl (aside c);
+    ended = ([], sym (append-nil before), none_end K v now Aside aside (take (length old) old));
   }
 
   module _ (below : ℕ) (cs : List Watched) (after : List Spell) (L : Looked below cs after) (c : Watched) (at : slice_get cs below ≡ Some c) where
@@ -42,16 +104,17 @@ module _ (K : Kind) (v : World) (now : ℕ) (Aside : Watched → Type 0) (old : 
     at_old : slice_get old below ≡ Some c
     at_old = sym (L.rest below (omega arith)) ∙ at
 
+    -- the first ones with it
+    first_more : take (below + 1) old ≡ take below old ++ c ∷ []
+    first_more = take_more old below c (slice_get_within old below c at_old) ∙ ap (λ (d : Watched). take below old ++ d ∷ []) (get_or_from_slice_get old below c c at_old)
+
     -- one more is left aside
     pub looked_beside : Aside c → Looked (below + 1) cs after
     looked_beside aside = record {
       as_many = L.as_many;
       looked = λ x b d less was there. by_place_looked x b d was there (cases_lt x below) less;
       rest = λ x past. L.rest x (omega (arith, past));
-      grown = L.grown;
-      kept = L.kept;
-      made = L.made;
-      listed = λ x b from less was began. by_place_listed x b from was began (cases_lt x below) less;
+      ended = ((L.ended).0, (L.ended).1, subst (λ (xs : List Watched). EndByLooks K v now Aside xs (L.ended).0) (sym first_more) (end_beside K v now Aside (take below old) (L.ended).0 c (L.ended).2 aside));
     }
       where
         by_place_looked : (x : ℕ) (b d : Watched) → slice_get old x ≡ Some b → slice_get cs x ≡ Some d → (x < below) ⊎ (below ≤ x) → x < below + 1 → ((d ≡ b) × Aside b) ⊎ IsSeen K v now b d
@@ -62,23 +125,17 @@ module _ (K : Kind) (v : World) (now : ℕ) (Aside : Watched → Type 0) (old : 
             let is : d ≡ b = Some_injective (sym there ∙ L.rest x over ∙ was) in
             inl (is, subst Aside same aside)
 
-        by_place_listed : (x : ℕ) (b : Watched) (from : ℕ) → slice_get old x ≡ Some b → b.since ≡ Some from → (x < below) ⊎ (below ≤ x) → x < below + 1 → Aside b ⊎ HoldsOf K v b ⊎ IsListed (spell b.router b.prefix from now) after
-        by_place_listed x b from was began (inl lower) less = L.listed x b from lower was began
-        by_place_listed x b from was began (inr over) less =
-            let here : x ≡ below = omega (arith, over, less) in
-            let same : c ≡ b = Some_injective (sym at_old ∙ ap (slice_get old) (sym here) ∙ was) in
-            inl (subst Aside same aside)
-
     -- one more was looked at
     pub looked_more : (holds : Bool) → (IsTrue holds ↔ HoldsOf K v c) → Looked (below + 1) (set cs below (seen now holds c)) (after ++ option_to_list (ended_by now holds c))
     looked_more holds rightly = record {
       as_many = length-set cs below (seen now holds c) ∙ L.as_many;
       looked = λ x b d less was there. by_place_looked x b d was there (cases_lt x below) less;
       rest = λ x past. (let apart : x ≢ below = λ (e : x ≡ below). omega (arith, past, e) in set_other cs below x (seen now holds c) apart ∙ L.rest x (omega (arith, past)));
-      grown = prefix_longer before after (option_to_list (ended_by now holds c)) L.grown;
-      kept = λ s listed. listed_first s after (option_to_list (ended_by now holds c)) (L.kept s listed);
-      made = λ s listed. by_end holds rightly c.since refl s listed;
-      listed = λ x b from less was began. by_place_listed x b from was began (cases_lt x below) less;
+      ended = (
+        (L.ended).0 ++ option_to_list (ended_by now holds c),
+        ap (λ (xs : List Spell). xs ++ option_to_list (ended_by now holds c)) (L.ended).1 ∙ append_assoc before (L.ended).0 (option_to_list (ended_by now holds c)),
+        subst (λ (xs : List Watched). EndByLooks K v now Aside xs ((L.ended).0 ++ option_to_list (ended_by now holds c))) (sym first_more) (end_more K v now Aside (take below old) (L.ended).0 c holds (L.ended).2 rightly),
+      );
     }
       where
         by_place_looked : (x : ℕ) (b d : Watched) → slice_get old x ≡ Some b → slice_get (set cs below (seen now holds c)) x ≡ Some d → (x < below) ⊎ (below ≤ x) → x < below + 1 → ((d ≡ b) × Aside b) ⊎ IsSeen K v now b d
@@ -90,43 +147,6 @@ module _ (K : Kind) (v : World) (now : ℕ) (Aside : Watched → Type 0) (old : 
             let same : c ≡ b = Some_injective (sym at_old ∙ ap (slice_get old) (sym here) ∙ was) in
             let is : seen now holds c ≡ d = Some_injective (sym (set_same cs below c (seen now holds c) at) ∙ ap (slice_get (set cs below (seen now holds c))) (sym here) ∙ there) in
             inr (subst (λ (z : Watched). IsSeen K v now z d) same (record { holds = holds; rightly = rightly; written = sym is }))
-
-        -- what stands among the spells stood there, or ends now
-        by_end : (b : Bool) → (IsTrue b ↔ HoldsOf K v c) → (o : Option ℕ) → c.since ≡ o → (s : Spell) → IsListed s (after ++ option_to_list (ended_by now b c)) → IsListed s before ⊎ IsEnding K v now old s
-        by_end true is o began s listed = by_old (listed_before s listed)
-          where
-            listed_before : (s : Spell) → IsListed s (after ++ []) → IsListed s after
-            listed_before s (k, there) = (k, ap (λ (xs : List Spell). slice_get xs k) (sym (append-nil after)) ∙ there)
-
-            by_old : IsListed s after → IsListed s before ⊎ IsEnding K v now old s
-            by_old there = L.made s there
-        by_end false is None began s listed = L.made s (by_none (subst (λ (o : Option ℕ). IsListed s (after ++ option_to_list (option_map (λ f. spell c.router c.prefix f now) o))) began listed))
-          where
-            by_none : IsListed s (after ++ []) → IsListed s after
-            by_none (k, there) = (k, ap (λ (xs : List Spell). slice_get xs k) (sym (append-nil after)) ∙ there)
-        by_end false is (Some from) began s listed = by_pushed (listed_pushed s after (spell c.router c.prefix from now) (subst (λ (o : Option ℕ). IsListed s (after ++ option_to_list (option_map (λ f. spell c.router c.prefix f now) o))) began listed))
-          where
-            by_pushed : IsListed s after ⊎ (spell c.router c.prefix from now ≡ s) → IsListed s before ⊎ IsEnding K v now old s
-            by_pushed (inl there) = L.made s there
-            by_pushed (inr same) = inr (record { place = below; was = c; at = at_old; from = from; began = began; over = λ so. false≢true (is.1 so); is = sym same })
-
-        by_place_listed : (x : ℕ) (b : Watched) (from : ℕ) → slice_get old x ≡ Some b → b.since ≡ Some from → (x < below) ⊎ (below ≤ x) → x < below + 1 → Aside b ⊎ HoldsOf K v b ⊎ IsListed (spell b.router b.prefix from now) (after ++ option_to_list (ended_by now holds c))
-        by_place_listed x b from was began (inl lower) less = by_before (L.listed x b from lower was began)
-          where
-            by_before : Aside b ⊎ HoldsOf K v b ⊎ IsListed (spell b.router b.prefix from now) after → Aside b ⊎ HoldsOf K v b ⊎ IsListed (spell b.router b.prefix from now) (after ++ option_to_list (ended_by now holds c))
-            by_before (inl aside) = inl aside
-            by_before (inr (inl so)) = inr (inl so)
-            by_before (inr (inr there)) = inr (inr (listed_first (spell b.router b.prefix from now) after (option_to_list (ended_by now holds c)) there))
-        by_place_listed x b from was began (inr over) less =
-            let here : x ≡ below = omega (arith, over, less) in
-            let same : c ≡ b = Some_injective (sym at_old ∙ ap (slice_get old) (sym here) ∙ was) in
-            inr (by_holds holds rightly b same began)
-          where
-            by_holds : (h : Bool) → (IsTrue h ↔ HoldsOf K v c) → (b : Watched) → c ≡ b → b.since ≡ Some from → HoldsOf K v b ⊎ IsListed (spell b.router b.prefix from now) (after ++ option_to_list (ended_by now h c))
-            by_holds true is b same began = inl (subst (HoldsOf K v) same (is.0 refl))
-            by_holds false is b same began = inr (subst (λ (z : Watched). IsListed (spell b.router b.prefix from now) (after ++ option_to_list (ended_by now false z))) (sym same)
-                (subst (λ (o : Option ℕ). IsListed (spell b.router b.prefix from now) (after ++ option_to_list (option_map (λ f. spell b.router b.prefix f now) o))) (sym began)
-                (listed_last (spell b.router b.prefix from now) after)))
 
     -- one more was left aside or looked at
     pub looked_one : (ds : List Watched) (then : List Spell) → IsLooked K v now Aside below cs ds after then → Looked (below + 1) ds then
@@ -146,19 +166,17 @@ looked_beside_more K v now Aside More more below old new before after L = record
   as_many = L.as_many;
   looked = λ x c d less was is. by_look c d (L.looked x c d less was is);
   rest = L.rest;
-  grown = L.grown;
-  kept = L.kept;
-  made = L.made;
-  listed = λ x c from less was began. by_list c from (L.listed x c from less was began);
+  ended = ((L.ended).0, (L.ended).1, end_with_more (take below old) (L.ended).0 (L.ended).2);
 }
   where
     by_look : (c d : Watched) → ((d ≡ c) × Aside c) ⊎ IsSeen K v now c d → ((d ≡ c) × More c) ⊎ IsSeen K v now c d
     by_look c d (inl (same, aside)) = inl (same, more c aside)
     by_look c d (inr look) = inr look
 
-    by_list : (c : Watched) (from : ℕ) → Aside c ⊎ HoldsOf K v c ⊎ IsListed (spell c.router c.prefix from now) after → More c ⊎ HoldsOf K v c ⊎ IsListed (spell c.router c.prefix from now) after
-    by_list c from (inl aside) = inl (more c aside)
-    by_list c from (inr rest) = inr rest
+    end_with_more : (cs : List Watched) (ss : List Spell) → EndByLooks K v now Aside cs ss → EndByLooks K v now More cs ss
+    end_with_more [] ss none = none
+    end_with_more (c ∷ cs) ss (inl (aside, E)) = inl (more c aside, end_with_more cs ss E)
+    end_with_more (c ∷ cs) ss (inr (holds, rest, is, all, E)) = inr (holds, rest, is, all, end_with_more cs rest E)
 
 -- ---- one look
 

@@ -1,5 +1,6 @@
 -- What a look at the world after an event leaves of an exact record.
-use Rattle.std.proofs.Common.{refl, sym, ap, subst, ◌∙◌, arith, inl, inr, ◌≡◌, ◌⊎◌, ◌↔◌, ℕ, ◌<◌, IsTrue, Bool, true, false, List, [], ◌∷◌, ◌++◌, length, MatchOption, Option, Some, None, slice_get, unwrap_or}
+use Rattle.std.proofs.Common.{refl, sym, ap, subst, ◌∙◌, arith, inl, inr, ◌≡◌, ◌⊎◌, ◌↔◌, ℕ, suc, ◌<◌, IsTrue, Bool, true, false, List, [], ◌∷◌, ◌++◌, map, length, MatchOption, Option, Some, None, option_map, option_to_list, slice_get, unwrap_or}
+use Rattle.std.proofs.lemmas.List.{take_all}
 use Rattle.std.specs.List.{list_any}
 use Rattle.ipv4_prefix.specs.Prefix.{Prefix, prefix_eq}
 use Rattle.network_model.specs.World.{World}
@@ -11,8 +12,9 @@ use Rattle.timed_simulation.specs.Runs.{steps_of}
 use Rattle.timed_reports.specs.declared.spells.Spell.{Spell}
 use Rattle.timed_reports.specs.declared.spells.Watched.{Watched}
 use Rattle.timed_reports.specs.Spells.{IsSpell}
-use Rattle.timed_reports.specs.Records.{AreInOrder, AreLooked, AreWatched, HoldsOf, IsEnding, IsListed, IsRecorded, IsSeen, Kind, seen, spell, watched, watched_at}
-use Rattle.timed_reports.proofs.Lists.{get_within, map_alike}
+use Rattle.timed_reports.specs.Records.{AreInOrder, AreLooked, AreWatched, AtFirst, EndByLooks, EndWith, HaveEnded, HoldsOf, IsListed, IsRecorded, IsSeen, Kind, OneMore, ended_by, seen, spell, watched, watched_at}
+use Rattle.timed_reports.proofs.Lists.{get_within, listed_behind, listed_either, listed_first, map_alike}
+use Rattle.timed_reports.proofs.OneByOne.{ending, is_ended}
 use Rattle.timed_reports.proofs.OneMore.{goes_on, one_goes_on, runs_all, spell_begins, spell_ended, spell_on, spell_past, spell_till}
 
 -- ---- what is watched
@@ -40,8 +42,8 @@ watched_after K v now Aside past new cs ds count ps L each p i below one =
     (later, (x, there))
 
 -- and stands at its place
-pub order_after : (K : Kind) (v : World) (now : ℕ) (Aside : Watched → Type 0) (past new : List Spell) (cs ds : List Watched) (count : ℕ) (ps : List Prefix) → AreLooked K v now Aside (length cs) cs ds past new → AreInOrder count ps cs → AreInOrder count ps ds
-order_after K v now Aside past new cs ds count ps L order = map_alike watched_at cs ds L.as_many (λ x c d at there. by_look c d (L.looked x c d (slice_get_within cs x c at) at there)) ∙ order
+places_after : (K : Kind) (v : World) (now : ℕ) (Aside : Watched → Type 0) (past new : List Spell) (cs ds : List Watched) → AreLooked K v now Aside (length cs) cs ds past new → map watched_at ds ≡ map watched_at cs
+places_after K v now Aside past new cs ds L = map_alike watched_at cs ds L.as_many (λ x c d at there. by_look c d (L.looked x c d (slice_get_within cs x c at) at there))
   where
     of_seen : (b : Bool) (c d : Watched) → d ≡ seen now b c → watched_at d ≡ watched_at c
     of_seen true c d is = ap watched_at is
@@ -50,6 +52,9 @@ order_after K v now Aside past new cs ds count ps L order = map_alike watched_at
     by_look : (c d : Watched) → ((d ≡ c) × Aside c) ⊎ IsSeen K v now c d → watched_at d ≡ watched_at c
     by_look c d (inl (is, aside)) = ap watched_at is
     by_look c d (inr look) = of_seen look.holds c d look.written
+
+pub order_after : (K : Kind) (v : World) (now : ℕ) (Aside : Watched → Type 0) (past new : List Spell) (cs ds : List Watched) (count : ℕ) (ps : List Prefix) → AreLooked K v now Aside (length cs) cs ds past new → AreInOrder count ps cs → AreInOrder count ps ds
+order_after K v now Aside past new cs ds count ps L order = places_after K v now Aside past new cs ds L ∙ order
 
 module _ (K : Kind) where
   -- ---- one router and one prefix
@@ -113,16 +118,52 @@ module _ (K : Kind) where
           by_look c right (inl (is, aside)) = subst (IsRight w all after) (sym is) (right_aside c (same c aside) right)
           by_look c right (inr look) = subst (IsRight w all after) (sym look.written) (right_seen c look.holds look.rightly right)
 
+      -- all were looked at
+      all_end : EndByLooks K after e.moment Aside cs (L.ended).0
+      all_end = subst (λ (xs : List Watched). EndByLooks K after e.moment Aside xs (L.ended).0) (take_all (length cs) cs (omega arith)) (L.ended).2
+
       -- what ended stands there
       ended_there : (p : Prefix) (i from to : ℕ) → IsListed (spell i p from to) new → IsSpell (K p i) from (Some to) w all
-      ended_there p i from to listed = by_made (L.made (spell i p from to) listed)
+      ended_there p i from to listed = by_made (listed_either (spell i p from to) past (L.ended).0 (subst (IsListed (spell i p from to)) (L.ended).1 listed))
         where
           at_end : (place : ℕ) (c : Watched) (m : ℕ) → slice_get cs place ≡ Some c → c.since ≡ Some m → (HoldsOf K after c → ⊥) → IsSpell (K c.prefix c.router) m (Some e.moment) w all
           at_end place c m at is over = spell_till (K c.prefix c.router) m w es v e runs (subst (λ (o : Option ℕ). MatchOption o (HoldsOf K v c → ⊥) (λ from. IsSpell (K c.prefix c.router) from None w es)) is (right_of w es v past cs R place c at)) over
 
-          by_made : IsListed (spell i p from to) past ⊎ IsEnding K after e.moment cs (spell i p from to) → IsSpell (K p i) from (Some to) w all
+          by_made : IsListed (spell i p from to) past ⊎ IsListed (spell i p from to) (L.ended).0 → IsSpell (K p i) from (Some to) w all
           by_made (inl before) = spell_past (K p i) from to w es e ((R.ended p i from to).0 before)
-          by_made (inr E) = subst (λ (s : Spell). IsSpell (K s.prefix s.router) s.from (Some s.to) w all) (sym E.is) (at_end E.place E.was E.from E.at E.began E.over)
+          by_made (inr now) = ending K after e.moment Aside (λ (s : Spell). IsSpell (K s.prefix s.router) s.from (Some s.to) w all) cs (L.ended).0 all_end at_end (spell i p from to) now
+
+      -- what ended now, ended with the event, in turn
+      end_with : (bs : List Watched) (ss : List Spell) → ((x : ℕ) (c : Watched) → slice_get bs x ≡ Some c → IsRight w es v c) → EndByLooks K after e.moment Aside bs ss → EndWith K w es v e (map watched_at bs) ss
+      end_with [] ss right none = none
+      end_with (c ∷ bs) ss right (inl (aside, E)) = inl (by_since c.since (right 0 c refl), end_with bs ss (λ x d at. right (suc x) d at) E)
+        where
+          by_since : (o : Option ℕ) → MatchOption o (HoldsOf K v c → ⊥) (λ from. IsSpell (K c.prefix c.router) from None w es) → (HoldsOf K v c → ⊥) ⊎ HoldsOf K after c
+          by_since None not = inl not
+          by_since (Some from) going = inr ((same c aside).0 (goes_on (K c.prefix c.router) from w es v runs going))
+      end_with (c ∷ bs) ss right (inr (holds, rest, is, all_of, E)) = by_look (end_with bs rest (λ x d at. right (suc x) d at) E) holds is all_of c.since refl (right 0 c refl)
+        where
+          by_look : EndWith K w es v e (map watched_at bs) rest → (b : Bool) → (IsTrue b ↔ HoldsOf K after c) → ss ≡ option_to_list (ended_by e.moment b c) ++ rest → (o : Option ℕ) → c.since ≡ o → IsRight w es v c → EndWith K w es v e (watched_at c ∷ map watched_at bs) ss
+          by_look later true is all_of o began here = inl (inr (is.0 refl), subst (EndWith K w es v e (map watched_at bs)) (sym all_of) later)
+          by_look later false is all_of None began here =
+              inl (
+                inl (subst (λ (s : Option ℕ). MatchOption s (HoldsOf K v c → ⊥) (λ from. IsSpell (K c.prefix c.router) from None w es)) began here),
+                subst (EndWith K w es v e (map watched_at bs)) (sym (all_of ∙ ap (λ (s : Option ℕ). option_to_list (option_map (λ f. spell c.router c.prefix f e.moment) s) ++ rest) began)) later,
+              )
+          by_look later false is all_of (Some from) began here =
+              inr (
+                from,
+                rest,
+                subst (λ (s : Option ℕ). MatchOption s (HoldsOf K v c → ⊥) (λ m. IsSpell (K c.prefix c.router) m None w es)) began here,
+                (λ so. false≢true (is.1 so)),
+                all_of ∙ ap (λ (s : Option ℕ). option_to_list (option_map (λ f. spell c.router c.prefix f e.moment) s) ++ rest) began,
+                later,
+              )
+
+      -- so it stands in the list behind what ended before
+      in_turn_now : HaveEnded K w (map watched_at ds) all after new
+      in_turn_now = subst (λ (bs : List (Prefix × ℕ)). HaveEnded K w bs all after new) (sym (places_after K after e.moment Aside past new cs ds L))
+          (subst (HaveEnded K w (map watched_at cs) all after) (sym (L.ended).1) (OneMore es v e past (L.ended).0 R.in_turn (end_with cs (L.ended).0 (right_of w es v past cs R) all_end)))
 
     -- the record is exact after the event
     pub recorded_after : Lawful v e.step → (Aside : Watched → Type 0) → ((c : Watched) → Aside c → IsSame c) → (past new : List Spell) (cs ds : List Watched) (count : ℕ) (ps : List Prefix) → AreWatched count ps cs
@@ -130,6 +171,7 @@ module _ (K : Kind) where
         → IsRecorded K w es v past cs → AreLooked K after e.moment Aside (length cs) cs ds past new → IsRecorded K w all after new ds
     recorded_after lawful Aside same past new cs ds count ps each known known_after R L = record {
       ended = λ p i from to. (ended_there Aside same past new cs ds R L p i from to, ended_listed p i from to);
+      in_turn = in_turn_now Aside same past new cs ds R L;
       going_on = λ p i from. (going_there p i from, going_listed p i from);
       resting = λ p i listed. right_now Aside same past new cs ds R L listed.0 (watched i p None) listed.1;
     }
@@ -159,15 +201,17 @@ module _ (K : Kind) where
             over_now going over x None at = absurd (R.resting p i (x, at) (goes_on (K p i) from w es v runs going))
             over_now going over x (Some m) at =
                 let is : m ≡ from = one_goes_on (K p i) m from w es ((R.going_on p i m).0 (x, at)) going in
-                by_look is (L.listed x (watched i p (Some m)) m (slice_get_within cs x (watched i p (Some m)) at) at refl)
+                by_look is (is_ended K after e.moment Aside cs (L.ended).0 (all_end Aside same past new cs ds R L) x (watched i p (Some m)) m at refl)
               where
-                by_look : m ≡ from → Aside (watched i p (Some m)) ⊎ K p i after ⊎ IsListed (spell i p m e.moment) new → IsListed (spell i p from e.moment) new
+                by_look : m ≡ from → Aside (watched i p (Some m)) ⊎ K p i after ⊎ IsListed (spell i p m e.moment) (L.ended).0 → IsListed (spell i p from e.moment) new
                 by_look is (inl aside) = absurd (over ((same (watched i p (Some m)) aside).0 (goes_on (K p i) from w es v runs going)))
                 by_look is (inr (inl holds)) = absurd (over holds)
-                by_look is (inr (inr listed)) = subst (λ (k : ℕ). IsListed (spell i p k e.moment) new) is listed
+                by_look is (inr (inr listed)) =
+                    subst (λ (k : ℕ). IsListed (spell i p k e.moment) new) is
+                    (subst (IsListed (spell i p m e.moment)) (sym (L.ended).1) (listed_behind (spell i p m e.moment) past (L.ended).0 listed))
 
             by_end : IsSpell (K p i) from (Some to) w es ⊎ (IsSpell (K p i) from None w es × (K p i after → ⊥) × (to ≡ e.moment)) → IsListed (spell i p from to) new
-            by_end (inl before) = L.kept (spell i p from to) ((R.ended p i from to).1 before)
+            by_end (inl before) = subst (IsListed (spell i p from to)) (sym (L.ended).1) (listed_first (spell i p from to) past (L.ended).0 ((R.ended p i from to).1 before))
             by_end (inr (going, over, is)) =
                 let (below, one) = known p i (goes_on (K p i) from w es v runs going) in
                 let (since, (x, at)) = each p i below one in
@@ -177,6 +221,7 @@ module _ (K : Kind) where
 pub recorded_opening : (K : Kind) (w : World) (cs : List Watched) → ((p : Prefix) (i : ℕ) → K p i w → ⊥) → ((x : ℕ) (c : Watched) → slice_get cs x ≡ Some c → c.since ≡ None) → IsRecorded K w [] w [] cs
 recorded_opening K w cs not none = record {
   ended = λ p i from to. ((λ listed. None_not_Some listed.1), (λ ends. absurd ends));
+  in_turn = AtFirst;
   going_on = λ p i from. ((λ listed. absurd (None_not_Some (sym (none listed.0 (watched i p (Some from)) listed.1)))), (λ going. absurd going));
   resting = λ p i listed. not p i;
 }

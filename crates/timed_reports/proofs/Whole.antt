@@ -78,7 +78,7 @@ records_event old e timed w u past out computations computing outages cut_off is
           (report_after es old e computations computing outages cut_off R is
           (subst (λ (v : World). AreLooked IsComputing v e.moment (IsElsewhere e.step) (length old.computing) old.computing computing old.computations computations) same looked)
           (subst (λ (v : World). AreLooked IsCutOff v e.moment (MovesNoWay e.step) (length old.cut_off) old.cut_off cut_off old.outages outages) same_out looked_out));
-      grown = record { computations = looked.grown; outages = looked_out.grown };
+      grown = record { computations = ((looked.ended).0, sym (looked.ended).1); outages = ((looked_out.ended).0, sym (looked_out.ended).1) };
     }
 
 -- the world fits together after the event

@@ -1,10 +1,10 @@
 -- What is recorded of one kind of thing that goes on at routers for prefixes, and how a look at a world changes that.
-use Rattle.std.specs.Prelude.{ℕ, ◌≡◌, ◌≢◌, ◌<◌, ◌≤◌, ◌⊎◌, ◌↔◌, IsTrue, Bool, true, false, List, ◌++◌, map, flat_map, length, Option, Some, None, option_map, option_to_list, slice_get, slice_set, unwrap_or}
+use Rattle.std.specs.Prelude.{ℕ, ◌≡◌, ◌≢◌, ◌<◌, ◌≤◌, ◌⊎◌, ◌↔◌, IsTrue, Bool, true, false, List, [], ◌∷◌, ◌++◌, map, flat_map, length, take, Option, Some, None, option_map, option_to_list, slice_get, slice_set, unwrap_or}
 use Rattle.std.specs.List.{list_any, range_with_len}
-use mathlib.Core.List.{IsPrefix}
 use Rattle.ipv4_prefix.specs.Prefix.{Prefix, prefix_eq}
 use Rattle.network_model.specs.declared.step.Step.{Step}
 use Rattle.network_model.specs.declared.step.Step.TheVariants.{LinkUp, LinkDown, SetCost, Deliver, Publish, Release, Attach, Detach}
+use Rattle.network_model.specs.Step.{next}
 use Rattle.network_model.specs.World.{World}
 use Rattle.timed_simulation.specs.declared.events.Event.{Event}
 use Rattle.timed_reports.specs.declared.spells.Spell.{Spell}
@@ -47,9 +47,22 @@ with_routers count p = map (λ i. (p, i)) (range_with_len 0 count)
 abbrev pub AreInOrder : ℕ → List Prefix → List Watched → Type 0
 AreInOrder count ps cs = map watched_at cs ≡ flat_map (with_routers count) ps
 
--- the record is exact: these events lead from the world w to the world v. A spell that ended stands in the list if and only if there was one; what goes on stands there with the moment at which it began if and only if it does; and where none stands, it does not hold
+-- of these routers and prefixes, in their order, those of which it held before an event and does not after it: each is a spell that ends with the event, since it began. These events led from the world w to the world v before
+abbrev pub EndWith : Kind → World → List Event → World → Event → List (Prefix × ℕ) → List Spell → Type 0
+EndWith K w es v e [] ss = ss ≡ []
+EndWith K w es v e (c ∷ cs) ss =
+    (((K c.0 c.1 v → ⊥) ⊎ K c.0 c.1 (next v e.step)) × EndWith K w es v e cs ss)
+    ⊎ ((from : ℕ) × (rest : List Spell) × IsSpell (K c.0 c.1) from None w es × (K c.0 c.1 (next v e.step) → ⊥) × (ss ≡ spell c.1 c.0 from e.moment ∷ rest) × EndWith K w es v e cs rest)
+
+-- what has ended with these events, which led from the world w to a world, once each and in turn: what ends with an event stands behind what ended before
+pub data HaveEnded (K : Kind) (w : World) (cs : List (Prefix × ℕ)) : List Event → World → List Spell → Type 0 where
+  AtFirst : HaveEnded K w cs [] w []
+  OneMore : (es : List Event) (v : World) (e : Event) (past ended : List Spell) → HaveEnded K w cs es v past → EndWith K w es v e cs ended → HaveEnded K w cs (es ++ e ∷ []) (next v e.step) (past ++ ended)
+
+-- the record is exact: these events lead from the world w to the world v. A spell that ended stands in the list if and only if there was one, once and in turn; what goes on stands there with the moment at which it began if and only if it does; and where none stands, it does not hold
 pub record IsRecorded (K : Kind) (w : World) (es : List Event) (v : World) (past : List Spell) (cs : List Watched) : Type 0 where
   pub ended : (p : Prefix) (i from to : ℕ) → IsListed (spell i p from to) past ↔ IsSpell (K p i) from (Some to) w es
+  pub in_turn : HaveEnded K w (map watched_at cs) es v past
   pub going_on : (p : Prefix) (i from : ℕ) → IsListed (watched i p (Some from)) cs ↔ IsSpell (K p i) from None w es
   pub resting : (p : Prefix) (i : ℕ) → IsListed (watched i p None) cs → K p i v → ⊥
 
@@ -71,25 +84,19 @@ pub record IsSeen (K : Kind) (v : World) (now : ℕ) (c d : Watched) : Type 0 wh
   pub rightly : IsTrue holds ↔ HoldsOf K v c
   pub written : d ≡ seen now holds c
 
--- a spell that ends now
-pub record IsEnding (K : Kind) (v : World) (now : ℕ) (cs : List Watched) (s : Spell) : Type 0 where
-  pub place : ℕ
-  pub was : Watched
-  pub at : slice_get cs place ≡ Some was
-  pub from : ℕ
-  pub began : was.since ≡ Some from
-  pub over : HoldsOf K v was → ⊥
-  pub is : s ≡ spell was.router was.prefix from now
+-- one after another was looked at, but for some that are left aside, and these spells ended by that
+abbrev pub EndByLooks : Kind → World → ℕ → (Watched → Type 0) → List Watched → List Spell → Type 0
+EndByLooks K v now Aside [] ss = ss ≡ []
+EndByLooks K v now Aside (c ∷ cs) ss =
+    (Aside c × EndByLooks K v now Aside cs ss)
+    ⊎ ((holds : Bool) × (rest : List Spell) × (IsTrue holds ↔ HoldsOf K v c) × (ss ≡ option_to_list (ended_by now holds c) ++ rest) × EndByLooks K v now Aside cs rest)
 
 -- the first of these were looked at, but for some that are left aside. What ended by that was listed behind the others, and nothing else
 pub record AreLooked (K : Kind) (v : World) (now : ℕ) (Aside : Watched → Type 0) (below : ℕ) (old new : List Watched) (before after : List Spell) : Type 0 where
   pub as_many : length new ≡ length old
   pub looked : (x : ℕ) (c d : Watched) → x < below → slice_get old x ≡ Some c → slice_get new x ≡ Some d → ((d ≡ c) × Aside c) ⊎ IsSeen K v now c d
   pub rest : (x : ℕ) → below ≤ x → slice_get new x ≡ slice_get old x
-  pub grown : IsPrefix before after
-  pub kept : (s : Spell) → IsListed s before → IsListed s after
-  pub made : (s : Spell) → IsListed s after → IsListed s before ⊎ IsEnding K v now old s
-  pub listed : (x : ℕ) (c : Watched) (from : ℕ) → x < below → slice_get old x ≡ Some c → c.since ≡ Some from → Aside c ⊎ HoldsOf K v c ⊎ IsListed (spell c.router c.prefix from now) after
+  pub ended : (ss : List Spell) × (after ≡ before ++ ss) × EndByLooks K v now Aside (take below old) ss
 
 -- one was left aside, or it was looked at and what that says is written
 abbrev pub IsLooked : Kind → World → ℕ → (Watched → Type 0) → ℕ → List Watched → List Watched → List Spell → List Spell → Type 0

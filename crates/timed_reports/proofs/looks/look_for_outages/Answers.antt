@@ -1,8 +1,8 @@
-use Rattle.std.proofs.Common.{◌≡◌, ◌∙◌, ◌<◌, arith, length, subst, ℕ, List}
+use Rattle.std.proofs.Common.{◌≡◌, ◌∙◌, ◌<◌, arith, length, sym, subst, ℕ, List}
 use Rattle.reachability.specs.Ways.{IsCutOff}
 use Rattle.timed_reports.specs.declared.spells.Watched.{Watched}
 use Rattle.timed_reports.specs.Records.{AreLooked, MovesNoWay}
-use Rattle.timed_reports.proofs.OneByOne.{looked_beside_more, looked_next}
+use Rattle.timed_reports.proofs.OneByOne.{looked_aside, looked_beside_more, looked_next}
 use Rattle.timed_reports.proofs.looks.look_for_outages.Goals as goal
 
 pub loop-place-preserved : goal.loop-place-preserved
@@ -32,3 +32,6 @@ returns-clause-looked g c =
     let all : c.loop-place.place ≡ length c.args.all.now.items = omega (arith, end, ok, over, up_to) in
     looked_beside_more IsCutOff c.args.world.now c.args.now (λ (d : Watched). ⊥) (MovesNoWay c.args.step.now) (λ d never. absurd never) (length c.args.all.now.items) c.args.all.now.items c.loop-place.all.items c.args.ended.now.items c.loop-place.ended.items
     (subst (λ (k : ℕ). AreLooked IsCutOff c.args.world.now c.args.now (λ (d : Watched). ⊥) k c.args.all.now.items c.loop-place.all.items c.args.ended.now.items c.loop-place.ended.items) all c.loop-place.invariant.looked)
+
+pub returns-then-not-moves_ways-clause-looked : goal.returns-then-not-moves_ways-clause-looked
+returns-then-not-moves_ways-clause-looked g c = looked_aside IsCutOff c.args.world.now c.args.now (MovesNoWay c.args.step.now) c.args.all.now.items c.args.ended.now.items (λ d. sym c.moves_ways.ensures ∙ c.if-not-moves_ways.true)

@@ -1,4 +1,4 @@
-/* The five duties of a daemon (docs/daemons.md) in code: one router, whose neighbours are other processes, over TCP.
+/* The duties of a daemon (docs/daemons.md) in code: one router, whose neighbours are other processes, over TCP.
  *
  *     cc -o daemon examples/c/daemon.c $(pkg-config --cflags --libs tuhvondi)
  *     ./daemon 1 2:1 3:9 </dev/null & ./daemon 2 1:1 3:1 </dev/null &        in one terminal
@@ -8,9 +8,10 @@
  * when it forwards. After `kill %2' router 3 reaches 10.1.0.0/16 by its link that costs 9. Start router 2 again, and its
  * links have another session. If you type an address, a packet goes there.
  *
- * Numbers in the code are those of the duties. If both ends of a link begin anew at once, nothing of before is left, and
- * sessions begin at 1 again. What is left out: signs of life and other timers, routes of the kernel, secrets, hostile
- * neighbours, prefixes to forget, and what to do without memory, where it ends. The daemon for real networks is daemon/.
+ * Numbers in the code are those of the duties; no port gets another neighbour (6). If both ends of a link begin anew at
+ * once, nothing of before is left, and sessions begin at 1 again. What is left out: signs of life and other timers, routes
+ * of the kernel, secrets, hostile neighbours, prefixes to forget, and what to do without memory, where it ends. The daemon
+ * for real networks is daemon/.
  */
 #include <tuhvondi_router.h>
 

@@ -1,5 +1,5 @@
 use Rattle.daemon_laws.proofs.Always.{always_no_circles, always_no_unmarked_circles, always_no_written_circles, always_no_unmarked_written_circles}
-use Rattle.daemon_laws.proofs.no_packet_circles.Goals as goal
+use Rattle.daemon_laws.proofs.no_daemon_packet_circles.Goals as goal
 
 pub returns : goal.returns
 returns c = record {

@@ -1,0 +1,186 @@
+-- A packet that is there while a port gets another neighbour, and comes back for a better way over the new link.
+use Rattle.std.proofs.Common.{refl, arith, ◌<◌, ◌≡◌, ℕ, Bool, true, false, not, ◌==◌, List, [], ◌∷◌, zero, suc}
+use Rattle.no_packet_loops.proofs.Common.{false≢true, Prefix, Via, IsCost, Topology, LinkEnd, at_port}
+use Rattle.single_router.specs.declared.input.Input.TheVariants as input
+use Rattle.single_router.specs.declared.opening.Attachment.{Attachment}
+use Rattle.single_router.specs.Openings.{made_router}
+use Rattle.daemon_laws.specs.Processes.{Processes}
+use Rattle.daemon_laws.specs.Packets.{is_in_session, entry_leads}
+use Rattle.daemon_laws.specs.Happenings.{Happening, Tells, Takes, Publishes, Releases, AllCanHappen, IsMade, Begins, IsReached, Begun, Happened, MayRewire, is_new_link, next, after}
+use Rattle.daemon_laws.specs.Moments.{fds_reached}
+use Rattle.moving_daemon_packets.specs.Moving.{Moment, moment_next, moment_rewired, moment_after, Leads, StaysNear, doing, SomeComesBack}
+
+-- ---- links
+
+-- the links of four routers: 0-2 and 1-2, and from port 1 of router 1 one to router 3, or to router 0
+abbrev far_at : Bool → ℕ → ℕ → LinkEnd
+far_at b zero zero = at_port 2 1
+far_at b zero (suc zero) = at_port 1 1
+far_at b zero (suc (suc q)) = at_port 0 0
+far_at b (suc zero) zero = at_port 2 0
+far_at true (suc zero) (suc zero) = at_port 0 1
+far_at false (suc zero) (suc zero) = at_port 3 0
+far_at b (suc zero) (suc (suc q)) = at_port 0 0
+far_at b (suc (suc zero)) zero = at_port 1 0
+far_at b (suc (suc zero)) (suc zero) = at_port 0 0
+far_at b (suc (suc zero)) (suc (suc q)) = at_port 0 0
+far_at b (suc (suc (suc zero))) zero = at_port 1 1
+far_at b (suc (suc (suc zero))) (suc q) = at_port 0 0
+far_at b (suc (suc (suc (suc i)))) q = at_port 0 0
+
+abbrev valid_at : Bool → ℕ → ℕ → Bool
+valid_at b zero zero = true
+valid_at b zero (suc zero) = b
+valid_at b zero (suc (suc q)) = false
+valid_at b (suc zero) zero = true
+valid_at b (suc zero) (suc zero) = true
+valid_at b (suc zero) (suc (suc q)) = false
+valid_at b (suc (suc zero)) zero = true
+valid_at b (suc (suc zero)) (suc zero) = true
+valid_at b (suc (suc zero)) (suc (suc q)) = false
+valid_at b (suc (suc (suc zero))) zero = not b
+valid_at b (suc (suc (suc zero))) (suc q) = false
+valid_at b (suc (suc (suc (suc i)))) q = false
+
+far_valid_at : (b : Bool) (i q : ℕ) → valid_at b i q ≡ true → valid_at b (far_at b i q).router (far_at b i q).port ≡ true
+far_valid_at b zero zero v = refl
+far_valid_at b zero (suc zero) v = refl
+far_valid_at b zero (suc (suc q)) v = absurd (false≢true v)
+far_valid_at b (suc zero) zero v = refl
+far_valid_at true (suc zero) (suc zero) v = refl
+far_valid_at false (suc zero) (suc zero) v = refl
+far_valid_at b (suc zero) (suc (suc q)) v = absurd (false≢true v)
+far_valid_at b (suc (suc zero)) zero v = refl
+far_valid_at b (suc (suc zero)) (suc zero) v = refl
+far_valid_at b (suc (suc zero)) (suc (suc q)) v = absurd (false≢true v)
+far_valid_at b (suc (suc (suc zero))) zero v = refl
+far_valid_at b (suc (suc (suc zero))) (suc q) v = absurd (false≢true v)
+far_valid_at b (suc (suc (suc (suc i)))) q v = absurd (false≢true v)
+
+far_far_at : (b : Bool) (i q : ℕ) → valid_at b i q ≡ true → far_at b (far_at b i q).router (far_at b i q).port ≡ at_port i q
+far_far_at b zero zero v = refl
+far_far_at true zero (suc zero) v = refl
+far_far_at false zero (suc zero) v = absurd (false≢true v)
+far_far_at b zero (suc (suc q)) v = absurd (false≢true v)
+far_far_at b (suc zero) zero v = refl
+far_far_at true (suc zero) (suc zero) v = refl
+far_far_at false (suc zero) (suc zero) v = refl
+far_far_at b (suc zero) (suc (suc q)) v = absurd (false≢true v)
+far_far_at b (suc (suc zero)) zero v = refl
+far_far_at b (suc (suc zero)) (suc zero) v = refl
+far_far_at b (suc (suc zero)) (suc (suc q)) v = absurd (false≢true v)
+far_far_at true (suc (suc (suc zero))) zero v = absurd (false≢true v)
+far_far_at false (suc (suc (suc zero))) zero v = refl
+far_far_at b (suc (suc (suc zero))) (suc q) v = absurd (false≢true v)
+far_far_at b (suc (suc (suc (suc i)))) q v = absurd (false≢true v)
+
+abbrev links : Bool → Topology
+links b = record {
+  far = λ e. far_at b e.router e.port;
+  valid = λ e. valid_at b e.router e.port;
+  far_valid = λ e v. far_valid_at b e.router e.port v;
+  far_far = λ e v. far_far_at b e.router e.port v;
+}
+
+-- ---- routers
+
+-- all addresses, at cost 1, at router 0
+abbrev homes : Bool → List Attachment
+homes true = record { addr = 0; cost = 1; len = 0 } ∷ []
+homes false = []
+
+abbrev first : Processes
+first = record { routers = λ i. made_router (7 ∷ 7 ∷ []) (homes (i == 0)); coming = λ e. []; last = λ e. 0; heard = λ e. 0; lost = λ e s. false }
+
+made_one : (b : Bool) → IsMade (made_router (7 ∷ 7 ∷ []) (homes b))
+made_one true = record { costs = 7 ∷ 7 ∷ []; attachments = homes true; good = refl; made = refl }
+made_one false = record { costs = 7 ∷ 7 ∷ []; attachments = homes false; good = refl; made = refl }
+
+begins : Begins first
+begins = record { routers_made = λ i. made_one (i == 0); nothing_comes = λ e. refl; never_up = λ e. refl; never_heard = λ e. refl; never_lost = λ e s. refl }
+
+one : IsCost 1
+one = record { positive = omega arith; small = omega arith }
+
+five : IsCost 5
+five = record { positive = omega arith; small = omega arith }
+
+-- ---- what happens
+
+-- router 0 tells router 2, which tells router 1
+abbrev told : List Happening
+told = Tells 0 (input.Up 0 1 5) ∷ Tells 2 (input.Up 1 1 5) ∷ Tells 2 (input.Up 0 1 1) ∷ Tells 1 (input.Up 0 1 1)
+    ∷ Publishes 0 ∷ Releases 0 ∷ Takes (at_port 2 1) ∷ Publishes 2 ∷ Releases 2 ∷ Releases 2 ∷ Takes (at_port 1 0) ∷ Publishes 1 ∷ []
+
+can_tell : AllCanHappen (links false) first told
+can_tell = ((omega arith, five), ((omega arith, five), ((omega arith, one), ((omega arith, one), (tt, (tt, (tt, (tt, (tt, (tt, (tt, (tt, tt))))))))))))
+
+abbrev then_are : Processes
+then_are = after (links false) first told
+
+-- all that happens comes to a moment
+abbrev reached : (t : Topology) (w : Processes) (hs : List Happening) → IsReached t w → AllCanHappen t w hs → IsReached t (after t w hs)
+reached t w [] M can = M
+reached t w (h ∷ hs) M can = reached t (next t w h) hs (Happened t w h M can.0) can.1
+
+abbrev moment : Moment
+moment = record { topology = links false; processes = then_are; fd_published = fds_reached (links false) then_are (reached (links false) first told (Begun (links false) first begins) can_tell) }
+
+-- router 1 gets a link to router 0, finds its way by that, and tells router 2, which turns round
+abbrev found : List Happening
+found = Tells 0 (input.Up 1 1 1) ∷ Tells 1 (input.Up 1 1 1)
+    ∷ Publishes 0 ∷ Releases 0 ∷ Releases 0 ∷ Takes (at_port 1 1) ∷ Publishes 1 ∷ Releases 1 ∷ Releases 1 ∷ Releases 1 ∷ Takes (at_port 2 0) ∷ Takes (at_port 2 0) ∷ Publishes 2 ∷ []
+
+may_at : (i q : ℕ) → is_new_link (links false) (links true) (at_port i q) ≡ true → (session : ℕ) → is_in_session then_are (at_port i q) session ≡ false
+may_at zero zero new session = absurd (false≢true new)
+may_at zero (suc zero) new session = refl
+may_at zero (suc (suc q)) new session = absurd (false≢true new)
+may_at (suc zero) zero new session = absurd (false≢true new)
+may_at (suc zero) (suc zero) new session = refl
+may_at (suc zero) (suc (suc q)) new session = absurd (false≢true new)
+may_at (suc (suc zero)) zero new session = absurd (false≢true new)
+may_at (suc (suc zero)) (suc zero) new session = absurd (false≢true new)
+may_at (suc (suc zero)) (suc (suc q)) new session = absurd (false≢true new)
+may_at (suc (suc (suc zero))) zero new session = absurd (false≢true new)
+may_at (suc (suc (suc zero))) (suc q) new session = absurd (false≢true new)
+may_at (suc (suc (suc (suc i)))) q new session = absurd (false≢true new)
+
+may : MayRewire (links false) (links true) then_are
+may e new session = may_at e.router e.port new session
+
+can_find : AllCanHappen (links true) (moment_rewired moment (links true)).processes found
+can_find = ((omega arith, one), ((omega arith, one), (tt, (tt, (tt, (tt, (tt, (tt, (tt, (tt, (tt, (tt, (tt, tt)))))))))))))
+
+-- where a packet waits it stays near, if it is near at the end
+waits_near : (leads : Leads) (m : Moment) (addr : ℕ) (p : Prefix) (f k : ℕ) (hs : List Happening) → AllCanHappen m.topology m.processes hs → (moment_after m (doing hs)).fd_published p k < f → StaysNear leads m addr p f k (doing hs)
+waits_near leads m addr p f k [] can lt = lt
+waits_near leads m addr p f k (h ∷ hs) can lt = (can.0, waits_near leads (moment_next m h) addr p f k hs can.1 lt)
+
+abbrev everywhere : Prefix
+everywhere = record { addr = 0; len = 0 }
+
+near : (moment_after (moment_rewired moment (links true)) (doing found)).fd_published everywhere 2 < moment.fd_published everywhere 1
+near =
+    let now : (moment_after (moment_rewired moment (links true)) (doing found)).fd_published everywhere 2 ≡ 3 = refl in
+    let was : moment.fd_published everywhere 1 ≡ 7 = refl in
+    omega (arith, now, was)
+
+pub some_comes_back : SomeComesBack
+some_comes_back = record {
+  before = links false;
+  processes = then_are;
+  reached = reached (links false) first told (Begun (links false) first begins) can_tell;
+  topology = links true;
+  happenings = found;
+  addr = 5;
+  router = 1;
+  to = 2;
+  port = 1;
+  prefix = everywhere;
+  was_linked = refl;
+  is_linked = refl;
+  new = refl;
+  goes = record { entry = Via 0 1; matched = refl; leads = refl };
+  near = (may, waits_near entry_leads (moment_rewired moment (links true)) 5 everywhere 7 2 found can_find near);
+  goes_back = record { entry = Via 0 1; matched = refl; leads = refl };
+}

@@ -1,0 +1,5 @@
+-- The lemmas of the laws about packets that move between routers in processes of their own.
+pub mod Calm
+pub mod Unpublished
+pub mod Flights
+pub mod Example

@@ -1,0 +1,59 @@
+//! A packet that moves between routers in processes of their own comes back to a router only for a better way,
+//! or after a feasible distance rose where it was.
+//!
+//! The problem is that of `moving_packets`, but more may happen while the packet is there (`daemon_laws`): ends
+//! leave their sessions, messages are lost, processes begin anew, and ports get other neighbours.
+//!
+//! The law ([`comes_back`]) is the same, for packets that tell the session of the row by which they were sent,
+//! and for packets that tell none. A router that forgets the prefix or begins anew counts as one whose feasible
+//! distance rose. The argument is that of `moving_packets` (`proofs/Returns.antt` there).
+//!
+//! What is tricky is a packet that is long on a link, because both ends may leave their sessions meanwhile. Its hop
+//! counts as made when it left ([`hops_at_once`]), since a session that the far end has left does not come
+//! again while something of it is on its way.
+//!
+//! ```text
+//!    i  -- packet, session 4 -->  k        k is in session 4 as the packet is let in:
+//!                                          so it was in session 4 when the packet left
+//! ```
+//!
+//! What is not said: how many hops a packet makes. The law has no number of routers.
+#![tactic(auto)]
+
+ghost use Rattle.daemon_laws.specs.Packets.{entry_leads, unmarked_leads};
+ghost use Rattle.moving_daemon_packets.specs.Flights.{HopsAtOnce, UnmarkedHopsAtOnce};
+ghost use Rattle.moving_daemon_packets.specs.Moving.{HoldsAtEveryMoment, ComesBackForBetter, ComesBackOncePublished, ComesBackSeldom, CalmStaysNear, SomeComesBack};
+
+/// Whatever happens, and in which order, also while ports get other neighbours: a packet that stays near comes back
+/// to a router only where that has published a better way since, and at most as often as that publishes, forgets a
+/// prefix or begins anew meanwhile. It stays near if, at no router on its way, a rise of the feasible distance, for
+/// the prefix by which it came, is both begun and published while it is there, and none is published by a router
+/// that forgets a prefix or begins anew. A port that gets another neighbour raises none. All hold where packets carry
+/// the session of the row, and where they do not and routers let in only what comes in the session of the message
+/// that they took last.
+pub fn comes_back()
+    ensures marked { HoldsAtEveryMoment (ComesBackForBetter entry_leads) }
+    ensures unmarked { HoldsAtEveryMoment (ComesBackForBetter unmarked_leads) }
+    ensures published { HoldsAtEveryMoment (ComesBackOncePublished entry_leads) }
+    ensures unmarked_published { HoldsAtEveryMoment (ComesBackOncePublished unmarked_leads) }
+    ensures seldom { HoldsAtEveryMoment (ComesBackSeldom entry_leads) }
+    ensures unmarked_seldom { HoldsAtEveryMoment (ComesBackSeldom unmarked_leads) }
+    ensures calm { HoldsAtEveryMoment (CalmStaysNear entry_leads) }
+    ensures unmarked_calm { HoldsAtEveryMoment (CalmStaysNear unmarked_leads) }
+{}
+
+/// A packet that is long on a link went when it left: where its row leads when the packet is let in, it led already
+/// then. So its hop may count as made then, and the time on the link as time at the router across. That holds if the
+/// link stays, and if what is on its way to a process ends with it, and so does what is on its way from it, but in
+/// sessions that the other end has come into. Of packets that tell no session it holds if each comes before any
+/// message of a later session.
+pub fn hops_at_once()
+    ensures marked { HoldsAtEveryMoment HopsAtOnce }
+    ensures unmarked { HoldsAtEveryMoment UnmarkedHopsAtOnce }
+{}
+
+/// Some packet stays near while a port of the router that it has left gets another neighbour, and comes back to
+/// that router, which has found a better way over the new link.
+pub fn some_comes_back()
+    ensures { SomeComesBack }
+{}

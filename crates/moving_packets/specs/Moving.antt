@@ -1,0 +1,186 @@
+-- A packet that is on its way while steps of every kind are done.
+use Rattle.std.specs.Prelude.{◌≡◌, ◌≢◌, ◌⊎◌, ℕ, suc, ◌+◌, ◌*◌, ◌<◌, ◌≤◌, Bool, true, false, ◌&&◌, ◌||◌, ◌==◌, nat_lt, if◌then◌else◌, List, [], ◌∷◌, Option, Some, None, IsSome, length, slice_get, ⊤}
+use Rattle.std.specs.Option.{option_map_or}
+use Rattle.ipv4_prefix.specs.Prefix.{Prefix, covers}
+use Rattle.network_model.specs.declared.route.Entry.{Entry}
+use Rattle.network_model.specs.declared.step.Step.{Step}
+use Rattle.network_model.specs.declared.step.Step.TheVariants.{Deliver, Publish}
+use Rattle.network_model.specs.Machine.{Machine, opening_machine}
+use Rattle.network_model.specs.World.{World, Network, machine_of, opening}
+use Rattle.network_model.specs.Network.{IsNetwork}
+use Rattle.network_model.specs.Step.{Lawful, next}
+use Rattle.network_model.specs.Run.{Runs, History, history, with_step}
+use Rattle.network_model.specs.Forwarding.{hop, IsForwarded}
+use Rattle.network_model.specs.View.{fd_in}
+use Rattle.machine_laws.specs.Laws.{is_active, is_up_at}
+use Rattle.no_packet_loops.specs.Packets.{published_entry}
+use Rattle.coming_to_rest.specs.Worlds.{is_own}
+use Rattle.all_packets.specs.Journeys.{is_taking, Event, Goes, Does, routers_met}
+
+-- what holds after every list of lawful steps from the opening of a network
+abbrev pub HoldsAfterEveryRun : (History → Type 0) → Type 0
+HoldsAfterEveryRun P = (n : Network) (ss : List Step) (w : World) → IsNetwork n → Runs (opening n) ss w → P (history n ss)
+
+-- ---- feasible distances
+
+-- the feasible distance of router i for the prefix
+abbrev pub fd_chosen : History → Prefix → ℕ → ℕ
+fd_chosen h p i = fd_in (h.world).routers p i
+
+-- and as it was when the router published last
+abbrev pub fd_published : History → Prefix → ℕ → ℕ
+fd_published h p i = fd_in h.published p i
+
+-- whether a step raises the one or the other
+abbrev pub rises : (History → Prefix → ℕ → ℕ) → History → Step → Prefix → ℕ → Bool
+rises fd h s p i = nat_lt (fd h p i) (fd (with_step h s) p i)
+
+-- the machine of router i for the prefix
+abbrev pub machine_at : World → Prefix → ℕ → Machine
+machine_at w p i = option_map_or (λ r. machine_of r p) (slice_get w.routers i) (opening_machine None [])
+
+-- where the feasible distances of a router rise
+pub record RisesComeFrom (h : History) : Type 0 where
+  -- the present one where it takes something; and if a port is up then, at the end of a computation, to its distance at most
+  pub taken : (s : Step) (p : Prefix) (i : ℕ) → Lawful h.world s → rises fd_chosen h s p i ≡ true → (q : ℕ) × (s ≡ Deliver i q)
+  pub completed : (s : Step) (p : Prefix) (i q : ℕ) → Lawful h.world s → rises fd_chosen h s p i ≡ true → is_up_at (machine_at (next h.world s) p i) q ≡ true
+      → (is_active (machine_at h.world p i) ≡ true) × (fd_chosen (with_step h s) p i ≤ (machine_at h.world p i).rd)
+  -- the published one where it publishes
+  pub published : (s : Step) (p : Prefix) (i : ℕ) → Lawful h.world s → rises fd_published h s p i ≡ true → s ≡ Publish i
+
+-- ---- a packet that moves
+
+-- where a packet is after these events, which began at router i
+abbrev pub router_after : ℕ → List Event → ℕ
+router_after i [] = i
+router_after i (Goes k ∷ es) = router_after k es
+router_after i (Does s ∷ es) = router_after i es
+
+-- what was done once these events have happened
+abbrev pub history_after : History → List Event → History
+history_after h [] = h
+history_after h (Goes k ∷ es) = history_after h es
+history_after h (Does s ∷ es) = history_after (with_step h s) es
+
+-- a packet is at router k, where it came by a row of prefix p whose published feasible distance was f. It goes on along the rows in force at each moment, while
+-- lawful steps of every kind are done. It stays near: whenever it leaves a router, and at the end, that router's published feasible distance for the prefix by
+-- which the packet came is still below that of the row by which it came
+abbrev pub StaysNear : History → ℕ → Prefix → ℕ → ℕ → List Event → Type 0
+StaysNear h addr p f k [] = fd_published h p k < f
+StaysNear h addr p f k (Goes l ∷ es) = (fd_published h p k < f) × ((q : Prefix) × IsForwarded h.world addr q k l × StaysNear h addr q (fd_published h q k) l es)
+StaysNear h addr p f k (Does s ∷ es) = Lawful h.world s × StaysNear (with_step h s) addr p f k es
+
+-- the same of a packet that is where no rise of a feasible distance for the prefix by which it came is both begun and published while it is there: risen
+-- says whether one has begun
+abbrev pub IsCalm : History → ℕ → Prefix → Bool → ℕ → List Event → Type 0
+IsCalm h addr p risen k [] = ⊤
+IsCalm h addr p risen k (Goes l ∷ es) = (q : Prefix) × IsForwarded h.world addr q k l × IsCalm h addr q false l es
+IsCalm h addr p risen k (Does s ∷ es) = Lawful h.world s × ((risen && rises fd_published h s p k) ≡ false) × IsCalm (with_step h s) addr p (risen || rises fd_chosen h s p k) k es
+
+-- such a packet stays near
+abbrev pub CalmStaysNear : History → Type 0
+CalmStaysNear h = (addr i k : ℕ) (p : Prefix) (es : List Event) → IsForwarded h.world addr p i k → IsCalm h addr p false k es → StaysNear h addr p (fd_published h p i) k es
+
+-- ---- a packet that comes back
+
+-- since a packet left a router by a row of prefix p, the router has published a better way for it: the same prefix at a lower feasible distance, or a row of
+-- another prefix, no shorter, of which it had none. These are the feasible distances for p with which it had published last, and the entries that it had
+-- published, then and now
+abbrev pub IsBetter : ℕ → Prefix → (fd_then fd_now : ℕ) → (then_published now_published : Prefix → Option Entry) → Type 0
+IsBetter addr p fd_then fd_now then_published now_published = (fd_now < fd_then)
+    ⊎ ((q : Prefix) × (covers q addr ≡ true) × (q ≢ p) × (p.len ≤ q.len) × (then_published q ≡ None) × IsSome (now_published q))
+
+-- router i has, from one moment to the other
+abbrev pub HasBetter : ℕ → ℕ → Prefix → History → History → Type 0
+HasBetter addr i p h h' = IsBetter addr p (fd_published h p i) (fd_published h' p i) (published_entry h.world i) (published_entry h'.world i)
+
+-- a packet that stays near comes back to a router only where that has published a better way since
+abbrev pub ComesBackForBetter : History → Type 0
+ComesBackForBetter h = (addr i k : ℕ) (p q : Prefix) (es : List Event) → IsForwarded h.world addr p i k → StaysNear h addr p (fd_published h p i) k es
+    → IsForwarded (history_after h es).world addr q (router_after k es) i → HasBetter addr i p h (history_after h es)
+
+-- whether router i publishes meanwhile
+abbrev pub publishes : ℕ → Step → Bool
+publishes i (Publish j) = i == j
+publishes i _ = false
+
+-- whether it does so in one of these events
+abbrev pub has_published : ℕ → List Event → Bool
+has_published i [] = false
+has_published i (Goes k ∷ es) = has_published i es
+has_published i (Does s ∷ es) = publishes i s || has_published i es
+
+-- so not to one that has published nothing since
+abbrev pub ComesBackOncePublished : History → Type 0
+ComesBackOncePublished h = (addr i k : ℕ) (p q : Prefix) (es : List Event) → IsForwarded h.world addr p i k → StaysNear h addr p (fd_published h p i) k es
+    → IsForwarded (history_after h es).world addr q (router_after k es) i → has_published i es ≡ true
+
+-- how often a packet comes to router i
+abbrev pub visits : ℕ → List Event → ℕ
+visits i [] = 0
+visits i (Goes k ∷ es) = if i == k then suc (visits i es) else visits i es
+visits i (Does s ∷ es) = visits i es
+
+-- how often that publishes meanwhile
+abbrev pub publications : ℕ → List Event → ℕ
+publications i [] = 0
+publications i (Goes k ∷ es) = publications i es
+publications i (Does s ∷ es) = if publishes i s then suc (publications i es) else publications i es
+
+-- a packet that stays near comes back to a router at most as often as that publishes meanwhile
+abbrev pub ComesBackSeldom : History → Type 0
+ComesBackSeldom h = (addr i k : ℕ) (p : Prefix) (es : List Event) → IsForwarded h.world addr p i k → StaysNear h addr p (fd_published h p i) k es → visits i es ≤ publications i es
+
+-- ---- how far it goes
+
+-- each hop is by a row of this prefix
+abbrev pub IsBy : History → ℕ → Prefix → ℕ → List Event → Type 0
+IsBy h addr p k [] = ⊤
+IsBy h addr p k (Goes l ∷ es) = IsForwarded h.world addr p k l × IsBy h addr p l es
+IsBy h addr p k (Does s ∷ es) = IsBy (with_step h s) addr p k es
+
+-- where a packet stays near, each hop by one prefix brings it nearer, by the published feasible distances
+abbrev pub HopsComeNearer : History → Type 0
+HopsComeNearer h = (addr i k : ℕ) (p : Prefix) (es : List Event) → IsForwarded h.world addr p i k → StaysNear h addr p (fd_published h p i) k es → IsBy h addr p k es
+    → length (i ∷ routers_met es) + fd_published (history_after h es) p (router_after k es) ≤ fd_published h p i
+
+-- a packet goes on along the rows in force at each moment, while lawful steps of every kind are done
+abbrev pub IsMoving : World → ℕ → ℕ → List Event → Type 0
+IsMoving w addr i [] = ⊤
+IsMoving w addr i (Goes k ∷ es) = (hop w addr i ≡ Some k) × IsMoving w addr k es
+IsMoving w addr i (Does s ∷ es) = Lawful w s × IsMoving (next w s) addr i es
+
+-- how often a router takes something meanwhile
+abbrev pub takings : List Event → ℕ
+takings [] = 0
+takings (Goes k ∷ es) = takings es
+takings (Does s ∷ es) = if is_taking s then suc (takings es) else takings es
+
+-- a packet makes fewer hops than there are routers, for each taking, and once more
+abbrev pub HopsAreFew : World → Type 0
+HopsAreFew w = (addr i : ℕ) (es : List Event) → i < length w.routers → IsMoving w addr i es → length (routers_met es) < suc (takings es) * length w.routers
+
+-- no step is done but the network's own
+abbrev pub OwnAlone : List Event → Type 0
+OwnAlone [] = ⊤
+OwnAlone (Goes k ∷ es) = OwnAlone es
+OwnAlone (Does s ∷ es) = (is_own s ≡ true) × OwnAlone es
+
+-- in a network that is left alone some number is exceeded by the hops of no packet, whatever is done in whatever order
+abbrev pub HopsEnd : World → Type 0
+HopsEnd w = (most : ℕ) × ((addr i : ℕ) (es : List Event) → i < length w.routers → IsMoving w addr i es → OwnAlone es → length (routers_met es) ≤ most)
+
+-- ---- that there is something to say
+
+-- some packet stays near, and comes back to a router that has published a better way
+abbrev pub SomeComesBackForBetter : Type 0
+SomeComesBackForBetter = (n : Network) × (ss : List Step) × (w : World) × (addr : ℕ) × (i : ℕ) × (k : ℕ) × (p : Prefix) × (es : List Event) × IsNetwork n × Runs (opening n) ss w
+    × IsForwarded (history n ss).world addr p i k × StaysNear (history n ss) addr p (fd_published (history n ss) p i) k es
+    × IsForwarded (history_after (history n ss) es).world addr p (router_after k es) i
+
+-- some packet does not stay near, and comes back to a router that has no better way
+abbrev pub SomeComesBackAfterRise : Type 0
+SomeComesBackAfterRise = (n : Network) × (ss : List Step) × (w : World) × (addr : ℕ) × (i : ℕ) × (k : ℕ) × (p : Prefix) × (es : List Event) × IsNetwork n × Runs (opening n) ss w
+    × IsForwarded (history n ss).world addr p i k × IsMoving w addr k es
+    × IsForwarded (history_after (history n ss) es).world addr p (router_after k es) i
+    × (HasBetter addr i p (history n ss) (history_after (history n ss) es) → ⊥)
