@@ -117,7 +117,7 @@ impl Image {
         };
         // SAFETY: a slice's pointer is not null, and the handle is empty.
         let status =
-            unsafe { sys::tuhvondi_image_new(rows.as_ptr(), rows.len(), &mut image.handle) };
+            unsafe { sys::tuhvondi_image_new(rows.as_ptr().cast(), rows.len(), &mut image.handle) };
         Status::check(status)?;
         Ok(image)
     }
@@ -144,7 +144,7 @@ impl Image {
         // SAFETY: as in `new`.
         Status::check(unsafe {
             sys::tuhvondi_image_new_words(
-                rows.as_ptr(),
+                rows.as_ptr().cast(),
                 rows.len(),
                 words.as_ptr(),
                 words.len(),
@@ -171,7 +171,12 @@ impl Image {
     pub fn apply(&mut self, generation: u64, rows: &[Row]) -> Result<(), Status> {
         // SAFETY: as in `new`; the handle is held by nobody else, and holds an image.
         Status::check(unsafe {
-            sys::tuhvondi_image_apply(&mut self.handle, generation, rows.as_ptr(), rows.len())
+            sys::tuhvondi_image_apply(
+                &mut self.handle,
+                generation,
+                rows.as_ptr().cast(),
+                rows.len(),
+            )
         })
     }
 
@@ -202,7 +207,7 @@ impl Image {
             sys::tuhvondi_image_apply_words(
                 &mut self.handle,
                 generation,
-                rows.as_ptr(),
+                rows.as_ptr().cast(),
                 rows.len(),
                 words.as_ptr(),
                 words.len(),
@@ -232,7 +237,7 @@ impl Image {
             sys::tuhvondi_image_remove(
                 &mut self.handle,
                 generation,
-                prefixes.as_ptr(),
+                prefixes.as_ptr().cast(),
                 prefixes.len(),
             )
         })
@@ -399,7 +404,7 @@ impl Image {
                 &mut self.handle,
                 addrs.as_ptr(),
                 addrs.len(),
-                answers.as_mut_ptr(),
+                answers.as_mut_ptr().cast(),
                 answers.len(),
             )
         })
@@ -524,7 +529,7 @@ impl Iterator for Rows<'_> {
                 sys::tuhvondi_image_rows_words(
                     &mut self.image.handle,
                     &mut self.from,
-                    self.rows.as_mut_ptr(),
+                    self.rows.as_mut_ptr().cast(),
                     LISTED,
                     self.words.as_mut_ptr(),
                     LISTED,

@@ -30,7 +30,6 @@ mod prefix;
 mod router;
 mod row;
 mod status;
-mod sys;
 mod table;
 
 pub use image::{Answer, Image, NO_WORD, Reader, Rows};
@@ -39,6 +38,8 @@ pub use router::{Counts, Distance, Message, MessageKind, PrefixState, Publicatio
 pub use row::{Row, Target};
 pub use status::Status;
 pub use table::{TableReader, TableWriter};
+
+use tuhvondi_sys as sys;
 
 #[cfg(doctest)]
 #[doc = include_str!("../README.md")]

@@ -1,5 +1,6 @@
 //! Prefixes of IPv4 addresses.
 
+use crate::sys;
 use std::error::Error;
 use std::fmt::{Display, Formatter, Result};
 use std::net::Ipv4Addr;
@@ -17,12 +18,9 @@ use std::str::FromStr;
 /// # Ok::<(), BadPrefix>(())
 /// ```
 // As C has it; the order is by address, and then by length.
-#[repr(C)]
+#[repr(transparent)]
 #[derive(Clone, Copy, Debug, PartialEq, Eq, PartialOrd, Ord, Hash)]
-pub struct Prefix {
-    addr: u32,
-    len: u8,
-}
+pub struct Prefix(sys::Prefix);
 
 /// A text or a pair of numbers is no prefix: a length above 32, or bits after it.
 ///
@@ -48,7 +46,7 @@ impl Prefix {
         if len > 32 || addr & !mask(len) != 0 {
             return Err(BadPrefix);
         }
-        Ok(Prefix { addr, len })
+        Ok(Prefix::given(addr, len))
     }
 
     /// Its address.
@@ -60,7 +58,7 @@ impl Prefix {
     /// # Ok::<(), Box<dyn std::error::Error>>(())
     /// ```
     pub fn addr(self) -> Ipv4Addr {
-        self.addr.into()
+        self.0.addr.into()
     }
 
     /// How many bits it has.
@@ -73,7 +71,7 @@ impl Prefix {
     /// ```
     #[allow(clippy::len_without_is_empty)]
     pub fn len(self) -> u8 {
-        self.len
+        self.0.len
     }
 
     /// Whether an address has the prefix's bits.
@@ -86,16 +84,16 @@ impl Prefix {
     /// # Ok::<(), Box<dyn std::error::Error>>(())
     /// ```
     pub fn covers(self, addr: Ipv4Addr) -> bool {
-        u32::from(addr) & mask(self.len) == self.addr
+        u32::from(addr) & mask(self.0.len) == self.0.addr
     }
 
     pub(crate) fn bits(self) -> u32 {
-        self.addr
+        self.0.addr
     }
 
     /// A prefix that a library gave.
     pub(crate) fn given(addr: u32, len: u8) -> Prefix {
-        Prefix { addr, len }
+        Prefix(sys::Prefix { addr, len })
     }
 }
 
@@ -118,7 +116,7 @@ impl FromStr for Prefix {
 
 impl Display for Prefix {
     fn fmt(&self, f: &mut Formatter<'_>) -> Result {
-        write!(f, "{}/{}", self.addr(), self.len)
+        write!(f, "{}/{}", self.addr(), self.0.len)
     }
 }
 

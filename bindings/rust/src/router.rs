@@ -517,7 +517,7 @@ impl Router {
         Status::check(unsafe {
             sys::tuhvondi_router_publish(
                 &mut self.handle,
-                rows.as_mut_ptr(),
+                rows.as_mut_ptr().cast(),
                 rows.len(),
                 &mut written,
                 &mut more,
@@ -584,8 +584,8 @@ impl Router {
             rd: 0,
             fd: 0,
             attached: 0,
-            chosen: Answer::default(),
-            published: Answer::default(),
+            chosen: Row::NONE.0,
+            published: Row::NONE.0,
             active: 0,
             owed: 0,
             awaited: [0; 32],
@@ -597,8 +597,8 @@ impl Router {
             distance: Distance(state.rd),
             feasible: Distance(state.fd),
             attached: u16::try_from(state.attached).ok().and_then(NonZeroU16::new),
-            chosen: state.chosen.row(),
-            published: state.published.row(),
+            chosen: Some(Row(state.chosen)).filter(|row| row.is_one()),
+            published: Some(Row(state.published)).filter(|row| row.is_one()),
             is_active: state.active == 1,
             owed: (state.owed < 32).then_some(state.owed),
             awaited: (0..32)
@@ -629,7 +629,7 @@ impl Router {
         Status::check(unsafe {
             sys::tuhvondi_router_rows(
                 &mut self.handle,
-                rows.as_mut_ptr(),
+                rows.as_mut_ptr().cast(),
                 rows.len(),
                 &mut written,
             )

@@ -1,6 +1,6 @@
 //! Rows of forwarding tables.
 
-use crate::Prefix;
+use crate::{Prefix, sys};
 use std::fmt::{Display, Formatter, Result};
 
 /// Where packets go that a row's prefix matches.
@@ -38,15 +38,9 @@ pub enum Target {
 /// # Ok::<(), tuhvondi::BadPrefix>(())
 /// ```
 // As C has it; its prefix is one, and its kind is below 3.
-#[repr(C)]
+#[repr(transparent)]
 #[derive(Clone, Copy, PartialEq, Eq, Hash)]
-pub struct Row {
-    addr: u32,
-    len: u8,
-    kind: u8,
-    port: u8,
-    session: u16,
-}
+pub struct Row(pub(crate) sys::Row);
 
 impl Row {
     /// The row of a prefix.
@@ -63,13 +57,13 @@ impl Row {
             Target::Via { port, session } => (1, port, session),
             Target::Unreachable => (2, 0, 0),
         };
-        Row {
+        Row(sys::Row {
             addr: prefix.bits(),
             len: prefix.len(),
             kind,
             port,
             session,
-        }
+        })
     }
 
     /// Its prefix.
@@ -81,7 +75,7 @@ impl Row {
     /// # Ok::<(), Box<dyn std::error::Error>>(())
     /// ```
     pub fn prefix(self) -> Prefix {
-        Prefix::given(self.addr, self.len)
+        Prefix::given(self.0.addr, self.0.len)
     }
 
     /// Where packets go that it matches.
@@ -93,11 +87,11 @@ impl Row {
     /// # Ok::<(), Box<dyn std::error::Error>>(())
     /// ```
     pub fn target(self) -> Target {
-        match self.kind {
+        match self.0.kind {
             0 => Target::Local,
             1 => Target::Via {
-                port: self.port,
-                session: self.session,
+                port: self.0.port,
+                session: self.0.session,
             },
             _ => Target::Unreachable,
         }
@@ -105,17 +99,17 @@ impl Row {
 
     /// Whether a library has written a row here: kind 3 is none.
     pub(crate) fn is_one(self) -> bool {
-        self.kind < 3
+        self.0.kind < 3
     }
 
     /// No row, as a library writes it.
-    pub(crate) const NONE: Row = Row {
+    pub(crate) const NONE: Row = Row(sys::Row {
         addr: 0,
         len: 0,
         kind: 3,
         port: 0,
         session: 0,
-    };
+    });
 }
 
 impl Display for Row {

@@ -95,9 +95,9 @@ impl TableWriter {
             sys::tuhvondi_writer_publish(
                 &mut self.handle,
                 generation,
-                rows.as_ptr(),
+                rows.as_ptr().cast(),
                 rows.len(),
-                prefixes.as_ptr(),
+                prefixes.as_ptr().cast(),
                 prefixes.len(),
             )
         })
@@ -133,11 +133,11 @@ impl TableWriter {
             sys::tuhvondi_writer_publish_words(
                 &mut self.handle,
                 generation,
-                rows.as_ptr(),
+                rows.as_ptr().cast(),
                 rows.len(),
                 words.as_ptr(),
                 words.len(),
-                prefixes.as_ptr(),
+                prefixes.as_ptr().cast(),
                 prefixes.len(),
             )
         })
@@ -259,7 +259,7 @@ impl TableReader {
                 &mut self.handle,
                 addrs.as_ptr(),
                 addrs.len(),
-                answers.as_mut_ptr(),
+                answers.as_mut_ptr().cast(),
                 answers.len(),
                 &mut generation,
             )
