@@ -1,3 +1,4 @@
+/* SPDX-License-Identifier: MIT OR Apache-2.0 */
 /* Forwarding images for C and C++ programs.
  *
  * For each packet a router needs the row of its table with the longest prefix that covers the packet's
@@ -56,6 +57,10 @@ extern "C" {
 #else
 #define TUHVONDI_ASSERT(test, text) _Static_assert(test, text)
 #endif
+
+/* The version of this header, and that of the library that a program runs with, which may be a later one. */
+#define TUHVONDI_VERSION "0.1.0"
+const char *tuhvondi_version(void);
 
 /* What a call answers: done, or why it is refused, and then what its handle holds stays as it is. A call
  * tests for faults in the order of their numbers, and for want of memory last, unless its comment gives

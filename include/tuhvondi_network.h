@@ -1,3 +1,4 @@
+/* SPDX-License-Identifier: MIT OR Apache-2.0 */
 /* A whole network of routers in one process, for C and C++ programs.
  *
  * A simulator wants to see what happens while a network changes: which packets are lost, how many messages it

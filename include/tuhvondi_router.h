@@ -1,3 +1,4 @@
+/* SPDX-License-Identifier: MIT OR Apache-2.0 */
 /* One router of a network, for C and C++ programs.
  *
  * When a link fails, routers change their routes one after another, so packets can circle meanwhile, which

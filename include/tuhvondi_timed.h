@@ -1,3 +1,4 @@
+/* SPDX-License-Identifier: MIT OR Apache-2.0 */
 /* A whole network of routers in simulated time, for C and C++ programs.
  *
  * A simulator wants to know how long a network takes to come to rest, and for how long packets are lost, of
