@@ -58,15 +58,15 @@ delays of a timed network are whole numbers of microseconds, and its opening is 
 What is proved
 ==============
 
-Each answer is that of the library `libtuhvondi.so`, whose functions are proved: no packet circles, whatever
-happens and in whatever order, and rows lead at least cost if nothing is left to do. This package is not
-proved. It turns values of Python into values of C and back, and is tested. The library may be one that was
-built without proofs: it then says so as it is loaded.
+Each answer is that of the library, whose functions are proved: no packet circles, whatever happens and in
+whatever order, and rows lead at least cost if nothing is left to do. This package is not proved. It turns
+values of Python into values of C and back, and is tested. The library may be one that was built without
+proofs: it then says so as it is loaded.
 
 The library is looked for where TUHVONDI_LIBRARY says, else beside this file, else where the system looks for
-libraries. `./install --python FOLDER`, in the repository, makes it. Its rules ask that no two threads are in
-it at once. The interpreter's lock sees to that. In an interpreter without that lock keep what you make here
-to one thread.
+libraries. The wheel has it, and what `./install` in the repository installs. Its rules ask that no two threads
+are in it at once. The interpreter's lock sees to that. In an interpreter without that lock keep what you make
+here to one thread.
 """
 
 from . import study

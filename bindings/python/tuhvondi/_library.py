@@ -14,6 +14,8 @@ from pathlib import Path
 from types import SimpleNamespace
 from typing import Any, Iterator
 
+# The name of the library that has these functions and structures.
+SONAME = "libtuhvondi.so.0"
 # How many ports a router has at most.
 PORTS = 32
 # The distance of a destination that cannot be reached, and the largest number that a field of a cost can
@@ -243,13 +245,13 @@ def _places() -> Iterator[str]:
     beside = Path(__file__).resolve().with_name("libtuhvondi.so")
     if beside.exists():
         yield str(beside)
-    yield "libtuhvondi.so"
+    yield SONAME
 
 
 def _missing(name: str) -> Any:
     """Stands in for a function that the library does not have."""
     def refuse(*_arguments: Any) -> Any:
-        raise LibraryNotFound(f"libtuhvondi.so has no {name}: make it anew by ./install --python FOLDER")
+        raise LibraryNotFound(f"the library has no {name}: it is older than this package")
     return refuse
 
 
@@ -279,4 +281,4 @@ def functions() -> SimpleNamespace:
             found[name[len("tuhvondi_"):]] = function
         return SimpleNamespace(**found)
     raise LibraryNotFound(
-        f"{why}; ./install --python FOLDER makes libtuhvondi.so, and TUHVONDI_LIBRARY says where it is")
+        f"{why}; the wheel has it, libtuhvondi0 for Debian, and what ./install installs, and TUHVONDI_LIBRARY says where it is")
