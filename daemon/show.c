@@ -165,7 +165,7 @@ static void show_routes(struct daemon *daemon, struct text *out, bool json)
         text_put(out, json && i > 0 ? "," : "");
         show_route(daemon, out, &rows[i], json);
     }
-    text_put(out, json ? "]\n" : "");
+    text_put(out, json ? "]\n" : count == 0 ? "no routes\n" : "");
 }
 
 static void show_fault(struct text *out, const char *what, bool json)
@@ -293,7 +293,7 @@ static void show_neighbours(struct daemon *daemon, struct text *out, bool json)
             show_neighbour(out, peer, now);
         is_first = false;
     }
-    text_put(out, json ? "]\n" : "");
+    text_put(out, json ? "]\n" : is_first ? "no neighbours\n" : "");
 }
 
 static struct peer_counters sums_of(struct daemon *daemon)
