@@ -5,9 +5,9 @@
 
 does the script of a scenario and prints what `dualnet run` prints for it. It shares no code with
 the program, and is there to be compared with it: in what it prints, and in how long it takes. It
-presumes a scenario without faults. It has no `inject` and `drain`: at one of these it ends with
-status 1. It does `save` and `restore` as the program does with `--no-journal`. With `--time` it says
-on standard error how many steps it did, in how many seconds.
+presumes a scenario without faults, and Python 3.11. It has no `inject` and `drain`: at one of these
+it ends with status 1. It does `save` and `restore` as the program does with `--no-journal`. With
+`--time` it says on standard error how many steps it did, in how many seconds.
 """
 
 import sys
@@ -236,12 +236,22 @@ def play(session: Session, script: list[str]) -> int:
 
 def main(words: list[str]) -> int:
     is_timed = words[:1] == ["--time"]
-    with open(words[-1], "rb") as file:
-        scenario = tomllib.load(file)
-    network = Network(scenario["routers"], scenario["links"], scenario["prefixes"])
-    start = time.perf_counter()
-    session = Session(network)
-    status = play(session, scenario["script"])
+    if len(words) != 1 + is_timed or words[-1].startswith("-"):
+        print("usage: python3 model/model.py [--time] SCENARIO.toml", file=sys.stderr)
+        return 2
+    try:
+        with open(words[-1], "rb") as file:
+            scenario = tomllib.load(file)
+        network = Network(scenario["routers"], scenario["links"], scenario["prefixes"])
+        start = time.perf_counter()
+        session = Session(network)
+        status = play(session, scenario["script"])
+    except OSError as fault:
+        print(f"model.py: {fault}", file=sys.stderr)
+        return 1
+    except (LookupError, TypeError, ValueError) as fault:
+        print(f"model.py: it presumes a scenario without faults: {fault!r}", file=sys.stderr)
+        return 1
     seconds = time.perf_counter() - start
     if is_timed:
         steps = session.network.steps
