@@ -59,7 +59,7 @@ extern "C" {
 #endif
 
 /* The version of this header, and that of the library that a program runs with, which may be a later one. */
-#define TUHVONDI_VERSION "0.1.0"
+#define TUHVONDI_VERSION "0.2.0"
 const char *tuhvondi_version(void);
 
 /* What a call answers: done, or why it is refused, and then what its handle holds stays as it is. A call

@@ -84,7 +84,7 @@ from .status import (AlreadyUp, AskedTwice, BadCost, BadCount, BadKind, BadLengt
                      UnknownPort, UnknownPrefix, UnknownRouter)
 from .timed import Event, Spell, TimedNetwork
 
-__version__ = "0.1.0"
+__version__ = "0.2.0"
 
 __all__ = [
     "study",

@@ -99,7 +99,7 @@ pub(crate) fn program_command<'a>(alloc: Global) -> Result<Command<'a>, AllocErr
 {
     Command::new(alloc, "dualnet")
         .about("A network of IPv4 routers that route by DUAL and forward by longest match")
-        .version("0.1.0")
+        .version("0.2.0")
         .after_help(AFTER_HELP)
         .subcommand_required(true)
         .subcommand(check_command(alloc)?)?

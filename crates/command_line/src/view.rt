@@ -40,7 +40,7 @@ fn view_command<'a>(alloc: Global) -> Result<Command<'a>, AllocError>
 {
     let command = Command::new(alloc, "dualnet-view")
         .about("Writes the run of a network as a page for a browser, or as lines of JSON")
-        .version("0.1.0")
+        .version("0.2.0")
         .after_help(AFTER_HELP);
     with_arguments(alloc, command, &[FILE, JOURNAL, TIMES, OUTPUT, JSON])
 }
