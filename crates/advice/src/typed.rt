@@ -2,8 +2,7 @@
 
 use crate::command::{explain_command, explain_of_shell};
 use crate::shown::shown;
-use explanations::Brief;
-use faults::FaultKind;
+use faults::{Brief, FaultKind};
 use network_model::LinkSpec;
 use script::Names;
 use std::alloc::Global;

@@ -12,6 +12,10 @@ use Rattle.c_interface.specs.declared.row.Row.{Row}
 abbrev pub prefix_fault : ℕ → ℕ → Option CallFault
 prefix_fault addr len = if nat_lt 32 len then Some BadLength else if addr % 2 ^ (32 - len) == 0 then None else Some HostBits
 
+-- the prefix of these numbers, where they are one
+abbrev pub as_prefix : ℕ → ℕ → Prefix
+as_prefix addr len = record { addr = addr; len = len }
+
 -- the first of the tests that a row fails, if any
 abbrev pub row_fault : Row → Option CallFault
 row_fault r = first_of (prefix_fault r.addr r.len) (if nat_lt 2 r.kind then Some BadKind else None)
@@ -22,7 +26,7 @@ row_target r = if r.kind == 0 then Local else if r.kind == 1 then Via r.port r.s
 
 -- the prefix and the entry of a row
 abbrev pub row_entry : Row → Prefix × Entry
-row_entry r = (record { addr = r.addr; len = r.len }, row_target r)
+row_entry r = (as_prefix r.addr r.len, row_target r)
 
 -- the row that says where packets go: fields that the kind does not need are 0
 abbrev pub entry_row : Prefix → Entry → Row

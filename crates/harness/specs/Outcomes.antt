@@ -2,9 +2,9 @@
 use Rattle.std.specs.Prelude.{◌≡◌, ℕ, ◌⊎◌, Option, true, []}
 use Rattle.texts.specs.Words.{Text}
 use Rattle.command_line.specs.declared.words.Words.{Words}
-use Rattle.reports.specs.declared.outcome.Outcome.{Outcome}
+use Rattle.plans.specs.declared.outcome.Outcome.{Outcome}
 use Rattle.plans.specs.declared.fault.Fault.{Fault}
-use Rattle.reports.specs.Ends.{status_at}
+use Rattle.plans.specs.Faults.{status_at}
 use Rattle.play.specs.Outcomes.{Ends, StopsWords}
 use Rattle.plans.specs.Faults.{status_of}
 

@@ -1,2 +1,4 @@
 mod Joined
 mod Rows
+pub mod Fronts
+pub mod Printed

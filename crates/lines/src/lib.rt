@@ -1,8 +1,9 @@
-//! The lines that a run or a replay prints, each as text for people and as an object of JSON.
+//! The lines that a run, a shell or a replay prints of a network, each as text for people and as an object of JSON.
 //!
-//! A text for people is hard to read by programs, so each line can be printed as JSON, too. If each caller
-//! made both, they would soon tell different things, so a line is a value ([`Line`]), made once, and there
-//! are two renderings of it:
+//! A run, a shell and a replay print the same lines, and a journal keeps some of them. If each wrote its own, a
+//! replay could not compare them, so what a line tells of a network is read from it here. A text for people is
+//! hard to read by programs, so each line can be printed as JSON, too. A line is therefore a value ([`Line`]),
+//! made once, and there are two renderings of it:
 //!
 //! ```text
 //!   Line::Asked(Asked::Row { .. })        Text  b 10.0.0.0/8 via a 1
@@ -13,10 +14,22 @@
 //! ```
 //!
 //! ```text
-//! let line = Line::Asked(Asked::Row { router, prefix, entry });
-//! writeln!(out, "{}", Text { directory: &directory, line: &line })?;
-//! writeln!(out, "{}", Json { directory: &directory, line: &line })?;
+//! let printer = Printer { directory: &directory, format: Format::Text };
+//! printer.print(&Line::Asked(Asked::Row { router, prefix, entry }), &mut out)?;
+//! print_report(fabric.world(), &printer, &mut out)?;
+//!
+//!   link a b up 1 5 5 queued 0 0                  costs from both ends, items to be taken at both
+//!   a gen 1 held 0 ripe 0 attach 0                publications, messages held and ripe, notices
+//!   a 10.0.0.0/8 passive RD 1 FD 1 local          its machine for the prefix
 //! ```
+//!
+//! - [`print_report`] prints each link, then each router with its machines, in the order of the prefixes.
+//! - [`print_state`] prints one machine, and why it is at that, if more is to be told. [`show_table`] prints
+//!   a router's published rows.
+//! - [`show_next`] prints what a router has to do next, [`show_queue`] what it has yet to take from a port, and
+//!   [`show_held`] what it holds. [`moved_by`] tells what a step takes from a queue, or sends.
+//! - [`LinkState`], [`RouterState`] and [`MachineState`] are plain records of what each is at, and `run_states`
+//!   compares them from step to step.
 //!
 //! - The first key of an object is `kind`, by which a reader knows the other keys, which come in one
 //!   order.
@@ -26,7 +39,11 @@
 //!
 //! What always holds: what is written is the text of its definition, to the byte (`line_text` and `line_json`
 //! in `specs/Lines.antt`; what they say of each kind of line is in `specs/Texts.antt` and `specs/Objects.antt`).
-//! There are no spaces between the parts of an object. A line is written part by part, and no call takes memory.
+//! There are no spaces between the parts of an object. A line is written part by part, which takes no memory.
+//! A record says what the model's link, router or machine has (`specs/States.antt`), and so does a line of a
+//! machine (`IsMachineLine` in `specs/Report.antt`), of a queue or of a gate (`specs/Waiting.antt`).
+//!
+//! No clause says that a report tells of all links and routers, so that is tested.
 //!
 //! What is tricky: no text is escaped, because none needs it: names are small letters and digits, and
 //! prefixes and addresses are digits, dots and slashes. `Names` takes no other names, so none can come here.
@@ -41,10 +58,17 @@
 
 mod answers;
 mod ends;
+mod explained;
 mod json;
 mod line;
+mod moved;
+mod printer;
+mod queues;
 mod reasons;
+mod records;
+mod report;
 mod states;
+mod table;
 mod text;
 mod values;
 mod waiting;
@@ -53,7 +77,13 @@ pub use answers::{Answer, Asked};
 pub use ends::{Counts, Ended};
 pub use json::Json;
 pub use line::Line;
+pub use moved::moved_by;
+pub use printer::{Printer, print_either};
+pub use queues::{queue_at, show_held, show_next, show_queue};
 pub use reasons::Known;
+pub use records::{LinkState, MachineState, RouterState};
+pub use report::{print_report, print_state};
 pub use states::{LinkLine, MachineLine, RouterLine, State};
+pub use table::show_table;
 pub use text::Text;
 pub use waiting::Waiting;

@@ -4,11 +4,11 @@ ghost use Rattle.std.specs.Prelude.{Some};
 ghost use Rattle.lines.specs.Texts.{link_text, loads_text, machine_text, origin_text, router_text, state_text, up_text};
 ghost use Rattle.lines.specs.Objects.{distances_json, link_json, loads_json, machine_json, number_json, router_json, state_json};
 
+use crate::records::{LinkState, MachineState, RouterState};
 use crate::values::{DistanceJson, EntryJson, EntryText};
 use ipv4_prefix::Prefix;
 use metric::Distance;
 use network_model::Entry;
-use network_states::{LinkState, MachineState, RouterState};
 use script::Directory;
 use std::fmt;
 

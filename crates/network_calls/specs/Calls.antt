@@ -15,7 +15,7 @@ use Rattle.network_model.specs.Network.{first_cause}
 use Rattle.network_model.specs.World.{Router, World}
 use Rattle.ipv4_prefix.specs.Prefix.{Prefix}
 use Rattle.world.specs.Steps.{port_refusal, is_stale, DeliveryNeedsMemory}
-use Rattle.c_interface.specs.Rows.{answer_row, prefix_fault}
+use Rattle.c_interface.specs.Rows.{answer_row, as_prefix, prefix_fault}
 use Rattle.c_interface.specs.declared.fault.CallFault.TheVariants.{Empty, BadCount}
 use Rattle.c_interface.specs.declared.row.Row.{Row}
 use Rattle.single_router.specs.Publishing.{IsWrittenOver}
@@ -24,7 +24,6 @@ use Rattle.simulation.specs.Simulation.{Simulation, after_steps, simulation_refu
 use Rattle.simulation.specs.Tracing.{IsTraced}
 use Rattle.network_calls.specs.Failures.{failure_number, refusal_number}
 use Rattle.network_calls.specs.Steps.{parts_of_step_fault, step_of}
-use Rattle.network_calls.specs.Parts.{as_prefix}
 use Rattle.network_calls.specs.Shown.{machine_at}
 use Rattle.network_calls.specs.declared.machine.MachineShown.{MachineShown}
 use Rattle.network_calls.specs.declared.counts.Counts.{Counts}

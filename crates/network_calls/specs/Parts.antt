@@ -10,7 +10,7 @@ use Rattle.network_model.specs.declared.network.NetworkFault.TheVariants.{BadRou
 use Rattle.network_model.specs.World.{Network}
 use Rattle.network_model.specs.Network.{network_fault, widest_limits, AreWithin}
 use Rattle.c_interface.specs.Faults.{first_of}
-use Rattle.c_interface.specs.Rows.{prefix_fault}
+use Rattle.c_interface.specs.Rows.{as_prefix, prefix_fault}
 use Rattle.c_interface.specs.declared.fault.CallFault.{CallFault}
 use Rattle.c_interface.specs.declared.fault.CallFault.TheVariants.{BadCost, NoMemory}
 use Rattle.network_calls.specs.Failures.{failure_number}
@@ -24,10 +24,6 @@ use Rattle.network_calls.specs.declared.parts.FaultPlace.{FaultPlace}
 -- why a number is no cost
 abbrev pub cost_fault : ℕ → Option CallFault
 cost_fault n = if nat_le 1 n && nat_le n greatest_cost then None else Some BadCost
-
--- the prefix of these numbers, where they are one
-abbrev pub as_prefix : ℕ → ℕ → Prefix
-as_prefix addr len = record { addr = addr; len = len }
 
 -- ---- limits
 

@@ -4,10 +4,10 @@ use Rattle.ipv4_prefix.specs.Prefix.{Prefix}
 use Rattle.network_model.specs.declared.step.Step.{Step}
 use Rattle.network_model.specs.declared.step.Step.TheVariants.{LinkUp, LinkDown, SetCost, Deliver, Publish, Release, Attach, Detach}
 use Rattle.c_interface.specs.Faults.{first_of}
-use Rattle.c_interface.specs.Rows.{prefix_fault}
+use Rattle.c_interface.specs.Rows.{as_prefix, prefix_fault}
 use Rattle.c_interface.specs.declared.fault.CallFault.{CallFault}
 use Rattle.c_interface.specs.declared.fault.CallFault.TheVariants.{BadKind}
-use Rattle.network_calls.specs.Parts.{as_prefix, cost_fault}
+use Rattle.network_calls.specs.Parts.{cost_fault}
 use Rattle.network_calls.specs.declared.step.StepParts.{StepParts}
 
 -- the prefix, where it is one

@@ -1,10 +1,10 @@
 //! The calls that show what is on a machine, a link, a queue, a gate and a queue of notices.
 
 ghost use Rattle.std.specs.Prelude.{◌≡◌, ◌≢◌, Some, IfSome, option_map, slice_get};
+ghost use Rattle.c_interface.specs.Rows.{as_prefix};
 ghost use Rattle.network_calls.specs.Calls.{at_link, at_machine, at_port, at_router, shown_machine};
 ghost use Rattle.network_calls.specs.Failures.{status_by};
 ghost use Rattle.network_ffi.specs.Handles.{handle_network};
-ghost use Rattle.network_calls.specs.Parts.{as_prefix};
 ghost use Rattle.network_calls.specs.Shown.{gate_at, link_shown, AreHeldShown, AreNoticesShown, IsQueueShown};
 
 use crate::handle::NetworkHandle;

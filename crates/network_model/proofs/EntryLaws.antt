@@ -1,6 +1,7 @@
 -- The test that tells whether two entries are equal.
 use Rattle.std.proofs.Common.{refl, ◌≡◌, true}
 use Rattle.std.proofs.lemmas.Bool.{and_parts, and_from, eqb-true, eq-eqb}
+use Rattle.network_model.specs.contracts.route.EntryPartialEq.TheImpl as DerivedEq
 use Rattle.network_model.specs.declared.route.Entry.{Entry}
 use Rattle.network_model.specs.declared.route.Entry.TheVariants.{Local, Via, Unreachable}
 use Rattle.network_model.specs.Step.{entry_eq}
@@ -22,3 +23,15 @@ entry_from_eq (Via p s) Local h = absurd (cc)
 entry_from_eq (Via p s) Unreachable h = absurd (cc)
 entry_from_eq Unreachable Local h = absurd (cc)
 entry_from_eq Unreachable (Via q t) h = absurd (cc)
+
+-- what `==` answers at entries
+pub entry_partial_eq : (e f : Entry) → (DerivedEq.ghosts).eq e f ≡ entry_eq e f
+entry_partial_eq Local Local = refl
+entry_partial_eq Local (Via p s) = refl
+entry_partial_eq Local Unreachable = refl
+entry_partial_eq (Via p s) Local = refl
+entry_partial_eq (Via p s) (Via q t) = refl
+entry_partial_eq (Via p s) Unreachable = refl
+entry_partial_eq Unreachable Local = refl
+entry_partial_eq Unreachable (Via p s) = refl
+entry_partial_eq Unreachable Unreachable = refl

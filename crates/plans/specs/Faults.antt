@@ -1,5 +1,7 @@
 -- The program's faults.
 use Rattle.std.specs.Prelude.{◌≡◌, ℕ, ◌<◌, ◌≤◌, ⊤, Bool, true, false, ◌||◌, if◌then◌else◌, IsTrue, IsUtf8, Option, None, Some, IfSome, length}
+use Rattle.faults.specs.declared.kind.FaultKind.{FaultKind}
+use Rattle.faults.specs.declared.kind.FaultKind.TheVariants.{NoMemory as NoMemoryForWorkers}
 use Rattle.scenario.specs.declared.fault.Fault.TheVariants.{BadToml as IsNoToml, NoMemory as NoMemoryForLists}
 use Rattle.script.specs.declared.fault.LineFault.TheVariants.{NoMemory as NoMemoryForLines}
 use Rattle.texts.specs.Words.{Text}
@@ -11,12 +13,12 @@ use Rattle.network_model.specs.declared.network.NetworkFault.TheVariants.{BadRou
 use Rattle.network_model.specs.declared.step.Refusal.TheVariants.{NoMemory as NoMemoryForStep, NoReaderPlace}
 use Rattle.journal.specs.declared.fault.JournalFault.TheVariants.{NoMemory as NoMemoryForJournal}
 use Rattle.network_model.specs.declared.step.Refusal.{Refusal}
-use Rattle.worker_pool.specs.declared.fault.PoolFault.{PoolFault}
-use Rattle.worker_pool.specs.declared.fault.PoolFault.TheVariants.{Memory as MemoryForWorkers, Refused as RefusedAtWork}
 use Rattle.plans.specs.declared.fault.Cause.{Cause}
 use Rattle.plans.specs.declared.fault.Cause.TheVariants.{Memory, Unreadable, TooLarge, Document, Lines, Network, Refused, Journal, Times, TimeSpent, Unwritable, Workers, JournalKept, NothingSaved}
 use Rattle.plans.specs.declared.times.TimesFault.TheVariants.{Document as NoTimes, Line as NoLineOfTimes}
 use Rattle.plans.specs.declared.fault.Fault.{Fault}
+use Rattle.plans.specs.declared.outcome.Outcome.{Outcome}
+use Rattle.plans.specs.declared.outcome.Outcome.TheVariants.{Done, Refused as RefusedStep, Differs}
 
 -- ---- statuses
 
@@ -39,8 +41,7 @@ is_memory (Times (NoLineOfTimes NoMemoryForLines _ _)) = true
 is_memory (Times _) = false
 is_memory TimeSpent = false
 is_memory Unwritable = false
-is_memory (Workers (MemoryForWorkers _)) = true
-is_memory (Workers (RefusedAtWork NoMemoryForStep)) = true
+is_memory (Workers NoMemoryForWorkers) = true
 is_memory (Workers _) = false
 is_memory JournalKept = false
 is_memory NothingSaved = false
@@ -59,6 +60,12 @@ comes_late _ = false
 abbrev pub status_of : Cause → ℕ
 status_of cause = if comes_late cause || is_memory cause then 2 else 1
 
+-- the exit status of a command that has met no fault
+abbrev pub status_at : Outcome → ℕ
+status_at Done = 0
+status_at RefusedStep = 2
+status_at Differs = 3
+
 -- ---- kinds
 
 -- the network refused a command, for such a reason
@@ -66,9 +73,9 @@ abbrev pub OfRefusal : (Refusal → Type 0) → Cause → Type 0
 OfRefusal P (Refused e) = P e
 OfRefusal P _ = ⊥
 
--- workers did not take a job, or did not answer it, for such a reason
-abbrev pub OfWorkers : (PoolFault → Type 0) → Cause → Type 0
-OfWorkers P (Workers e) = P e
+-- workers did not take a job, or did not answer it, for a reason of such a kind
+abbrev pub OfWorkers : (FaultKind → Type 0) → Cause → Type 0
+OfWorkers P (Workers kind) = P kind
 OfWorkers P _ = ⊥
 
 -- ---- places

@@ -4,7 +4,6 @@ use Rattle.network_model.specs.Kinds.{refusal_kind, network_kind}
 use Rattle.scenario.specs.Kinds.{document_kind}
 use Rattle.script.specs.Kinds.{line_kind}
 use Rattle.journal.specs.Kinds.{journal_kind}
-use Rattle.worker_pool.specs.Faults.{pool_kind}
 use Rattle.plans.specs.declared.times.TimesFault.{TimesFault}
 use Rattle.plans.specs.declared.fault.Cause.{Cause}
 
@@ -27,6 +26,6 @@ cause_kind (Cause.Journal fault) = journal_kind fault
 cause_kind (Cause.Times fault) = times_kind fault
 cause_kind Cause.TimeSpent = FaultKind.TimeSpent
 cause_kind Cause.Unwritable = FaultKind.Unwritable
-cause_kind (Cause.Workers fault) = pool_kind fault
+cause_kind (Cause.Workers kind) = kind
 cause_kind Cause.JournalKept = FaultKind.JournalKept
 cause_kind Cause.NothingSaved = FaultKind.NothingSaved

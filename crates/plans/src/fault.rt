@@ -2,7 +2,7 @@
 
 ghost use Rattle.std.specs.Prelude.{◌≡◌};
 ghost use Rattle.network_model.specs.Journal.{most_steps};
-ghost use Rattle.plans.specs.declared.fault.Cause.TheVariants.{Memory as OfMemory, Document as OfDocument, Refused as OfRefusal, Journal as OfJournal, Workers as OfWorkers};
+ghost use Rattle.plans.specs.declared.fault.Cause.TheVariants.{Memory as OfMemory, Document as OfDocument, Refused as OfRefusal, Journal as OfJournal};
 ghost use Rattle.plans.specs.Kinds.{cause_kind};
 ghost use Rattle.plans.specs.Faults.{status_of, unplaced, line_fault, opening_fault};
 
@@ -15,7 +15,6 @@ use std::alloc::AllocFailed;
 use std::fmt;
 use std::io::Write;
 use thiserror::Error;
-use worker_pool::PoolFault;
 
 /// What is wrong. Its text is its number and name.
 #[derive(Clone, Copy, Debug, PartialEq, Eq, Drop, Error)]
@@ -45,8 +44,9 @@ pub enum Cause {
     TimeSpent,
     /// The file of the journal could not be written.
     Unwritable,
-    /// Workers did not take a job, or did not answer it.
-    Workers(PoolFault),
+    /// Workers did not take a job, or did not answer it. Its kind alone is here, because what reads a
+    /// scenario is to need no threads.
+    Workers(FaultKind),
     /// A state was to be saved or restored, but the steps are kept for a journal.
     JournalKept,
     /// A state was to be restored, but none was saved.
@@ -71,7 +71,7 @@ impl From<Cause> for FaultKind {
             Cause::Times(fault) => FaultKind::from(fault),
             Cause::TimeSpent => FaultKind::TimeSpent,
             Cause::Unwritable => FaultKind::Unwritable,
-            Cause::Workers(fault) => FaultKind::from(fault),
+            Cause::Workers(kind) => kind,
             Cause::JournalKept => FaultKind::JournalKept,
             Cause::NothingSaved => FaultKind::NothingSaved,
         }
@@ -146,14 +146,6 @@ impl From<Refusal> for Cause {
 
     fn from(refusal: Refusal) -> Cause {
         Cause::Refused(refusal)
-    }
-}
-
-impl From<PoolFault> for Cause {
-    ghost from_gives = { λ fault e. e ≡ OfWorkers fault };
-
-    fn from(fault: PoolFault) -> Cause {
-        Cause::Workers(fault)
     }
 }
 

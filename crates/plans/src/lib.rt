@@ -40,12 +40,14 @@
 
 mod fault;
 mod files;
+mod outcome;
 mod plan;
 mod read;
 mod times;
 
 pub use fault::{Cause, Fault, refuse};
 pub use files::Source;
+pub use outcome::Outcome;
 pub use plan::{Plan, read_plan};
 pub use read::{read_bytes, read_failure, read_text};
 pub use times::{TimesFault, TimesKey};

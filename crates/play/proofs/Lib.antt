@@ -1,3 +1,4 @@
+mod Kept
 mod Trying
 mod Stepping
 pub mod Working

@@ -16,8 +16,8 @@ use Rattle.plans.specs.declared.plan.Plan.{Plan}
 use Rattle.plans.specs.Faults.{unplaced, IsWantOfMemory, IsUnreadFrom, Gives, most_bytes, most_journal_bytes}
 use Rattle.plans.specs.Scenarios.{network_read}
 use Rattle.plans.proofs.Planned.{IsPlanned}
-use Rattle.reports.specs.declared.outcome.Outcome.{Outcome}
-use Rattle.reports.specs.declared.outcome.Outcome.TheVariants.{Done, Refused, Differs}
+use Rattle.plans.specs.declared.outcome.Outcome.{Outcome}
+use Rattle.plans.specs.declared.outcome.Outcome.TheVariants.{Done, Refused, Differs}
 use Rattle.play.specs.Replays.{IsJournalOf, Replays, RunsInPlaces, StepsReplay, StepsRun, StopsReplay}
 
 -- the journal is one of the scenario's network

@@ -14,7 +14,7 @@ use Rattle.plans.specs.Scenarios.{network_read}
 use Rattle.plans.proofs.Planned.{IsPlanned}
 use Rattle.sessions.specs.Nets.{Net}
 use Rattle.journal.specs.Journal.{journal_text}
-use Rattle.reports.specs.Ends.{KeepsJournal}
+use Rattle.play.specs.Ends.{KeepsJournal}
 use Rattle.play.specs.Works.{IsWorked, StopsOn, StopsWork, Works, is_kept, kept}
 
 module _ (opened : Network → Net) (text : Text) (plan : Plan) (short : length text ≤ most_bytes) (planned : IsPlanned text plan) where

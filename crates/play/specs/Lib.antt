@@ -1,3 +1,4 @@
+pub mod Ends
 pub mod Works
 pub mod Replays
 pub mod Outcomes

@@ -4,11 +4,11 @@ use Rattle.texts.specs.Words.{Text}
 use Rattle.command_line.specs.declared.words.Words.{Words}
 use Rattle.command_line.specs.declared.words.Words.TheVariants.{Check, Run, Replay, Time, Explain, Shell}
 use Rattle.plans.specs.declared.fault.Fault.{Fault}
-use Rattle.reports.specs.declared.outcome.Outcome.{Outcome}
-use Rattle.reports.specs.declared.outcome.Outcome.TheVariants.{Done}
-use Rattle.plans.specs.Faults.{OfBytes, status_of}
+use Rattle.plans.specs.declared.outcome.Outcome.{Outcome}
+use Rattle.plans.specs.declared.outcome.Outcome.TheVariants.{Done}
+use Rattle.plans.specs.Faults.{OfBytes, status_at, status_of}
 use Rattle.plans.specs.Scenarios.{StopsReading}
-use Rattle.reports.specs.Ends.{IsChecked, KeepsJournal, status_at}
+use Rattle.play.specs.Ends.{IsChecked, KeepsJournal}
 use Rattle.timing.specs.Ends.{IsTimedToEnd, StopsTime}
 use Rattle.play.specs.Replays.{Replays, StopsReplay}
 use Rattle.play.specs.Works.{Comes, IsOfNothing, IsOfWorkers, IsWorked, Stops, StopsOn, counted, is_kept, kept, none_kept}

@@ -16,8 +16,8 @@ use Rattle.journal.specs.declared.read.Version.TheVariants.{Two}
 use Rattle.journal.specs.Journal.{IsJournal, IsJournalFault as IsJournalFault}
 use Rattle.plans.specs.declared.fault.Fault.{Fault}
 use Rattle.plans.specs.declared.fault.Cause.TheVariants.{Journal as OfJournal}
-use Rattle.reports.specs.declared.outcome.Outcome.{Outcome}
-use Rattle.reports.specs.declared.outcome.Outcome.TheVariants.{Done, Refused, Differs}
+use Rattle.plans.specs.declared.outcome.Outcome.{Outcome}
+use Rattle.plans.specs.declared.outcome.Outcome.TheVariants.{Done, Refused, Differs}
 use Rattle.plans.specs.Faults.{unplaced, most_bytes, most_journal_bytes, Gives, IsUnreadFrom}
 use Rattle.plans.specs.Scenarios.{IsScenario, StopsReading, network_read}
 

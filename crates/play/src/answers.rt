@@ -2,9 +2,9 @@
 
 use advice::{Typed, explain_typed};
 use command_line::Format;
+use lines::print_either;
 use network_model::LinkSpec;
 use plans::{Fault, refuse};
-use reports::print_either;
 use script::Names;
 use std::alloc::Global;
 use std::io::Write;

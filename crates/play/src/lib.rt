@@ -7,12 +7,12 @@
 //! ```text
 //!   words, scenario, journal  -->  play  -->  out, err, kept, told     and the exit status
 //!
-//!   check     reads a scenario, and says what it holds                          `reports`
+//!   check     reads a scenario, and says what it holds                          `src/checking.rt`
 //!   run       opens its network, and does its script, command by command
 //!   shell     opens its network, and does the commands of lines as they come
 //!   replay    does the steps of a journal, and compares the reports
 //!   time      runs its network in simulated time, with delays and changes       `timing`
-//!   explain   prints the page of a number                                       `explanations`
+//!   explain   prints the page of a number                                       `faults`
 //! ```
 //!
 //! ```text
@@ -53,12 +53,14 @@
 #![tactic(auto)]
 
 mod answers;
+mod checking;
+mod keeping;
 mod opening;
 mod program;
 mod replay;
 mod shell;
 
-pub use plans::{Cause, Fault, Plan, Source, read_bytes, read_plan, read_text, refuse};
+pub use keeping::Keeper;
+pub use plans::{Cause, Fault, Outcome, Plan, Source, read_bytes, read_plan, read_text, refuse};
 pub use program::{play, play_by, run_quietly};
-pub use reports::{Keeper, Outcome};
 pub use sessions::{Host, NO_THRESHOLDS, NoGate, THRESHOLDS, Thresholds, TurnGate};

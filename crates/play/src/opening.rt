@@ -7,20 +7,20 @@ ghost use Rattle.either.specs.declared.Either.TheVariants.{Left as KeptNet, Righ
 ghost use Rattle.plans.specs.Faults.{IsUnanswered, IsWantOfMemory};
 ghost use Rattle.play.specs.Works.{Comes, IsOfNothing, IsOfWorkers, Stops, StopsWork, Works, counted as counted_net, is_kept, kept as kept_net, none_kept};
 
+use crate::keeping::Keeper;
 use crate::shell::do_lines;
 use either::Either;
 use fabric::{Fabric, FabricName, Unnamed};
+use faults::FaultKind;
 use lines::{Ended, Line};
 use plans::{Cause, Fault, Plan};
-use reports::{Keeper, end_line};
 use script::{Command, Directory};
 use sessions::{
-    Counted, Crew, Host, Kept, Live, PrintStyle, Session, TurnGate, do_commands, steps,
+    Counted, Crew, Host, Kept, Live, PrintStyle, Session, TurnGate, do_commands, end_line, steps,
 };
 use std::alloc::Global;
 use std::io::{Read, Write};
 use std::marker::Brand;
-use worker_pool::PoolFault;
 
 /// By what a network runs whose steps are kept.
 #[derive(Clone, Copy)]
@@ -156,7 +156,7 @@ where
 
 // Waits for the workers of a network whose steps are kept, and hands its fabric back, and why they did not answer the
 // last jobs, if they did not.
-fn close_kept<B, H>(live: Live<B, H>) -> (Fabric<B>, Result<(), PoolFault>)
+fn close_kept<B, H>(live: Live<B, H>) -> (Fabric<B>, Result<(), FaultKind>)
 where
     B: FabricName + Send + Sync + 'static,
     H: Host,

@@ -2,17 +2,18 @@
 
 ghost use Rattle.std.specs.Prelude.{◌≡◌, ◌++◌, true, false, Some, IfOk, IfErr, OnErr, OnOk, is_some};
 ghost use Rattle.plans.specs.Faults.{OfBytes};
-ghost use Rattle.reports.specs.Ends.{KeepsJournal};
+ghost use Rattle.play.specs.Ends.{KeepsJournal};
 ghost use Rattle.play.specs.Works.{Comes, IsOfNothing, IsOfWorkers, IsWorked, Stops, StopsOn, StopsWork, Works, counted as counted_net, is_kept, kept as kept_net, none_kept};
 ghost use Rattle.play.specs.Outcomes.{Ends, IsPlayed, StopsWords};
 
+use crate::checking::check;
+use crate::keeping::{JournalText, Keeper};
 use crate::opening::{Hands, with_fabric, with_simulation};
 use crate::replay::replay;
 use command_line::{Format, Words};
-use explanations::Page;
+use faults::Page;
 use network_model::NoMemory;
-use plans::{Fault, Plan, read_plan, read_text, refuse};
-use reports::{JournalText, Keeper, Outcome, check};
+use plans::{Fault, Outcome, Plan, read_plan, read_text, refuse};
 use sessions::{Crew, Host, NoGate, PrintStyle, THRESHOLDS, Thresholds, TurnGate};
 use std::alloc::Global;
 use std::io;

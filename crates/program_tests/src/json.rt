@@ -5,10 +5,12 @@ use crate::texts_of_lines::{Linked, pair};
 use crate::written::is_written;
 use command_line::{Format, Words};
 use harness::{play_in_memory, run_in_memory};
-use lines::{Answer, Asked, Ended, Json, Known, Line, LinkLine, MachineLine, RouterLine, State};
+use lines::{
+    Answer, Asked, Ended, Json, Known, Line, LinkLine, LinkState, MachineLine, MachineState,
+    RouterLine, RouterState, State,
+};
 use metric::{Cost, Distance};
 use network_model::{Ending, Entry, Neighbour, Prefix};
-use network_states::{LinkState, MachineState, RouterState};
 use serde_json::Value;
 use std::alloc::Global;
 use std::process::Abort;

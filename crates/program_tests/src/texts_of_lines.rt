@@ -1,10 +1,12 @@
 //! Lines with numbers that no run reaches.
 
 use crate::written::is_written;
-use lines::{Answer, Asked, Line, LinkLine, MachineLine, RouterLine, State, Text};
+use lines::{
+    Answer, Asked, Line, LinkLine, LinkState, MachineLine, MachineState, RouterLine, RouterState,
+    State, Text,
+};
 use metric::{Cost, Distance};
 use network_model::{Entry, LinkSpec, Prefix, Step};
-use network_states::{LinkState, MachineState, RouterState};
 use script::{Directory, read_script};
 use std::alloc::{AllocError, Global};
 use std::process::Abort;

@@ -1,5 +1,5 @@
 -- Patches that set the same rows are one.
-use Rattle.std.proofs.Common.{refl, ap, sym, subst, ◌∙◌, ◌≡◌, true, ◌&&◌}
+use Rattle.std.proofs.Common.{ap, sym, subst, ◌∙◌, ◌≡◌, true, ◌&&◌}
 use Rattle.std.specs.Bool.{Decides}
 use Rattle.std.proofs.lemmas.Bool.{and_from, and_parts}
 use Rattle.ipv4_prefix.specs.contracts.prefix.PrefixPartialEq.TheImpl as PrefixEq
@@ -7,21 +7,8 @@ use Rattle.ipv4_prefix.specs.Prefix.{Prefix}
 use Rattle.ipv4_prefix.proofs.PrefixOrder.{prefix_eq-Decides, prefix_partial_eq}
 use Rattle.network_model.specs.contracts.route.EntryPartialEq.TheImpl as EntryEq
 use Rattle.network_model.specs.declared.route.Entry.{Entry}
-use Rattle.network_model.specs.declared.route.Entry.TheVariants.{Local, Via, Unreachable}
 use Rattle.network_model.specs.Step.{entry_eq}
-use Rattle.network_model.proofs.EntryLaws.{entry_eq-refl, entry_from_eq}
-
--- what `==` answers at entries
-entry_partial_eq : (e f : Entry) → (EntryEq.ghosts).eq e f ≡ entry_eq e f
-entry_partial_eq Local Local = refl
-entry_partial_eq Local (Via p s) = refl
-entry_partial_eq Local Unreachable = refl
-entry_partial_eq (Via p s) Local = refl
-entry_partial_eq (Via p s) (Via q t) = refl
-entry_partial_eq (Via p s) Unreachable = refl
-entry_partial_eq Unreachable Local = refl
-entry_partial_eq Unreachable (Via p s) = refl
-entry_partial_eq Unreachable Unreachable = refl
+use Rattle.network_model.proofs.EntryLaws.{entry_eq-refl, entry_from_eq, entry_partial_eq}
 
 -- the test tells whether two rows are equal
 pub row_same : (a b : Prefix × Entry) → Decides ((PrefixEq.ghosts).eq a.0 b.0 && (EntryEq.ghosts).eq a.1 b.1) (a ≡ b)

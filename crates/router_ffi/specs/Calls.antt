@@ -1,10 +1,9 @@
 -- What the calls answer, by the router that a handle holds, and what they leave.
 use Rattle.std.specs.Prelude.{◌≡◌, ◌≢◌, ◌⊎◌, ℕ, List, length, if◌then◌else◌, is_some, Option, Some, None, option_map, Result, Ok, Err, IfOk, IfSome}
-use Rattle.ipv4_prefix.specs.Prefix.{Prefix}
 use Rattle.network_model.specs.Step.{ripe_front}
 use Rattle.network_model.specs.World.{Router}
 use Rattle.c_interface.specs.Faults.{fault_number, first_of}
-use Rattle.c_interface.specs.Rows.{prefix_fault}
+use Rattle.c_interface.specs.Rows.{as_prefix, prefix_fault}
 use Rattle.c_interface.specs.declared.fault.CallFault.{CallFault}
 use Rattle.c_interface.specs.declared.fault.CallFault.TheVariants.{Empty, NoMemory, NothingRipe, UnknownPrefix}
 use Rattle.c_interface.specs.declared.row.Row.{Row}
@@ -47,10 +46,6 @@ pub record IsTold (read : Result Input CallFault) (old new : Option BoundedRoute
 -- why a router releases nothing
 abbrev pub release_fault : BoundedRouter → Option CallFault
 release_fault b = if is_some (ripe_front b.router) then None else Some NothingRipe
-
--- the prefix of these numbers, where they are one
-abbrev pub as_prefix : ℕ → ℕ → Prefix
-as_prefix addr len = record { addr = addr; len = len }
 
 -- why a router shows nothing of a prefix; the faults of its numbers come first
 abbrev pub state_fault : ℕ → ℕ → Option BoundedRouter → Option CallFault

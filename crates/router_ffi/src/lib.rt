@@ -34,6 +34,7 @@
 ghost use Rattle.std.specs.Prelude.{◌≡◌, ◌≢◌, None, Some, OnOk, OnErr, IfErr, IfOk, IfSome, IfNone, length, option_map};
 ghost use Rattle.network_model.specs.Step as step;
 ghost use Rattle.c_interface.specs.Faults.{fault_number, status_by, IsStatusBy};
+ghost use Rattle.c_interface.specs.Rows.{as_prefix};
 ghost use Rattle.single_router.specs.Frames.{frame_of};
 ghost use Rattle.single_router.specs.Inputs as inputs;
 ghost use Rattle.router_core.specs.Alone.{router_forgetting};
@@ -41,7 +42,7 @@ ghost use Rattle.single_router.specs.Bounded.{bounded_make_fault, bounded_router
 ghost use Rattle.single_router.specs.Publishing.{publish_fault, router_given, room_fault};
 ghost use Rattle.single_router.specs.States.{counts_of, flag, shown_state};
 ghost use Rattle.router_ffi.specs.Handles.{handle_router};
-ghost use Rattle.router_ffi.specs.Calls.{IsStatusOnlyBy, ReadNeedsMemory, held_fault, tell_fault, told, release_fault, state_fault, forget_call_fault, as_prefix, IsTold, IsPublished, IsListed};
+ghost use Rattle.router_ffi.specs.Calls.{IsStatusOnlyBy, ReadNeedsMemory, held_fault, tell_fault, told, release_fault, state_fault, forget_call_fault, IsTold, IsPublished, IsListed};
 
 use c_interface::{CallFault, Row, read_prefix, status};
 use single_router::{Attachment, Counts, Frame, Input, Published, SingleRouter, State};

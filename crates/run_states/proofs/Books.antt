@@ -8,7 +8,7 @@ use Rattle.std.proofs.lemmas.Option.{get_or_from_slice_get, none-some, same_Some
 use Rattle.ipv4_prefix.specs.Prefix.{Prefix, prefix_cmp}
 use Rattle.network_model.specs.Machine.{Machine}
 use Rattle.network_model.specs.World.{Router}
-use Rattle.network_states.specs.States.{IsMachineState}
+use Rattle.lines.specs.States.{IsMachineState}
 use Rattle.run_states.specs.declared.shown.MachineShown.{MachineShown}
 use Rattle.run_states.specs.Shown.{AreSame, ShowsMachine}
 use Rattle.run_states.specs.Books.{ShowsPlace, ShowsUnmarked, machines_after}

@@ -1,5 +1,5 @@
--- Lists by place: what stands there after a write, and one more of their front.
-use Rattle.std.proofs.Common.{refl, ap, sym, ◌∙◌, ◌≡◌, ◌≢◌, ℕ, zero, suc, ◌+◌, ◌<◌, ◌≤◌, None, List, [], ◌∷◌, ◌++◌, Option, Some, option_map, length, map, set, take, slice_get, get_or, drop, subst, All, add-one, arith}
+-- Lists by place: what stands there after a write.
+use Rattle.std.proofs.Common.{refl, ap, sym, ◌∙◌, ◌≡◌, ◌≢◌, ℕ, zero, suc, ◌+◌, ◌<◌, ◌≤◌, None, List, [], ◌∷◌, ◌++◌, Option, Some, option_map, length, map, set, take, slice_get, get_or, drop, subst, All, arith}
 use Rattle.std.proofs.lemmas.Option.{get_or_from_slice_get, none-some, same_Some, slice_get-get_or, slice_get_past, slice_get_read, slice_get_within}
 use Rattle.std.proofs.lemmas.List.{set-get_or}
 use Rattle.std.proofs.Math.Seq.{take-append_seam}
@@ -18,15 +18,6 @@ module _ {A : Type 0} where
   slice_get-set_other (y ∷ ys) zero (suc j) x apart = refl
   slice_get-set_other (y ∷ ys) (suc i) zero x apart = refl
   slice_get-set_other (y ∷ ys) (suc i) (suc j) x apart = slice_get-set_other ys i j x (λ e. apart (ap suc e))
-
-  -- the front with one more element
-  pub take_next : (xs : List A) (n : ℕ) (x : A) → slice_get xs n ≡ Some x → take (n + 1) xs ≡ take n xs ++ x ∷ []
-  take_next xs n x at = rw (add-one n) (by_place xs n at)
-    where
-      by_place : (xs : List A) (n : ℕ) → slice_get xs n ≡ Some x → take (suc n) xs ≡ take n xs ++ x ∷ []
-      by_place [] n at = absurd (none-some x at)
-      by_place (y ∷ ys) zero at = ap (λ z. z ∷ []) (same_Some y x at)
-      by_place (y ∷ ys) (suc n) at = ap (λ zs. y ∷ zs) (by_place ys n at)
 
   -- what holds of each element holds of the one at a place
   pub all_at : (P : A → Type 0) (xs : List A) (i : ℕ) (x : A) → All P xs → slice_get xs i ≡ Some x → P x

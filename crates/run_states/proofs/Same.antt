@@ -15,14 +15,14 @@ use Rattle.network_model.specs.declared.item.Item.{Item}
 use Rattle.network_model.specs.contracts.item.MessagePartialEq.TheImpl as MessageEq
 use Rattle.network_model.specs.contracts.item.ItemPartialEq.TheImpl as ItemEq
 use Rattle.network_model.specs.declared.route.Entry.{Entry}
-use Rattle.network_model.specs.declared.route.Entry.TheVariants.{Local, Via, Unreachable}
 use Rattle.network_model.specs.contracts.route.EntryPartialEq.TheImpl as EntryEq
-use Rattle.network_states.specs.declared.state.LinkState.{LinkState}
-use Rattle.network_states.specs.contracts.state.LinkStatePartialEq.TheImpl as LinkEq
-use Rattle.network_states.specs.declared.state.RouterState.{RouterState}
-use Rattle.network_states.specs.contracts.state.RouterStatePartialEq.TheImpl as RouterEq
-use Rattle.network_states.specs.declared.state.MachineState.{MachineState}
-use Rattle.network_states.specs.contracts.state.MachineStatePartialEq.TheImpl as MachineEq
+use Rattle.network_model.proofs.EntryLaws.{entry_from_eq, entry_partial_eq}
+use Rattle.lines.specs.declared.records.LinkState.{LinkState}
+use Rattle.lines.specs.contracts.records.LinkStatePartialEq.TheImpl as LinkEq
+use Rattle.lines.specs.declared.records.RouterState.{RouterState}
+use Rattle.lines.specs.contracts.records.RouterStatePartialEq.TheImpl as RouterEq
+use Rattle.lines.specs.declared.records.MachineState.{MachineState}
+use Rattle.lines.specs.contracts.records.MachineStatePartialEq.TheImpl as MachineEq
 
 -- what is not unequal is equal
 pub not_false : (b : Bool) → false ≡ not b → b ≡ true
@@ -50,15 +50,7 @@ starts_same E same xs front n long starts =
     ap (λ ys. ys ++ take (length xs - n) (drop n xs)) first ∙ ap (λ ys. take n xs ++ ys) rest ∙ take-append-drop n xs
 
 pub entry_same : (e f : Entry) → (EntryEq.ghosts).eq e f ≡ true → e ≡ f
-entry_same Local Local h = refl
-entry_same (Via p s) (Via q t) h = let parts = and_parts _ _ h in λ i. Via (eqb-true p q parts.0 i) (eqb-true s t parts.1 i)
-entry_same Unreachable Unreachable h = refl
-entry_same Local (Via q t) h = absurd (cc)
-entry_same Local Unreachable h = absurd (cc)
-entry_same (Via p s) Local h = absurd (cc)
-entry_same (Via p s) Unreachable h = absurd (cc)
-entry_same Unreachable Local h = absurd (cc)
-entry_same Unreachable (Via q t) h = absurd (cc)
+entry_same e f h = entry_from_eq e f (sym (entry_partial_eq e f) ∙ h)
 
 kind_same : (a b : Kind) → (KindEq.ghosts).eq a b ≡ true → a ≡ b
 kind_same Update Update h = refl

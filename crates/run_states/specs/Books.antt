@@ -6,15 +6,15 @@ use Rattle.ipv4_prefix.specs.Prefix.{Prefix, prefix_cmp, prefix_eq}
 use Rattle.network_model.specs.Machine.{Machine}
 use Rattle.network_model.specs.declared.item.Item.{Item}
 use Rattle.network_model.specs.World.{Link, Router}
-use Rattle.network_states.specs.declared.state.LinkState.{LinkState}
-use Rattle.network_states.specs.declared.state.RouterState.{RouterState}
+use Rattle.lines.specs.declared.records.LinkState.{LinkState}
+use Rattle.lines.specs.declared.records.RouterState.{RouterState}
 use Rattle.run_states.specs.declared.shown.MachineShown.{MachineShown}
 use Rattle.run_states.specs.declared.link_book.LinkBook.{LinkBook}
 use Rattle.run_states.specs.declared.link_book.LinkChange.{LinkChange}
 use Rattle.run_states.specs.declared.router_book.RouterBook.{RouterBook}
 use Rattle.run_states.specs.declared.router_book.RouterChange.{RouterChange}
 use Rattle.run_states.specs.Queues.{has_message, queue_after}
-use Rattle.network_states.specs.States.{link_state, router_state}
+use Rattle.lines.specs.States.{link_state, router_state}
 use Rattle.run_states.specs.Shown.{ShowsMachine}
 
 -- what is shown after a change: what it says, or where it says nothing what was shown before

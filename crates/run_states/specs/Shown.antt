@@ -8,7 +8,7 @@ use Rattle.network_model.specs.Machine.{Machine as ModelMachine}
 use Rattle.network_model.specs.Network.{most_ports}
 use Rattle.network_model.specs.World.{Router}
 use Rattle.dual_machine.specs.State.{MachineState as Machine, awaits_at}
-use Rattle.network_states.specs.States.{IsMachineState}
+use Rattle.lines.specs.States.{IsMachineState}
 use Rattle.run_states.specs.declared.shown.MachineShown.{MachineShown}
 
 -- the ports are those whose replies the computation under way awaits

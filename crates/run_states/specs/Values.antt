@@ -19,8 +19,8 @@ use Rattle.serde_json.specs.View.{items_of}
 use Rattle.serde_json.specs.Written.{compact_text}
 use Rattle.texts.specs.Words.{Text}
 use Rattle.script.specs.Directories.{Directory, name_text}
-use Rattle.network_states.specs.declared.state.LinkState.{LinkState}
-use Rattle.network_states.specs.declared.state.RouterState.{RouterState}
+use Rattle.lines.specs.declared.records.LinkState.{LinkState}
+use Rattle.lines.specs.declared.records.RouterState.{RouterState}
 use Rattle.run_states.specs.declared.shown.MachineShown.{MachineShown}
 use Rattle.run_states.specs.declared.queue.QueueChange.{QueueChange}
 use Rattle.run_states.specs.declared.link_book.LinkChange.{LinkChange}

@@ -3,11 +3,11 @@
 ghost use Rattle.std.specs.Prelude.{◌≡◌, ◌<◌, [], Some, None, IfOk, IfSome, false, true, length, slice_get};
 ghost use Rattle.run_states.specs.Books.{LinkFollows, ShowsLink, link_shows};
 
-use crate::queue::{QueueChange, has_message, queue_at, queue_change};
+use crate::queue::{QueueChange, has_message, queue_change};
 use crate::shown::is_same_link;
+use lines::{LinkState, queue_at};
 use link_fifo::Links;
 use network_model::{End, Item, NoMemory};
-use network_states::LinkState;
 use std::alloc::Global;
 
 /// What was shown of a link last, and whether that may have changed.

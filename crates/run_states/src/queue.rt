@@ -1,13 +1,11 @@
 //! What became of the items that an end of a link has yet to take.
 
-ghost use Rattle.std.specs.Prelude.{◌≡◌, ◌<◌, ◌≤◌, ◌↔◌, IfOk, IfSome, IsTrue, List, [], false, filter, length, slice_get};
+ghost use Rattle.std.specs.Prelude.{◌≡◌, ◌≤◌, ◌↔◌, IfOk, IsTrue, List, [], false, filter, length};
 ghost use Rattle.network_model.specs.declared.item.Item.{Item};
-ghost use Rattle.network_model.specs.World as world;
 ghost use Rattle.network_model.specs.Step as step;
 ghost use Rattle.run_states.specs.Queues.{has_message, is_nothing, left_after, queue_after};
 
-use link_fifo::Links;
-use network_model::{End, Item, NoMemory};
+use network_model::{Item, NoMemory};
 use std::alloc::{AllocError, Global};
 
 /// What became of a queue: first so many were taken from its front, then its messages were lost or not,
@@ -29,26 +27,6 @@ impl QueueChange {
     {
         self.take == 0 && !self.lose && self.put.is_empty()
     }
-}
-
-/// The items that an end of a link has yet to take.
-pub(crate) fn queue_at(
-    alloc: Global,
-    links: &Links,
-    link: u16,
-    to: End,
-) -> Result<Vec<Item>, NoMemory>
-    requires { link < length links.now.links }
-    ensures { IfOk result (λ v. IfSome (slice_get links.now.links link)
-        (λ k. v.items ≡ (world.side to k).inbox)) }
-{
-    let mut items = Vec::new(alloc);
-    for place in 0..links.queued(link, to) {
-        if let Some(item) = links.item(link, to, place) {
-            items.push(item)?;
-        }
-    }
-    Ok(items)
 }
 
 /// What became of a queue that held these items before, and holds those now; where its link went down

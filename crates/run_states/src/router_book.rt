@@ -9,8 +9,8 @@ ghost use Rattle.run_states.specs.Books.{HasPlaces, IsBlankRouter, MachinesMarke
 
 use crate::shown::{MachineShown, machine_shown, router_news};
 use ipv4_prefix::Prefix;
+use lines::RouterState;
 use network_model::NoMemory;
-use network_states::RouterState;
 use router_core::Router;
 use std::alloc::Global;
 

@@ -11,8 +11,8 @@ ghost use Rattle.run_states.specs.Shown.{AreSame, Awaits, ShowsMachine};
 use diffusing_replies::PortSet;
 use dual_machine::{Machine, Mode};
 use ipv4_prefix::Prefix;
+use lines::{LinkState, MachineState, RouterState};
 use network_model::Entry;
-use network_states::{LinkState, MachineState, RouterState};
 use router_core::Router;
 
 /// What is shown of a router's machine for a prefix.

@@ -9,7 +9,7 @@ use Rattle.network_model.proofs.ListLaws.{None_not_Some, Some_injective, element
 use Rattle.fabric.specs.Images.{answer_at, image_in_force}
 use Rattle.simulation.specs.Simulation.{Simulation, ForwardsAsPublished}
 use Rattle.simulation.specs.Simulation.{answer_at as answer_there}
-use Rattle.reports.specs.Report.{unknown_router}
+use Rattle.lines.specs.Report.{unknown_router}
 use Rattle.sessions.specs.Nets.{IsAnswer}
 
 -- by a fabric's image

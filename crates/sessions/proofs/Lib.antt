@@ -3,3 +3,4 @@ mod Links
 mod Answering
 mod Settling
 mod Crossings
+pub mod Dispatching

@@ -13,7 +13,7 @@ use Rattle.script.specs.declared.place.Key.TheVariants.{Script}
 use Rattle.plans.specs.declared.fault.Cause.{Cause}
 use Rattle.plans.specs.declared.fault.Fault.{Fault}
 use Rattle.plans.specs.Faults.{at_line, OfRefusal}
-use Rattle.reports.specs.Report.{unknown_router}
+use Rattle.lines.specs.Report.{unknown_router}
 use Rattle.sessions.specs.Nets.{CannotDrain, CannotInject, CannotLookUp, CannotRestore, CannotSave, CannotTrace, IsRestored, IsSaved, IsSettled, IsStepDone, IsStepRefused, IsUnsettled, Net, network_of, refusal_of, world_of}
 
 -- ---- links of a router

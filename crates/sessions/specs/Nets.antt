@@ -18,8 +18,8 @@ use Rattle.simulation.specs.Simulation.{after_step as after_step_there}
 use Rattle.plans.specs.declared.fault.Cause.{Cause}
 use Rattle.plans.specs.declared.fault.Cause.TheVariants.{JournalKept, NothingSaved}
 use Rattle.plans.specs.Faults.{OfRefusal, OfWorkers}
-use Rattle.reports.specs.Report.{unknown_router}
-use Rattle.dispatch.specs.Dispatching.{CannotInject as CannotGive}
+use Rattle.lines.specs.Report.{unknown_router}
+use Rattle.sessions.specs.Dispatching.{CannotInject as CannotGive}
 use Rattle.sessions.specs.Settling.{Settles, SettlesThere, StopsSettling, StopsThere}
 
 -- ---- networks that run

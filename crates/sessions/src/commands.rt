@@ -5,13 +5,12 @@ ghost use Rattle.world.specs.Steps.{IsDoneOr};
 ghost use Rattle.either.specs.Either.{is_left};
 ghost use Rattle.sessions.specs.Nets.{CannotLookUp, CannotTrace, IsStepDone, IsStepRefused, refusal_of};
 
+use crate::host::Host;
 use crate::live::{Live, count, lookup, step as do_one, trace, world};
-use dispatch::Host;
 use fabric::FabricName;
 use faults::FaultKind;
-use lines::{Answer, Asked, Line};
+use lines::{Answer, Asked, Line, Printer, moved_by};
 use network_model::{Refusal, Step};
-use reports::{Printer, moved_by};
 use std::io::Write;
 
 /// Does a step, and prints what it moved, if more is to be told. What it prints may be lost.

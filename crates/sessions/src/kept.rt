@@ -11,21 +11,21 @@ ghost use Rattle.sessions.specs.Nets.{CannotDrain, CannotInject, CannotLookUp, C
 ghost use Rattle.sessions.specs.Settling.{Settles, StopsSettling};
 ghost use Rattle.sessions.specs.Traces.{IsTrace};
 
+use crate::dispatcher::{Dispatcher, ports_of, print_replies};
+use crate::host::Host;
 use crate::totals::{counts_of, counts_since, no_counts};
 use control::{Crew, Progress, TurnGate, TurnOrder, settle, settle_in_order};
-use dispatch::{Dispatcher, Host, ports_of, print_replies};
 use fabric::{Fabric, FabricName};
-use lines::Counts;
+use faults::FaultKind;
+use lines::{Counts, Printer};
 use network_model::{Entry, NoMemory, Prefix, Refusal, Step, Trace};
 use plans::Cause;
 use publication::ImageReader;
-use reports::Printer;
 use simulation::{Order, Simulation, Turns};
 use std::alloc::Global;
 use std::io::Write;
 use std::marker::Model;
 use tracer::{trace, trace_through};
-use worker_pool::PoolFault;
 
 /// A fabric with its workers. Contracts see the fabric. It is not `Drop`: end it by `close`, so that no worker is
 /// left running.
@@ -80,9 +80,9 @@ where
         }
     }
 
-    /// Waits for the workers, and lets them go. It hands the fabric back, and why workers did not answer the last
-    /// jobs, if they did not.
-    pub fn close(self) -> (Fabric<B>, Result<(), PoolFault>)
+    /// Waits for the workers, and lets them go. It hands the fabric back, and the kind of the fault for which workers
+    /// did not answer the last jobs, if they did not.
+    pub fn close(self) -> (Fabric<B>, Result<(), FaultKind>)
         ensures { result.0 ≡ self }
     {
         let Kept {
@@ -96,7 +96,7 @@ where
         } = self;
         match dispatcher.close(&rt, alloc) {
             Ok(_) => (fabric, Ok(())),
-            Err(fault) => (fabric, Err(fault)),
+            Err(fault) => (fabric, Err(FaultKind::from(fault))),
         }
     }
 
@@ -218,9 +218,13 @@ where
         ensures err { IfErr result (CannotDrain (Nets.Left self.old)) }
         ensures same { self.new ≡ self.old }
     {
-        let replies = self.dispatcher.drain(&self.rt, self.alloc)?;
-        let _ = print_replies(printer, &replies, out);
-        Ok(())
+        match self.dispatcher.drain(&self.rt, self.alloc) {
+            Ok(replies) => {
+                let _ = print_replies(printer, &replies, out);
+                Ok(())
+            }
+            Err(fault) => Err(Cause::Workers(FaultKind::from(fault))),
+        }
     }
 
     /// What was done since the last time, or since the opening. Refused with `NoMemory`.

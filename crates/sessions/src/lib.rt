@@ -17,6 +17,14 @@
 //! A step is `Fabric::step` or `Simulation::step`. `settle` is `settle` of `control`, which may start threads, or
 //! `Simulation::settle`. A look-up or a trace asks the images in force.
 //!
+//! A script injects packets one by one, goes on meanwhile, and asks for the answers later. Workers cost
+//! threads, so they are *at rest* until a job comes, and after a `drain` again; a `Dispatcher` sees to that, and
+//! that none is left running at the end. The numbers of jobs go on after a `drain`, although the workers begin
+//! anew. A job carries the list of publications that makes the image in force at its router then, so no older
+//! image answers it (`IsNextJob` in `specs/Dispatching.antt`), and between two drains there is one reply to each
+//! job and none to anything else. A [`Host`] is what a run needs of its machine: handles by which threads are
+//! made and wait for each other.
+//!
 //! What always holds: a command is done as its definition says, or refused for a cause that holds, and then the
 //! network is as before, or as it was brought to before the step that is refused (`IsDone` and `IsRefused` in
 //! `specs/Commands.antt`). `specs/Nets.antt` says what a step, a settling or a copy is of either. A look-up answers
@@ -37,15 +45,19 @@
 
 mod commands;
 mod counted;
+mod dispatcher;
+mod host;
 mod kept;
 mod live;
+mod progress;
 mod putting;
 mod session;
 mod totals;
 
 pub use control::{Crew, NO_THRESHOLDS, NoGate, Progress, THRESHOLDS, Thresholds, TurnGate};
 pub use counted::Counted;
-pub use dispatch::Host;
+pub use host::Host;
 pub use kept::Kept;
 pub use live::{Live, lookup, network, step, steps, world};
+pub use progress::{end_line, show_steps_done};
 pub use session::{PrintStyle, Session, do_command, do_commands};

@@ -7,15 +7,14 @@ ghost use Rattle.sessions.specs.Nets.{CannotDrain, CannotInject, CannotLookUp, C
 ghost use Rattle.sessions.specs.Traces.{IsTrace};
 
 use crate::counted::Counted;
+use crate::host::Host;
 use crate::kept::Kept;
 use control::{Progress, TurnGate};
-use dispatch::Host;
 use either::Either;
 use fabric::FabricName;
-use lines::Counts;
+use lines::{Counts, Printer};
 use network_model::{Entry, Prefix, Refusal, Step, Trace};
 use plans::Cause;
-use reports::Printer;
 use std::io::Write;
 use world::{Network, World};
 

@@ -5,8 +5,8 @@ ghost use Rattle.either.specs.Either.{is_left};
 ghost use Rattle.sessions.specs.Commands.{CannotPut, IsPut, NoneAmiss, is_amiss_at, put as put_model};
 ghost use Rattle.sessions.specs.Nets.{world_of};
 
+use crate::host::Host;
 use crate::live::{Live, network, step, world};
-use dispatch::Host;
 use fabric::FabricName;
 use network_model::{End, Refusal, Step};
 use world::World;

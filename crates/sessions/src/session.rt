@@ -6,18 +6,16 @@ ghost use Rattle.either.specs.Either.{is_left};
 ghost use Rattle.sessions.specs.Commands.{AreDone, IsDone, IsRefused, StopsAtCommand};
 
 use crate::commands::{do_step, look_up, show_count, show_trace, try_step};
+use crate::host::Host;
 use crate::live::{Live, drain, inject, network, restore, save, settle, steps, world};
+use crate::progress::show_commands_done;
 use crate::putting::put_links;
 use command_line::Format;
 use control::{Progress, TurnGate};
-use dispatch::Host;
 use fabric::FabricName;
+use lines::{Printer, print_report, print_state, show_held, show_next, show_queue, show_table};
 use network_model::Refusal;
 use plans::{Cause, Fault};
-use reports::{
-    Printer, print_report, print_state, show_commands_done, show_held, show_next, show_queue,
-    show_table,
-};
 use script::{Command, Directory, Key, Place};
 use std::alloc::Global;
 use std::io::Write;

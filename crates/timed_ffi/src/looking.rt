@@ -2,9 +2,9 @@
 
 ghost use Rattle.std.specs.Prelude.{◌≡◌, ◌≢◌, Some, IfNone, IfSome, length, option_map, slice_get};
 ghost use Rattle.c_interface.specs.Faults.{fault_number};
+ghost use Rattle.c_interface.specs.Rows.{as_prefix};
 ghost use Rattle.network_calls.specs.Calls.{at_link, at_machine, at_router, counts_of, lookup_fault, shown_machine, IsAnswered, IsFollowed, IsListed};
 ghost use Rattle.network_calls.specs.Failures.{status_by};
-ghost use Rattle.network_calls.specs.Parts.{as_prefix};
 ghost use Rattle.network_calls.specs.Shown.{link_shown};
 ghost use Rattle.timed_ffi.specs.Handles.{handle_recording, timed_network};
 

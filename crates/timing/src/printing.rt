@@ -3,8 +3,8 @@
 use crate::mark::{Begun, Mark};
 use crate::tally::{Span, Tally, began_in, count_spells};
 use journal::StepText;
+use lines::{Printer, print_either};
 use network_model::{LinkSpec, Refusal};
-use reports::{Printer, print_either};
 use std::fmt;
 use std::io::Write;
 use timed_reports::{Report, Spell};

@@ -3,7 +3,7 @@ use Rattle.script.proofs.Exits.{at_err}
 use Rattle.plans.specs.declared.fault.Cause.TheVariants.{Memory as OfMemory}
 use Rattle.plans.specs.Faults.{OfBytes, unplaced}
 use Rattle.plans.proofs.Planned.{IsPlanned}
-use Rattle.reports.specs.Ends.{KeepsJournal}
+use Rattle.play.specs.Ends.{KeepsJournal}
 use Rattle.play.specs.Works.{Comes, IsOfWorkers, Stops, StopsOn, is_kept, kept}
 use Rattle.play.proofs.Working.{stopped, worked, works_added}
 use Rattle.play.proofs.program.keep.Goals as goal

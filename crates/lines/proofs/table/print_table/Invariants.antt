@@ -1,0 +1,10 @@
+use Rattle.std.proofs.Common.{◌≡◌, ◌++◌}
+use Rattle.std.specs.Io.KnownBytes.{Appends}
+use Rattle.lines.specs.Report.{rows_text}
+use Rattle.lines.proofs.table.print_table.Given as goal
+
+abbrev pub invariant-loop-prefix : goal.invariant-loop-prefix
+invariant-loop-prefix g l = record {
+  printed : Appends (g.W.Write.contents l.initial.out) (g.W.Write.contents l.out) (rows_text l.printer.format l.printer.directory.now l.router l.yielded);
+  rows : l.yielded ++ l.prefix-iterator ≡ l.table.table.published;
+}

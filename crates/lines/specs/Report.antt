@@ -1,0 +1,69 @@
+-- What is told of links, routers, machines and rows.
+use Rattle.std.specs.Prelude.{◌≡◌, ℕ, List, [], ◌∷◌, ◌++◌, ◌⊎◌, Option, Some, None, nat_lt, if◌then◌else◌, length}
+use Rattle.std.specs.FinMap.{find as row_of}
+use Rattle.std.specs.Io.KnownBytes.{Appends}
+use Rattle.ipv4_prefix.specs.Prefix.{Prefix, prefix_cmp}
+use Rattle.network_model.specs.World.{Link, Router, World}
+use Rattle.network_model.specs.declared.route.Entry.{Entry}
+use Rattle.network_model.specs.declared.step.Refusal.{Refusal}
+use Rattle.network_model.specs.declared.step.Refusal.TheVariants.{UnknownRouter}
+use Rattle.dual_machine.specs.State.{MachineState as Machine}
+use Rattle.lines.specs.States.{link_state, IsMachineState}
+use Rattle.texts.specs.Words.{Text}
+use Rattle.texts.specs.Lines.{lines_text}
+use Rattle.script.specs.Directories.{Directory}
+use Rattle.command_line.specs.declared.format.Format.{Format}
+use Rattle.lines.specs.declared.answers.Asked.TheVariants.{Row}
+use Rattle.lines.specs.declared.line.Line.{Line}
+use Rattle.lines.specs.declared.line.Line.TheVariants.{Asked, State}
+use Rattle.lines.specs.declared.states.LinkLine.{LinkLine}
+use Rattle.lines.specs.declared.states.MachineLine.{MachineLine}
+use Rattle.lines.specs.declared.states.State.TheVariants.{Machine as OfMachine, Unheard}
+use Rattle.lines.specs.Formats.{line_in}
+
+-- why nothing is told of a router: it is not there
+abbrev pub unknown_router : World → ℕ → Option Refusal
+unknown_router w router = if nat_lt router (length w.routers) then None else Some UnknownRouter
+
+-- what is told of a link
+abbrev pub link_line : Link → LinkLine
+link_line k = record {
+  a = k.a.router;
+  b = k.b.router;
+  at = link_state k;
+  queued_a = length k.a.inbox;
+  queued_b = length k.b.inbox;
+}
+
+-- a line that tells of a router's machine for a prefix
+pub record TellsOfMachine (number : ℕ) (r : Router) (p : Prefix) (line : MachineLine) : Type 0 where
+  pub machine : Machine
+  pub is_machine : row_of prefix_cmp p r.machines ≡ Some machine.machine
+  pub router : line.router ≡ number
+  pub prefix : line.prefix ≡ p
+  pub at : IsMachineState machine line.at
+  pub entry : row_of prefix_cmp p (r.table).control ≡ Some line.entry
+
+-- what is told of a router's machine for a prefix; none where the router has no machine or no row for it
+abbrev pub IsMachineLine : ℕ → Router → Prefix → Option MachineLine → Type 0
+IsMachineLine number r p None = (row_of prefix_cmp p r.machines ≡ None) ⊎ (row_of prefix_cmp p (r.table).control ≡ None)
+IsMachineLine number r p (Some line) = TellsOfMachine number r p line
+
+-- ---- texts
+
+-- what is told of a router's machine for a prefix, or that the router has not heard of the prefix
+abbrev pub state_line : ℕ → Prefix → Option MachineLine → Line
+state_line number p None = State (Unheard number p)
+state_line number p (Some line) = State (OfMachine line)
+
+-- rows of a router, a line each
+abbrev pub rows_text : Format → Directory → ℕ → List (Prefix × Entry) → Text
+rows_text format d router = lines_text (λ row. line_in format d (Asked (Row router row.0 row.1)))
+
+-- a line on a router's machine for a prefix was printed
+abbrev pub PrintsMachine : Format → Directory → ℕ → Router → Prefix → Option Text → Option Text → Type 0
+PrintsMachine format d number r p old new = (line : Option MachineLine) × IsMachineLine number r p line × Appends old new (line_in format d (state_line number p line) ++ 10 ∷ [])
+
+-- something was printed, and what was there before stays
+abbrev pub Prints : Option Text → Option Text → Type 0
+Prints old new = (text : Text) × Appends old new text

@@ -1,0 +1,155 @@
+//! Prints what a network is at: its links, its routers and their machines.
+
+ghost use Rattle.std.specs.Prelude.{◌≡◌, ◌<◌, Err, Some, IsOk, IfOk, IfSome, OnOk, OnErr, MatchOption, length, slice_get};
+ghost use Rattle.lines.specs.Report.{unknown_router};
+ghost use Rattle.lines.specs.Report.{link_line as line_of_link, IsMachineLine, Prints, PrintsMachine};
+
+use crate::explained::print_reasons;
+use crate::line::Line;
+use crate::printer::Printer;
+use crate::records::{LinkState, MachineState, RouterState};
+use crate::states::{LinkLine, MachineLine, RouterLine, State};
+use ipv4_prefix::Prefix;
+use link_fifo::Links;
+use network_model::{End, Refusal};
+use router_core::Router;
+use std::io;
+use std::io::Write;
+use world::World;
+
+/// Prints what a router's machine for a prefix is at, on a line, and why, where more is to be told.
+/// Refused with `UnknownRouter`. A write that fails is lost.
+pub fn print_state<W: Write>(
+    world: &World,
+    printer: &Printer<'_>,
+    router: u16,
+    prefix: Prefix,
+    explain: bool,
+    out: &mut W,
+) -> Result<(), Refusal>
+    ensures cause { MatchOption (unknown_router world.now router) (IsOk result)
+        (λ e. result ≡ Err e) }
+    ensures err { OnErr result (out.new ≡ out.old) }
+{
+    let found = known_router(world, router)?;
+    let _ = print_machine(printer, router, found, prefix, out);
+    if explain {
+        let _ = print_reasons(printer, router, found, prefix, out);
+    }
+    Ok(())
+}
+
+// The router of this number.
+pub(crate) fn known_router(world: &World, router: u16) -> Result<&Router, Refusal>
+    ensures ok { IfOk result (λ r. slice_get (world.now).routers router ≡ Some r.now) }
+    ensures err { MatchOption (unknown_router world.now router) (IsOk result)
+        (λ e. result ≡ Err e) }
+{
+    let routers = world.routers();
+    routers
+        .get(usize::from(router))
+        .ok_or(Refusal::UnknownRouter)
+}
+
+/// Prints each link, and each router with its machines in the order of their prefixes, a line each, up
+/// to the first write that fails.
+pub fn print_report<W: Write>(world: &World, printer: &Printer<'_>, out: &mut W) -> io::Result<()>
+    ensures { OnOk result (Prints (W.contents out.old) (W.contents out.new)) }
+{
+    print_links(printer, world.links(), out)?;
+    print_routers(printer, world, out)
+}
+
+// Prints each link, up to the 65535th. A network of the program has no more than 1024.
+fn print_links<W: Write>(printer: &Printer<'_>, links: &Links, out: &mut W) -> io::Result<()>
+    ensures { OnOk result (Prints (W.contents out.old) (W.contents out.new)) }
+{
+    let count = u16::try_from(links.len()).unwrap_or(u16::MAX);
+    for link in 0..count {
+        let state = State::Link(link_line(links, link));
+        printer.print(&Line::State(state), out)?;
+    }
+    Ok(())
+}
+
+// Prints each router, up to the 65535th, with its machines. A network of the program has no more than
+// 256.
+fn print_routers<W: Write>(printer: &Printer<'_>, world: &World, out: &mut W) -> io::Result<()>
+    ensures { OnOk result (Prints (W.contents out.old) (W.contents out.new)) }
+{
+    let count = u16::try_from(world.routers().len()).unwrap_or(u16::MAX);
+    for number in 0..count {
+        let notices = world.notices(number);
+        print_router(printer, number, world.router(number), notices, out)?;
+    }
+    Ok(())
+}
+
+// Prints a router, and its machine for each prefix that it has heard of.
+fn print_router<W: Write>(
+    printer: &Printer<'_>,
+    number: u16,
+    router: &Router,
+    notices: usize,
+    out: &mut W,
+) -> io::Result<()>
+    ensures { OnOk result (Prints (W.contents out.old) (W.contents out.new)) }
+{
+    let line = RouterLine {
+        router: number,
+        at: RouterState::of(router, notices),
+    };
+    printer.print(&Line::State(State::Router(line)), out)?;
+    for (prefix, _) in router.table().rows() {
+        print_machine(printer, number, router, prefix, out)?;
+    }
+    Ok(())
+}
+
+// Prints what a router's machine for a prefix is at.
+fn print_machine<W: Write>(
+    printer: &Printer<'_>,
+    number: u16,
+    router: &Router,
+    prefix: Prefix,
+    out: &mut W,
+) -> io::Result<()>
+    ensures { OnOk result (PrintsMachine printer.now.format printer.now.directory.now number router.now prefix
+        (W.contents out.old) (W.contents out.new)) }
+{
+    match machine_line(number, router, prefix) {
+        Some(line) => printer.print(&Line::State(State::Machine(line)), out),
+        None => {
+            let router = number;
+            printer.print(&Line::State(State::Unheard { router, prefix }), out)
+        }
+    }
+}
+
+// What is told of a link.
+fn link_line(links: &Links, link: u16) -> LinkLine
+    requires { link < length links.now.links }
+    ensures { IfSome (slice_get links.now.links link) (λ k. result ≡ line_of_link k) }
+{
+    LinkLine {
+        a: links.router(link, End::A),
+        b: links.router(link, End::B),
+        at: LinkState::of(links, link),
+        queued_a: links.queued(link, End::A),
+        queued_b: links.queued(link, End::B),
+    }
+}
+
+// What is told of a router's machine for a prefix; none where the router has not heard of it.
+fn machine_line(number: u16, router: &Router, prefix: Prefix) -> Option<MachineLine>
+    ensures { IsMachineLine number router.now prefix result }
+{
+    let entry = router.table().get(prefix)?;
+    let machine = router.machine(prefix)?;
+    Some(MachineLine {
+        router: number,
+        prefix,
+        at: MachineState::of(machine),
+        entry,
+    })
+}

@@ -1,0 +1,38 @@
+//! Says what a scenario holds.
+
+ghost use Rattle.std.specs.Prelude.{◌≡◌, IfOk, IfErr};
+ghost use Rattle.plans.specs.Faults.{OfBytes};
+ghost use Rattle.plans.specs.Scenarios.{StopsReading};
+ghost use Rattle.play.specs.Ends.{IsChecked};
+
+use plans::{Fault, Outcome, Plan, read_plan, read_text};
+use std::alloc::Global;
+use std::io::{Read, Write};
+
+/// Reads a scenario, and says what it holds. A write that fails is lost.
+pub fn check<R: Read + Drop, W: Write>(
+    alloc: Global,
+    scenario: R,
+    out: &mut W,
+) -> Result<Outcome, Fault>
+    ensures ok { IfOk result (λ end. (end ≡ Outcome.Done)
+        × OfBytes (R.remaining scenario) IsChecked) }
+    ensures fault { IfErr result (λ e. OfBytes (R.remaining scenario)
+        (λ bytes. StopsReading bytes e)) }
+{
+    let text = read_text(alloc, scenario)?;
+    let Plan {
+        network,
+        directory: _,
+        commands,
+    } = read_plan(alloc, text.as_str())?;
+    let routers = network.routers();
+    let links = network.links().len();
+    let prefixes = network.prefixes();
+    let commands = commands.len();
+    let _ = writeln!(
+        out,
+        "ok: {routers} routers, {links} links, {prefixes} prefixes, {commands} commands"
+    );
+    Ok(Outcome::Done)
+}

@@ -1,7 +1,0 @@
-use Rattle.reports.specs.Report.{Prints}
-use Rattle.reports.proofs.report.print_links.Given as goal
-
-abbrev pub invariant-loop-link : goal.invariant-loop-link
-invariant-loop-link g l = record {
-  printed : Prints (g.W.Write.contents l.initial.out) (g.W.Write.contents l.out);
-}

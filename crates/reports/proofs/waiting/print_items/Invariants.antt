@@ -1,7 +1,0 @@
-use Rattle.std.proofs.Common.{take}
-use Rattle.std.specs.Io.KnownBytes.{Appends}
-use Rattle.reports.specs.Waiting.{queued_lines}
-use Rattle.reports.proofs.waiting.print_items.Given as goal
-
-abbrev pub invariant-loop-item : goal.invariant-loop-item
-invariant-loop-item g l = Appends (g.W.Write.contents l.initial.out) (g.W.Write.contents l.out) (queued_lines l.printer.format l.printer.directory.now l.router l.port l.session (take l.item-index l.items))

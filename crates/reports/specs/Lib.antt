@@ -1,4 +1,0 @@
-pub mod Formats
-pub mod Report
-pub mod Waiting
-pub mod Ends
