@@ -1,7 +1,7 @@
 -- What stands in a handle that holds no network.
 use Rattle.std.specs.Prelude.{[]}
 use Rattle.simulation.specs.Simulation.{Simulation, simulation_of}
-use Rattle.simulation.specs.Counts.{none_sent}
+use Rattle.course.specs.Counts.{none_sent}
 
 -- what an empty handle stands for: a network of no routers
 abbrev pub no_network : Simulation

@@ -3,8 +3,6 @@ use Rattle.std.proofs.Common.{refl, ◌≡◌, List, [], ◌∷◌, Some, None}
 use Rattle.no_packet_loops.proofs.Example.{pair}
 use Rattle.network_model.specs.declared.step.Step.{Step}
 use Rattle.network_model.specs.declared.step.Step.TheVariants.{LinkUp, LinkDown, Deliver, Publish, Release}
-use Rattle.network_model.specs.Turns.{next_step}
-use Rattle.simulation.specs.Counts.{none_sent}
 use Rattle.simulation.specs.Headline.{image_hop}
 use Rattle.simulation.specs.Simulation.{Simulation, after_steps, opening_simulation}
 
@@ -14,17 +12,6 @@ told = LinkUp 0 ∷ Deliver 0 0 ∷ Deliver 1 0 ∷ Publish 0 ∷ []
 
 abbrev after : List Step → Simulation
 after steps = after_steps (after_steps (opening_simulation pair) told) steps
-
--- router 0 tells router 1 of its prefix: that is one update, and one step more
-one_update : (after (Release 0 ∷ [])).sent ≡ record { updates = 1; queries = 0; replies = 0 }
-one_update = refl
-
-five_steps : (after (Release 0 ∷ [])).steps ≡ 5
-five_steps = refl
-
--- where the link is down by then, the update is discarded, and none was sent
-discarded : (after (LinkDown 0 ∷ Release 0 ∷ [])).sent ≡ none_sent
-discarded = refl
 
 -- router 1 forwards by the row once it has published it, and not before
 not_yet : image_hop (after (Release 0 ∷ Deliver 1 0 ∷ [])) 3221225985 1 ≡ None
@@ -36,7 +23,3 @@ forwards = refl
 -- over a link that is down no packet goes, whatever the image says
 dead : image_hop (after (Release 0 ∷ Deliver 1 0 ∷ Publish 1 ∷ LinkDown 0 ∷ [])) 3221225985 1 ≡ None
 dead = refl
-
--- what router 0 has to do next is to release
-turn : next_step (after []).world 0 ≡ Some (Release 0)
-turn = refl

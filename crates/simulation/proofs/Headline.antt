@@ -1,20 +1,17 @@
 -- What the laws of all runs say of every simulation.
 use Rattle.std.proofs.Common.{refl, sym, ap, ◌∙◌, ◌≡◌, ℕ, List, Option, Some, None, option_map, option_and_then, slice_get}
-use Rattle.no_packet_loops.proofs.Common.{slice_get-map, longest_match, entry_leads, Router, IsNetwork, image_answer}
+use Rattle.no_packet_loops.proofs.Common.{slice_get-map, longest_match, entry_leads, Router, image_answer}
 use Rattle.network_model.specs.Forwarding.{hop}
-use Rattle.all_packets.specs.Packets.{IsWay}
+use Rattle.all_packets.specs.Packets.{IsWay, NoPacketCircles}
 use Rattle.all_packets.proofs.Improving.{way_by}
-use Rattle.all_packets.proofs.Ways.{always_no_circles}
-use Rattle.quiet_routes.proofs.Routes.{quiet_routes}
-use Rattle.convergence.proofs.Converging.{always_converges}
 use Rattle.simulation.specs.InForce.{image_in_force}
 use Rattle.simulation.specs.Simulation.{Simulation, IsSimulation}
-use Rattle.simulation.specs.Headline.{image_hop, ConvergesLeftAlone, IsImageWay, LeadsAtLeastCost, NeverMeetsTwice}
+use Rattle.simulation.specs.Headline.{image_hop, IsImageWay, NeverMeetsTwice}
 
 -- along an image in force a packet goes where it goes by what its router published
 pub hop_is : (s : Simulation) → IsSimulation s → (addr i : ℕ) → image_hop s addr i ≡ hop s.world addr i
 hop_is s kept addr i =
-    ap (λ o. option_and_then (λ r. entry_leads s.world i r.1) (option_and_then (λ image. image_answer image addr) o)) (ap (λ xs. slice_get xs i) kept.in_force ∙ slice_get-map image_in_force s.world.routers i)
+    ap (λ o. option_and_then (λ r. entry_leads s.world i r.1) (option_and_then (λ image. image_answer image addr) o)) (ap (λ xs. slice_get xs i) kept ∙ slice_get-map image_in_force s.world.routers i)
     ∙ by_router (slice_get s.world.routers i)
   where
     by_router : (o : Option Router) → option_and_then (λ r. entry_leads s.world i r.1) (option_and_then (λ image. image_answer image addr) (option_map image_in_force o))
@@ -31,13 +28,5 @@ pub along_images : (s : Simulation) → IsSimulation s → (addr : ℕ) (way : L
 along_images s kept addr = way_by (λ i k. hop s.world addr i ≡ Some k) (λ i k. image_hop s addr i ≡ Some k) (λ i k h. hop_is s kept addr i ∙ h)
 
 -- no packet circles
-pub never_twice : (s : Simulation) → IsSimulation s → IsNetwork s.network → NeverMeetsTwice s
-never_twice s kept valid addr way w = always_no_circles s.network kept.done s.world valid kept.runs addr way (along_tables s kept addr way w)
-
--- at quiet, rows are best
-pub least_cost : (s : Simulation) → IsSimulation s → IsNetwork s.network → LeadsAtLeastCost s
-least_cost s kept valid = quiet_routes s.network kept.done s.world valid kept.runs
-
--- left alone, the network converges
-pub converges : (s : Simulation) → IsSimulation s → IsNetwork s.network → ConvergesLeftAlone s
-converges s kept valid = always_converges s.network kept.done s.world valid kept.runs
+pub never_twice : (s : Simulation) → IsSimulation s → NoPacketCircles s.world → NeverMeetsTwice s
+never_twice s kept none addr way w = none addr way (along_tables s kept addr way w)

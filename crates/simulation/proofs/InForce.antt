@@ -1,10 +1,12 @@
 -- What a step does to the images in force.
 use Rattle.std.proofs.Common.{refl, sym, ap, subst, ◌∙◌, ◌≡◌, ℕ, zero, suc, ◌<◌, Bool, true, false, cond, List, [], ◌∷◌, map, length, set, Option, Some, None, IsSome, Result, Ok, Err, OnOk, OnErr, slice_get, get_or, option_map, option_and_then}
-use Rattle.no_packet_loops.proofs.Common.{false≢true, length-map, slice_get_read, slice_get_within, slice_get-map, map-changed_at, changed_at, Item, End, Link, Refusal, Router, World, Network, opening_router_of, Lawful, next, is_due, changed_router, changed_link, with_cost, with_front_taken, with_message, with_delivered, with_noticed, with_notice_taken, with_released, front_at, notice_at, release_at, changed_attachments, router_accepting, router_at_home, router_publishing, router_releasing, Image, option_map_or-ind, slice_get-get_or, None_not_Some, Some_injective, routers-changed_link}
+use Rattle.no_packet_loops.proofs.Common.{false≢true, length-map, slice_get_read, slice_get_within, slice_get-map, map-changed_at, changed_at, Item, End, Link, Refusal, Router, World, Network, opening_router_of, Lawful, next, is_due, changed_router, changed_link, with_cost, with_front_taken, with_message, with_delivered, with_noticed, with_notice_taken, with_released, front_at, notice_at, release_at, changed_attachments, router_accepting, router_at_home, router_publishing, router_releasing, Image, option_map_or-ind, None_not_Some, Some_injective, routers-changed_link}
 use Rattle.network_model.specs.declared.step.Step.{Step}
 use Rattle.network_model.specs.declared.step.Step.TheVariants.{LinkUp, LinkDown, SetCost, Deliver, Publish, Release, Attach, Detach}
 use Rattle.image_patch.specs.declared.Patch.{Patch as PatchFields}
 use Rattle.image_patch.specs.Patches.{patched}
+use Rattle.course.specs.Course.{Course, after_step}
+use Rattle.course.proofs.Elements.{read_at}
 use Rattle.simulation.specs.InForce.{chosen_image, due_at, image_in_force, images_in_force, IsPatchDue}
 
 -- ---- a step that is no publication
@@ -96,10 +98,6 @@ none_due w i none lawful = None_not_Some (sym none ∙ due_image w i lawful.0 la
 
 -- ---- the images of the code
 
--- an element that is read at its place
-pub read_at : {A : Type 0} (xs : List A) (i k : ℕ) (x : A) → k < length xs → x ≡ get_or xs k x → k ≡ i → slice_get xs i ≡ Some x
-read_at xs i k x within read place = ap (slice_get xs) (sym place) ∙ slice_get-get_or xs k x within ∙ ap Some (sym read)
-
 -- each router that is there has an image
 pub has_image : (w : World) (i : ℕ) (r : Router) (images : List Image) → slice_get w.routers i ≡ Some r → images ≡ images_in_force w → i < length images
 has_image w i r images at shown =
@@ -125,10 +123,10 @@ published_shown w v i k images old new patch due shown place here is world =
     ap (λ xs. set xs k new) shown ∙ ap (λ j. set (images_in_force w) j new) place ∙ ap (set (images_in_force w) i) image ∙ images_due w i due.0 _ due.1 due.2 ∙ sym (ap images_in_force world)
 
 -- a step that is no publication leaves them, whether it is done or refused
-pub stays : (w v : World) (s : Step) (images : List Image) (r : Result (Unit {0}) Refusal) → images ≡ images_in_force w → ((i : ℕ) → s ≡ Publish i → ⊥) → OnOk r (Lawful w s × (v ≡ next w s)) → OnErr r (v ≡ w)
-    → images ≡ images_in_force v
-stays w v s images (Ok x) shown other done failed = shown ∙ sym (images_stay w s other) ∙ sym (ap images_in_force done.1)
-stays w v s images (Err e) shown other done failed = shown ∙ sym (ap images_in_force failed)
+pub stays : (c d : Course) (s : Step) (images : List Image) (r : Result (Unit {0}) Refusal) → images ≡ images_in_force c.world → ((i : ℕ) → s ≡ Publish i → ⊥) → OnOk r (Lawful c.world s × (d ≡ after_step c s)) → OnErr r (d ≡ c)
+    → images ≡ images_in_force d.world
+stays c d s images (Ok x) shown other done failed = shown ∙ sym (images_stay c.world s other) ∙ sym (ap (λ (x : Course). images_in_force x.world) done.1)
+stays c d s images (Err e) shown other done failed = shown ∙ sym (ap (λ (x : Course). images_in_force x.world) failed)
 
 -- ---- the opening
 

@@ -1,52 +1,16 @@
 -- Steps that routers do in turn.
-use Rattle.std.proofs.Common.{refl, sym, ap, subst, ◌∙◌, arith, inl, inr, length-append, ◌≡◌, ◌⊎◌, ℕ, ◌+◌, ◌^◌, ◌<◌, ◌≤◌, Bool, true, false, if◌then◌else◌, nat_lt, List, [], ◌∷◌, ◌++◌, length, Some, None}
-use Rattle.std.proofs.lemmas.Bool.{cases_lt, ltb-false}
-use Rattle.no_packet_loops.proofs.Common.{World, Lawful, Lawful_to_refusal, next, refusal, Refusal, Runs}
-use Rattle.network_model.specs.declared.step.Step.{Step}
-use Rattle.network_model.specs.Turns.{next_step}
-use Rattle.world.specs.Steps.{CanBeRefused}
-use Rattle.world.proofs.Runs.{with_last_step}
-use Rattle.convergence.proofs.Turns.{next_chosen}
-use Rattle.simulation.specs.Simulation.{Simulation, after_step, simulation_refusal}
-use Rattle.simulation.specs.Settling.{AreTurns, HasTurned, IsStopped, IsTurn}
-use Rattle.simulation.proofs.Idle.{busy-unsettled}
-use Rattle.simulation.proofs.Simulations.{after_push}
+use Rattle.std.proofs.Common.{◌≡◌, ℕ}
+use Rattle.course.specs.Turns.{HasTurned as HasCourseTurned}
+use Rattle.simulation.specs.Simulation.{Simulation, course_part, IsSimulation}
+use Rattle.simulation.specs.Settling.{HasTurned}
+use Rattle.simulation.proofs.Simulations.{after_course}
 
--- no turn
-pub turned_none : (s : Simulation) → HasTurned s s 0
-turned_none s = record { steps = []; count = refl; turns = tt; runs = refl; after = refl }
-
-turns_push : (w : World) (ss : List Step) (v : World) (s : Step) → AreTurns w ss → Runs w ss v → IsTurn v s → AreTurns w (ss ++ s ∷ [])
-turns_push w [] v s turns runs turn = (subst (λ u. IsTurn u s) (sym runs) turn, tt)
-turns_push w (x ∷ xs) v s turns runs turn = (turns.0, turns_push (next w x) xs v s turns.1 runs.1 turn)
-
--- one turn more
-pub turned_more : (old mid new : Simulation) (done : ℕ) (s : Step) → HasTurned old mid done → IsTurn mid.world s → Lawful mid.world s → new ≡ after_step mid s → HasTurned old new (done + 1)
-turned_more old mid new done s turned turn lawful is = record {
-  steps = turned.steps ++ s ∷ [];
-  count = (let longer : length (turned.steps ++ s ∷ []) ≡ length turned.steps + 1 = length-append turned.steps (s ∷ []) in let count = turned.count in omega (arith, longer, count));
-  turns = turns_push old.world turned.steps mid.world s turned.turns turned.runs turn;
-  runs = subst (Runs old.world (turned.steps ++ s ∷ [])) (sym (ap (λ (x : Simulation). x.world) is)) (with_last_step old.world turned.steps mid.world s turned.runs lawful);
-  after = is ∙ ap (λ x. after_step x s) turned.after ∙ sym (after_push old turned.steps s);
+-- the turns of a course are those of the simulation
+pub turned : (old new : Simulation) (done : ℕ) → IsSimulation old → IsSimulation new → HasCourseTurned (course_part old) (course_part new) done → HasTurned old new done
+turned old new done was kept turns = record {
+  steps = turns.steps;
+  count = turns.count;
+  turns = turns.turns;
+  runs = turns.runs;
+  after = after_course old new turns.steps was kept turns.after;
 }
-
--- a turn that is refused is so because no step can be counted, or for want of memory
-pub stopped : (s : Simulation) (step : Step) (e : Refusal) → IsTurn s.world step → CanBeRefused (simulation_refusal s step) e → IsStopped s e
-stopped s step e turn refused = record {
-  unsettled = busy-unsettled s.world turn.0 step turn.1;
-  cause = by_room (nat_lt (s.steps + 1) (2 ^ 64)) refl refused;
-}
-  where
-    by_room : (b : Bool) → nat_lt (s.steps + 1) (2 ^ 64) ≡ b → CanBeRefused (if b then refusal s.world step else Some Refusal.JournalFull) e → ((e ≡ Refusal.JournalFull) × (2 ^ 64 ≤ s.steps + 1)) ⊎ (e ≡ Refusal.NoMemory)
-    by_room true _ is = inr (subst (λ o. CanBeRefused o e) (Lawful_to_refusal s.world step (next_chosen s.world turn.0 step turn.1).1) is)
-    by_room false full is = inl (is, ltb-false (s.steps + 1) (2 ^ 64) full)
-
--- ---- routers that have nothing to do
-
--- one more than those before
-pub one_more_idle : (w : World) (n : ℕ) → ((i : ℕ) → i < n → next_step w i ≡ None) → next_step w n ≡ None → (i : ℕ) → i < n + 1 → next_step w i ≡ None
-one_more_idle w n before here i below = by_order (cases_lt i n)
-  where
-    by_order : (i < n) ⊎ (n ≤ i) → next_step w i ≡ None
-    by_order (inl less) = before i less
-    by_order (inr same) = (let is : n ≡ i = omega (arith, same, below) in subst (λ k. next_step w k ≡ None) is here)

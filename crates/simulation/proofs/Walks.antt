@@ -1,13 +1,12 @@
 -- Packets that are followed along the images in force.
 use Rattle.std.proofs.Common.{refl, sym, ap, subst, ◌∙◌, arith, ◌≡◌, ◌≢◌, ℕ, zero, suc, ◌<◌, ◌≤◌, List, [], ◌∷◌, ◌++◌, append_assoc, length, take, drop, Option, Some, None, option_map, option_and_then, slice_get}
-use Rattle.no_packet_loops.proofs.Common.{slice_get-map, IsNetwork, Prefix, Entry, Local, Via, Unreachable, Ending, Router, World, Image, image_answer, longest_match, row_for, entry_leads, Onward, Ends, Goes, over_link, by_entry, by_row, onward, Trace, traced_by, None_not_Some, Some_injective}
+use Rattle.no_packet_loops.proofs.Common.{slice_get-map, Prefix, Entry, Local, Via, Unreachable, Ending, Router, World, Image, image_answer, longest_match, row_for, entry_leads, Onward, Ends, Goes, over_link, by_entry, by_row, onward, Trace, traced_by, None_not_Some, Some_injective}
 use Rattle.no_packet_loops.proofs.Traces.{by_entry-goes}
 use Rattle.network_model.specs.Forwarding.{hop}
-use Rattle.all_packets.specs.Packets.{IsWay}
+use Rattle.all_packets.specs.Packets.{IsWay, NoPacketCircles}
 use Rattle.all_packets.specs.Through.{through_from}
 use Rattle.simulation.specs.InForce.{image_in_force, images_in_force}
-use Rattle.simulation.specs.Runs.{LeadsToRouters}
-use Rattle.all_packets.proofs.Ways.{always_no_circles, always_ways_end, way_moves}
+use Rattle.course.specs.Links.{HasShortWays as HasShortWaysThere, LeadsToRouters}
 use Rattle.simulation.specs.Simulation.{Simulation, IsSimulation}
 use Rattle.simulation.proofs.Headline.{along_images}
 use Rattle.simulation.specs.Tracing.{HasShortWays, IsTraced, passed}
@@ -124,9 +123,5 @@ unfinished s ways addr i old new known room is =
 
 -- ---- what holds of the ways of every simulation
 
-pub short_ways : (s : Simulation) → IsSimulation s → IsNetwork s.network → HasShortWays s
-short_ways s kept valid = record {
-  in_force = along_images s kept;
-  none_twice = always_no_circles s.network kept.done s.world valid kept.runs;
-  short = λ addr i ks known way. always_ways_end s.network kept.done s.world valid kept.runs addr i ks known (way_moves s.world addr (i ∷ ks) way);
-}
+pub short_ways : (s : Simulation) → IsSimulation s → NoPacketCircles s.world → HasShortWaysThere s.world → HasShortWays s
+short_ways s kept none short = record { in_force = along_images s kept; none_twice = none; short = short }

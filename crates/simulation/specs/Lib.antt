@@ -1,7 +1,5 @@
 pub mod InForce
-pub mod Counts
 pub mod Simulation
 pub mod Headline
-pub mod Runs
 pub mod Settling
 pub mod Tracing

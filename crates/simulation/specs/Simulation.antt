@@ -1,16 +1,16 @@
 -- A network that runs, with an image in force at each router, and how many steps made it what it is.
-use Rattle.std.specs.Prelude.{◌≡◌, ℕ, ◌+◌, ◌^◌, ◌<◌, ◌≤◌, nat_lt, if◌then◌else◌, List, [], ◌∷◌, length, Option, Some, option_map, slice_get}
+use Rattle.std.specs.Prelude.{◌≡◌, ℕ, ◌+◌, List, [], ◌∷◌, length, Option, Some, option_map, slice_get}
 use Rattle.ipv4_prefix.specs.LongestMatch.{longest_match}
 use Rattle.network_model.specs.declared.route.Answer.{Answer}
 use Rattle.network_model.specs.declared.step.Step.{Step}
 use Rattle.network_model.specs.declared.step.Refusal.{Refusal}
 use Rattle.network_model.specs.World.{Network, Router, World, opening}
-use Rattle.network_model.specs.Step.{next, refusal}
-use Rattle.network_model.specs.Run.{Runs}
+use Rattle.network_model.specs.Step.{next}
 use Rattle.network_model.specs.Publication.{Image, image_answer, answer_of}
-use Rattle.simulation.specs.declared.sent.Sent.{Sent}
+use Rattle.course.specs.declared.sent.Sent.{Sent}
 use Rattle.simulation.specs.InForce.{images_in_force}
-use Rattle.simulation.specs.Counts.{leaving, none_sent, sent_count, with_sent}
+use Rattle.course.specs.Counts.{leaving, none_sent, with_sent}
+use Rattle.course.specs.Course.{Course, course_of, course_refusal}
 
 -- the network that was opened, the world that the steps made, the image in force at each router, how many steps were done, and how many messages of each kind they put on links
 pub record Simulation : Type 0 where
@@ -23,6 +23,14 @@ pub record Simulation : Type 0 where
 -- a simulation of its parts
 abbrev pub simulation_of : Network → World → List Image → ℕ → Sent → Simulation
 simulation_of network world images steps sent = record { network = network; world = world; images = images; steps = steps; sent = sent }
+
+-- the course that it is at
+abbrev pub course_part : Simulation → Course
+course_part s = course_of s.network s.world s.steps s.sent
+
+-- a course, with these images in force
+abbrev pub with_images : Course → List Image → Simulation
+with_images c images = simulation_of c.network c.world images c.steps c.sent
 
 -- a network at its opening
 abbrev pub opening_simulation : Network → Simulation
@@ -39,7 +47,7 @@ after_steps s (x ∷ xs) = after_steps (after_step s x) xs
 
 -- why a step is refused: the count of steps, of 64 bits, is full; or as the world refuses it
 abbrev pub simulation_refusal : Simulation → Step → Option Refusal
-simulation_refusal s step = if nat_lt (s.steps + 1) (2 ^ 64) then refusal s.world step else Some Refusal.JournalFull
+simulation_refusal s step = course_refusal (course_part s) step
 
 -- what the image in force at router i answers for an address; nothing where there is no such router
 abbrev pub answer_at : Simulation → ℕ → ℕ → Option Answer
@@ -52,11 +60,6 @@ pub record ForwardsAsPublished (s : Simulation) : Type 0 where
   pub longest : (i : ℕ) (r : Router) (image : Image) → slice_get s.world.routers i ≡ Some r → slice_get s.images i ≡ Some image → (addr : ℕ) → image_answer image addr ≡ longest_match addr (r.table).published
   pub generation : (i : ℕ) (r : Router) (image : Image) → slice_get s.world.routers i ≡ Some r → slice_get s.images i ≡ Some image → image.generation ≡ r.generation
 
--- what every simulation keeps: some lawful steps, as many as were counted, made its world; each image in force is of what its router published; and no more messages were sent than steps done
-pub record IsSimulation (s : Simulation) : Type 0 where
-  pub done : List Step
-  pub count : length done ≡ s.steps
-  pub runs : Runs (opening s.network) done s.world
-  pub fits : s.steps < 2 ^ 64
-  pub in_force : s.images ≡ images_in_force s.world
-  pub few : sent_count s.sent ≤ s.steps
+-- what every simulation keeps besides what its course does: each image in force is of what its router published
+abbrev pub IsSimulation : Simulation → Type 0
+IsSimulation s = s.images ≡ images_in_force s.world

@@ -4,16 +4,18 @@ ghost use Rattle.std.specs.Prelude.{ℕ, None, Err, ◌≡◌, ◌+◌, ◌^◌,
 ghost use Rattle.network_model.specs.Step as steps;
 ghost use Rattle.network_model.specs.Step.{router_publishing};
 ghost use Rattle.world.specs.Steps.{DeliversWithRoom, DiscardsStale, HasRoomForSteps, IsDoneOr};
+ghost use Rattle.course.specs.Course.{after_step, course_refusal};
 ghost use Rattle.simulation.specs.InForce.{chosen_image, due_at, image_in_force, images_in_force, IsPatchDue};
 ghost use Rattle.image_patch.specs.Patches.{patched};
 
+use course::Course;
 use image_compiler::compile;
 use image_patch::{Apply, Patch};
 use network_model::{NoMemory, Refusal, SmallAllocator, Step};
 use router_core::Router;
 use tree_bitmap::Image;
 use tree_bitmap::parts::copy;
-use world::{WatchedWorld, World};
+use world::World;
 
 // What a publication of the router would set in its image, did it publish now.
 fn next_patch<A: SmallAllocator>(alloc: A, router: &Router<A>) -> Result<Patch<A>, NoMemory>
@@ -47,52 +49,56 @@ fn patch_due<A: SmallAllocator>(
     Ok(Some(next_patch(alloc, publisher)?))
 }
 
-// Does a step of the world; a publication puts the router's image in force, too. Refused, it leaves both as
+// Does a step of the course; a publication puts the router's image in force, too. Refused, it leaves both as
 // they were.
 pub fn forward<A: SmallAllocator>(
     alloc: A,
-    world: &mut WatchedWorld<A>,
+    course: &mut Course<A>,
     images: &mut Vec<Image<A>, A>,
     step: Step,
 ) -> Result<(), Refusal>
-    requires room { HasRoomForSteps 1 world.old }
-    requires in_force { images.old.items ≡ images_in_force world.old }
-    ensures ok { OnOk result (steps.Lawful world.old step × (world.new ≡ steps.next world.old step)) }
-    ensures err { OnErr result (world.new ≡ world.old) }
-    ensures in_force { images.new.items ≡ images_in_force world.new }
-    ensures cause { IsDoneOr (steps.refusal world.old step) result }
+    requires in_force { images.old.items ≡ images_in_force (course.old).world }
+    ensures ok { OnOk result (steps.Lawful (course.old).world step
+        × (course.new ≡ after_step course.old step)) }
+    ensures err { OnErr result (course.new ≡ course.old) }
+    ensures in_force { images.new.items ≡ images_in_force (course.new).world }
+    ensures cause { IsDoneOr (course_refusal course.old step) result }
     ensures down { (l : ℕ) → step ≡ Step.LinkDown l
-        → MatchOption (steps.refusal world.old step) (IsOk result) (λ e. result ≡ Err e) }
-    ensures stale { DiscardsStale world.old step result }
-    ensures room { DeliversWithRoom world.old step result }
+        → MatchOption (course_refusal course.old step) (IsOk result) (λ e. result ≡ Err e) }
+    ensures stale { course_refusal course.old step ≡ None
+        → DiscardsStale (course.old).world step result }
+    ensures room { course_refusal course.old step ≡ None
+        → DeliversWithRoom (course.old).world step result }
 {
     match step {
-        Step::Publish { router } => publish(alloc, world, images, router),
-        _ => world.step(step),
+        Step::Publish { router } => publish(alloc, course, images, router),
+        _ => course.step(step),
     }
 }
 
-// Patches a router's image with what is due there, and does the world's step `Publish` then, which cannot
+// Patches a router's image with what is due there, and does the course's step `Publish` then, which cannot
 // fail any more. Refused, it leaves both as they were.
 fn publish<A: SmallAllocator>(
     alloc: A,
-    world: &mut WatchedWorld<A>,
+    course: &mut Course<A>,
     images: &mut Vec<Image<A>, A>,
     router: u16,
 ) -> Result<(), Refusal>
-    requires room { HasRoomForSteps 1 world.old }
-    requires in_force { images.old.items ≡ images_in_force world.old }
-    ensures ok { OnOk result (steps.Lawful world.old (Step.Publish router)
-        × (world.new ≡ steps.next world.old (Step.Publish router))) }
-    ensures err { OnErr result (world.new ≡ world.old) }
-    ensures in_force { images.new.items ≡ images_in_force world.new }
-    ensures cause { IsDoneOr (steps.refusal world.old (Step.Publish router)) result }
+    requires in_force { images.old.items ≡ images_in_force (course.old).world }
+    ensures ok { OnOk result (steps.Lawful (course.old).world (Step.Publish router)
+        × (course.new ≡ after_step course.old (Step.Publish router))) }
+    ensures err { OnErr result (course.new ≡ course.old) }
+    ensures in_force { images.new.items ≡ images_in_force (course.new).world }
+    ensures cause { IsDoneOr (course_refusal course.old (Step.Publish router)) result }
 {
-    let Some(patch) = patch_due(alloc, world.world(), router)? else {
-        return world.step(Step::Publish { router });
+    if course.is_full() {
+        return Err(Refusal::JournalFull);
+    }
+    let Some(patch) = patch_due(alloc, course.world(), router)? else {
+        return course.step(Step::Publish { router });
     };
     images[usize::from(router)].apply(&patch)?;
-    world.step(Step::Publish { router }).unwrap();
+    course.step(Step::Publish { router }).unwrap();
     Ok(())
 }
 

@@ -6,49 +6,39 @@ ghost use Rattle.network_model.specs.Run.{Runs};
 ghost use Rattle.network_model.specs.Turns as turns;
 ghost use Rattle.network_model.specs.Forwarding.{is_quiet, onward};
 ghost use Rattle.network_model.specs.Publication.{image_answer};
-ghost use Rattle.world.specs.Steps.{DeliversWithRoom, DiscardsStale, HasRoomForSteps, IsDoneOr, StopsAt};
-ghost use Rattle.simulation.specs.Simulation.{after_step, after_steps, answer_at, opening_simulation, simulation_refusal, ForwardsAsPublished};
+ghost use Rattle.world.specs.Steps.{DeliversWithRoom, DiscardsStale, IsDoneOr, StopsAt};
+ghost use Rattle.simulation.specs.Simulation.{after_step, after_steps, answer_at, opening_simulation, simulation_refusal, ForwardsAsPublished, IsSimulation};
 ghost use Rattle.simulation.specs.Headline.{ConvergesLeftAlone, HasBestRows, LeadsAtLeastCost, NeverMeetsTwice};
 ghost use Rattle.simulation.specs.Settling.{HasTurned, IsStopped};
-ghost use Rattle.simulation.specs.Runs.{LeadsToRouters};
+ghost use Rattle.course.specs.Links.{LeadsToRouters};
 ghost use Rattle.simulation.specs.Tracing.{HasEnded, HasShortWays, IsTraced, onward_of};
 
 use crate::images::{copy_images, forward, opening_images};
-use crate::sent::{Sent, leaving};
-use crate::settling::{Order, Turns, first_due};
 use crate::tracing::{Onward, Traced, by_row};
-use crate::watch::Watch;
+use course::{Course, Order, Sent, Stepping, run, settle};
 use network_model::{Answer, Entry, NoMemory, Prefix, Refusal, SmallAllocator, Step};
 use std::alloc::Global;
 use std::marker::Model;
 use tree_bitmap::Image;
-use world::{Network, Ran, WatchedWorld, World};
+use world::{Network, Ran, World};
 
 /// A network that runs, with the image in force at each router. It takes memory by the routers, links, rows and
 /// messages under way, and not by the steps.
 #[derive(Drop)]
 pub struct Simulation<A: SmallAllocator = Global> {
-    network: Network,
-    world: WatchedWorld<A>,
+    course: Course<A>,
     // The image in force at each router.
     images: Vec<Image<A>, A>,
-    // How many steps were done.
-    steps: u64,
-    // The messages that they put on links.
-    sent: Sent,
-    // The routers that may have something to do: a hint.
-    watch: Watch<A>,
 }
 
 impl<A: SmallAllocator> Model for Simulation<A> {
-    ghost use Rattle.simulation.specs.Simulation.{Simulation as SimulationState, simulation_of, IsSimulation};
+    ghost use Rattle.simulation.specs.Simulation.{Simulation as SimulationState, with_images, IsSimulation};
 
     ghost Value = { SimulationState };
 
-    ghost view = { λ s. simulation_of s.network s.world s.images.items s.steps s.sent };
+    ghost view = { λ s. with_images s.course s.images.items };
 
-    ghost invariant = { λ s. IsSimulation
-        (simulation_of s.network s.world s.images.items s.steps s.sent) };
+    ghost invariant = { λ s. IsSimulation (with_images s.course s.images.items) };
 }
 
 impl<A: SmallAllocator> Simulation<A> {
@@ -61,17 +51,9 @@ impl<A: SmallAllocator> Simulation<A> {
         ensures least_cost { IfOk result (λ s. LeadsAtLeastCost s) }
         ensures converges { IfOk result (λ s. ConvergesLeftAlone s) }
     {
-        let world = WatchedWorld::open(alloc, &network)?;
-        let images = opening_images(alloc, world.world())?;
-        let watch = Watch::new(alloc, network.routers())?;
-        let simulation = Simulation {
-            network,
-            world,
-            images,
-            steps: 0,
-            sent: Sent::none(),
-            watch,
-        };
+        let course = Course::open(alloc, network)?;
+        let images = opening_images(alloc, course.world())?;
+        let simulation = Simulation { course, images };
         simulation.holds();
         Ok(simulation)
     }
@@ -82,32 +64,23 @@ impl<A: SmallAllocator> Simulation<A> {
     pub fn copy(&self, alloc: A) -> Result<Simulation<A>, NoMemory>
         ensures { IfOk result (λ s. s ≡ self.now) }
     {
-        let network = self.network.copy()?;
-        let world = self.world.copy(alloc)?;
+        let course = self.course.copy(alloc)?;
         let images = copy_images(alloc, &self.images)?;
-        let watch = self.watch.copy(alloc)?;
-        Ok(Simulation {
-            network,
-            world,
-            images,
-            steps: self.steps,
-            sent: self.sent,
-            watch,
-        })
+        Ok(Simulation { course, images })
     }
 
     /// The network that was opened.
     pub fn network(&self) -> &Network
         ensures { result.now ≡ (self.now).network }
     {
-        &self.network
+        self.course.network()
     }
 
     /// The world that the steps made: its routers, links and notices, with what is queued and held.
     pub fn world(&self) -> &World<A>
         ensures { result.now ≡ (self.now).world }
     {
-        self.world.world()
+        self.course.world()
     }
 
     /// The images in force, by the routers' numbers.
@@ -130,14 +103,14 @@ impl<A: SmallAllocator> Simulation<A> {
     pub fn steps(&self) -> u64
         ensures { result ≡ (self.now).steps }
     {
-        self.steps
+        self.course.steps()
     }
 
     /// How many messages of each kind these steps put on links.
     pub fn sent(&self) -> Sent
         ensures { result ≡ (self.now).sent }
     {
-        self.sent
+        self.course.sent()
     }
 
     /// What a router has to do next: the first of a release, a publication, and a delivery by ascending
@@ -146,7 +119,7 @@ impl<A: SmallAllocator> Simulation<A> {
     pub fn next_step(&self, router: u16) -> Option<Step>
         ensures { result ≡ turns.next_step (self.now).world router }
     {
-        self.world().next_step(router)
+        self.course.next_step(router)
     }
 
     /// Whether nothing is left to do: no item is queued on any link, no notice waits, nothing is due,
@@ -159,9 +132,9 @@ impl<A: SmallAllocator> Simulation<A> {
         ensures idle { IsTrue result ↔ ((i : ℕ) → i < (self.now).network.routers
             → turns.next_step (self.now).world i ≡ None) }
     {
-        // The network has no fault, which its type keeps.
-        let _routers = self.network.routers();
-        self.world.is_settled()
+        // It tells what holds of a quiet network.
+        self.course.holds();
+        self.course.is_settled()
     }
 
     /// What the image in force at a router answers for an address: its generation, and the row with
@@ -223,16 +196,8 @@ impl<A: SmallAllocator> Simulation<A> {
         ensures down { (l : ℕ) → step ≡ Step.LinkDown l
             → MatchOption (simulation_refusal self.old step) (IsOk result) (λ e. result ≡ Err e) }
     {
-        if self.steps == u64::MAX {
-            return Err(Refusal::JournalFull);
-        }
-        let kind = leaving(self.world.world(), &step);
-        self.watch.note(&self.network, self.world.world(), &step);
         let alloc = *self.images.allocator();
-        forward(alloc, &mut self.world, &mut self.images, step)?;
-        self.steps += 1;
-        self.sent = self.sent.with(kind);
-        Ok(())
+        forward(alloc, &mut self.course, &mut self.images, step)
     }
 
     /// Does the steps in order, up to the first that is refused.
@@ -247,20 +212,11 @@ impl<A: SmallAllocator> Simulation<A> {
         ensures least_cost { LeadsAtLeastCost self.new }
         ensures converges { ConvergesLeftAlone self.new }
     {
-        for (done, &step) in steps.iter().enumerate() {
-            if let Err(refusal) = self.step(step) {
-                self.holds();
-                return Ran {
-                    done,
-                    refusal: Some(refusal),
-                };
-            }
-        }
+        self.shows();
+        let ran = run(self, steps);
+        self.shows();
         self.holds();
-        Ran {
-            done: steps.len(),
-            refusal: None,
-        }
+        ran
     }
 
     /// Lets routers take turns, at most so many, until nothing is left to do or a step is refused: with
@@ -278,54 +234,13 @@ impl<A: SmallAllocator> Simulation<A> {
         ensures least_cost { LeadsAtLeastCost self.new }
         ensures converges { ConvergesLeftAlone self.new }
     {
-        let ran = self.take_turns(order, most);
+        self.shows();
+        let ran = settle(self, order, most);
+        self.shows();
         self.holds();
         // It tells what holds of a network that is settled.
         let _settled = self.is_settled();
         ran
-    }
-
-    fn take_turns(&mut self, order: Order, most: usize) -> Ran
-        ensures turns { HasTurned self.old self.new result.done }
-        ensures most { result.done ≤ most }
-        ensures stop { MatchOption result.refusal
-            ((turns.is_settled (self.new).world ≡ true) ⊎ (result.done ≡ most))
-            (IsStopped self.new) }
-    {
-        let mut round = Turns::new(order, self.network.routers());
-        for done in 0..most {
-            let Some((router, step)) = self.next_turn(round.from()) else {
-                return Ran {
-                    done,
-                    refusal: None,
-                };
-            };
-            if let Err(refusal) = self.step(step) {
-                return Ran {
-                    done,
-                    refusal: Some(refusal),
-                };
-            }
-            round.after(router);
-        }
-        Ran {
-            done: most,
-            refusal: None,
-        }
-    }
-
-    // The router that takes the next turn, looked for from this one on, and its step; none where nothing is left to
-    // do.
-    fn next_turn(&mut self, from: u16) -> Option<(u16, Step)>
-        ensures same { self.new ≡ self.old }
-        ensures some { IfSome result (λ d. turns.next_step (self.old).world d.0 ≡ Some d.1) }
-        ensures none { result ≡ None → turns.is_settled (self.old).world ≡ true }
-    {
-        if self.world.is_settled() {
-            return None;
-        }
-        let routers = self.network.routers();
-        first_due(self.world.world(), &mut self.watch, routers, from)
     }
 
     /// The routers that a packet for an address passes from a router on, along the images in force: it writes
@@ -364,13 +279,21 @@ impl<A: SmallAllocator> Simulation<A> {
         })
     }
 
+    // It does nothing. Each image in force is of what its router published.
+    fn shows(&self)
+        ensures { IsSimulation self.now }
+    {
+        let _images = &self.images;
+    }
+
     // How many routers there are, and what holds of a packet's ways.
     fn router_count(&self) -> usize
         ensures count { result ≡ length (self.now).world.routers }
         ensures routers { LeadsToRouters (self.now).world }
         ensures ways { HasShortWays self.now }
     {
-        self.network.routers()
+        self.course.holds();
+        self.course.network().routers()
     }
 
     // Where a packet goes from a router, by the image in force there.
@@ -381,7 +304,7 @@ impl<A: SmallAllocator> Simulation<A> {
         // There is an image for each router, which is known of a simulation where one of its parts is used.
         let _images = &self.images;
         let matched = self.image(router).lookup(addr);
-        by_row(self.world.world(), router, matched)
+        by_row(self.course.world(), router, matched)
     }
 
     /// It does nothing. What holds of every simulation, for whoever has one: each image in force has the
@@ -395,7 +318,26 @@ impl<A: SmallAllocator> Simulation<A> {
         ensures least_cost { LeadsAtLeastCost self.now }
         ensures converges { ConvergesLeftAlone self.now }
     {
-        // The four parts follow from what a simulation keeps, and from that its network has no fault.
-        let _routers = self.network.routers();
+        // The four parts follow from what holds of its course, and from that each image is in force.
+        self.course.holds();
+        let _images = &self.images;
+    }
+}
+
+impl<A: SmallAllocator> Stepping for Simulation<A> {
+    ghost use Rattle.simulation.specs.Simulation.{course_part};
+
+    ghost course = { course_part };
+
+    fn advance(&mut self, step: Step) -> Result<(), Refusal> {
+        self.step(step)
+    }
+
+    fn turn_from(&mut self, from: u16) -> Option<(u16, Step)> {
+        self.course.turn_from(from)
+    }
+
+    fn router_count(&self) -> usize {
+        self.course.network().routers()
     }
 }

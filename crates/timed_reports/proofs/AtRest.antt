@@ -9,7 +9,7 @@ use Rattle.quiet_routes.proofs.Routes.{quiet_routes}
 use Rattle.quiet_routes.proofs.Settled.{settled_is_quiet}
 use Rattle.quiet_routes.proofs.Worlds.{good}
 use Rattle.quiet_routes.proofs.Still.{still}
-use Rattle.simulation.proofs.Idle.{router_count}
+use Rattle.course.proofs.Idle.{router_count}
 use Rattle.world.specs.Rest.{unrest}
 use Rattle.world.proofs.Degrees.{few_links}
 use Rattle.world.proofs.Rest.{settled, watched-opening}

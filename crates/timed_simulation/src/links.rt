@@ -4,7 +4,7 @@ ghost use Rattle.std.specs.Prelude.{◌≡◌, ◌+◌, ◌-◌, ◌^◌, ◌<�
 ghost use Rattle.std.specs.Option.{option_map_or};
 ghost use Rattle.std.specs.VecDeque.{deque_capacity, deque_len};
 ghost use Rattle.network_model.specs.Step as step;
-ghost use Rattle.simulation.specs.Runs.{HasLinksOfPorts};
+ghost use Rattle.course.specs.Links.{HasLinksOfPorts};
 ghost use Rattle.timed_simulation.specs.Links.{direction_of, later, link_of, links_after, motion_of, moved, opening_direction, opening_link, towards, with_put, with_taken, without_messages, HasRoom, HasRoomFor};
 
 use network_model::{End, NoMemory, SmallAllocator, Step};

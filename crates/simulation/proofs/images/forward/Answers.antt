@@ -7,7 +7,7 @@ returns-in_default g c =
     record {
       ok = done.ok;
       err = done.err;
-      in_force = stays c.args.world.now c.step.new.self c.args.step c.args.images.now.items c.step.result c.requires.in_force c.in_default.not-Publish done.ok done.err;
+      in_force = stays c.args.course.now c.step.new.self c.args.step c.args.images.now.items c.step.result c.requires.in_force c.in_default.not-Publish done.ok done.err;
       cause = done.cause;
       down = done.down;
       stale = done.stale;

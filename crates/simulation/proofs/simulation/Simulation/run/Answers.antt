@@ -1,29 +1,6 @@
-use Rattle.std.proofs.Common.{◌≡◌, ◌+◌, ◌++◌, [], ◌∷◌, Some, slice_get, length, refl, take, sym, ap, subst, ◌∙◌, arith, add-one}
-use Rattle.std.proofs.Math.Seq.{take-suc}
-use Rattle.network_model.specs.declared.step.Step.{Step}
-use Rattle.no_packet_loops.proofs.Common.{Lawful, Runs, slice_get_read}
-use Rattle.world.specs.Steps.{CanBeRefused}
-use Rattle.world.proofs.Runs.{with_last_step}
-use Rattle.simulation.specs.Simulation.{Simulation, after_step, after_steps, simulation_refusal}
-use Rattle.simulation.proofs.Simulations.{after_push, refused_as}
+use Rattle.std.proofs.Common.{take}
+use Rattle.simulation.proofs.Simulations.{after_course}
 use Rattle.simulation.proofs.simulation.Simulation.run.Goals as goal
 
-pub loop-done-preserved : goal.loop-done-preserved
-loop-done-preserved g c =
-    let s : Step = c.index-steps-done.result in
-    let done : Lawful c.loop-done.self.world s × (c.step.new.self ≡ after_step c.loop-done.self s) = c.in_default.ensures.ok in
-    let steps : take (c.loop-done.done + 1) c.args.steps.now ≡ take c.loop-done.done c.args.steps.now ++ s ∷ []
-    = ap (λ n. take n c.args.steps.now) (add-one c.loop-done.done) ∙ take-suc c.args.steps.now c.loop-done.done s (omega arith) ∙ ap (λ x. take c.loop-done.done c.args.steps.now ++ x ∷ []) (sym c.index-steps-done.is) in
-    record {
-      runs = subst (λ ss. Runs c.args.self.now.world ss c.step.new.self.world) (sym steps)
-          (subst (Runs c.args.self.now.world (take c.loop-done.done c.args.steps.now ++ s ∷ [])) (sym (ap (λ (x : Simulation). x.world) done.1))
-          (with_last_step c.args.self.now.world (take c.loop-done.done c.args.steps.now) c.loop-done.self.world s c.loop-done.invariant.runs done.0));
-      after = done.1 ∙ ap (λ x. after_step x s) c.loop-done.invariant.after ∙ sym (after_push c.args.self.now (take c.loop-done.done c.args.steps.now) s) ∙ sym (ap (after_steps c.args.self.now) steps);
-    }
-
--- the step that was refused
-pub returns-in-Err-clause-stop : goal.returns-in-Err-clause-stop
-returns-in-Err-clause-stop g c =
-    let s : Step = c.index-steps-done.result in
-    let at : slice_get c.args.steps.now c.loop-done.done ≡ Some s = slice_get_read c.args.steps.now (length c.args.steps.now) c.loop-done.done s refl (omega arith) c.index-steps-done.is in
-    (s, at, subst (λ x. CanBeRefused (simulation_refusal x s) c.in-Err.refusal) (sym c.in-Err.ensures.err) (refused_as _ (simulation_refusal c.loop-done.self s) c.in-Err.refusal c.in-Err.ensures.cause))
+pub returns-clause-after : goal.returns-clause-after
+returns-clause-after g c = after_course c.args.self.now c.run-ran.new.mover (take c.run-ran.result.done c.args.steps.now) c.shows.ensures c.shows-2.ensures c.run-ran.ensures.after

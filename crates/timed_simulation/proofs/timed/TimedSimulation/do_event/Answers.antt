@@ -1,10 +1,10 @@
 use Rattle.std.proofs.Common.{◌≡◌, ◌∙◌, ◌<◌, inl, Err, IfErr, map, refl, sym, ap, subst}
 use Rattle.no_packet_loops.proofs.Common.{err_from_is_err_and}
 use Rattle.router_core.proofs.Refused.{gave_up}
-use Rattle.simulation.specs.Runs.{HasLinksOfPorts}
+use Rattle.course.specs.Links.{HasLinksOfPorts}
 use Rattle.simulation.specs.Simulation.{simulation_refusal}
-use Rattle.simulation.proofs.Runs.{links_of_ports}
-use Rattle.simulation.proofs.Simulations.{refused_as}
+use Rattle.course.proofs.Links.{links_of_ports}
+use Rattle.course.proofs.Courses.{refused_as}
 use Rattle.timed_simulation.specs.declared.events.Event.{Event}
 use Rattle.timed_simulation.specs.Links.{last_moment, link_of, links_after, motion_of}
 use Rattle.timed_simulation.specs.Timed.{after_event, begins_at, routers_after, timed_of, Timed}

@@ -1,6 +1,6 @@
 use Rattle.std.proofs.Common.{◌≡◌, ◌∙◌, ◌<◌, ap, subst, arith, length}
 use Rattle.no_packet_loops.proofs.Common.{Network, World}
-use Rattle.simulation.proofs.Idle.{router_count}
+use Rattle.course.proofs.Idle.{router_count}
 use Rattle.timed_simulation.specs.Timed.{world_of}
 use Rattle.timed_simulation.specs.Events.{change_event, router_event, sooner, soonest}
 use Rattle.timed_simulation.specs.Runs.{steps_of, IsTimed}

@@ -1,0 +1,89 @@
+-- What a step leaves of what every course keeps.
+use Rattle.std.proofs.Common.{refl, sym, ap, subst, ◌∙◌, arith, length-append, ◌≡◌, ℕ, ◌+◌, ◌^◌, ◌<◌, ◌≤◌, List, [], ◌∷◌, ◌++◌, length, true, false, if◌then◌else◌, Option, Some, None, Result, Err}
+use Rattle.std.proofs.lemmas.Bool.{lt-ltb, le-ltb}
+use Rattle.no_packet_loops.proofs.Common.{World, Network, opening, IsNetwork, Lawful, next, refusal, Refusal}
+use Rattle.metric.specs.declared.kind.Kind.{Kind}
+use Rattle.metric.specs.declared.kind.Kind.TheVariants.{Update, Query, Reply}
+use Rattle.network_model.specs.declared.step.Step.{Step}
+use Rattle.world.specs.Headline.{IsReached}
+use Rattle.world.specs.Steps.{CanBeRefused, HasRoomForSteps, IsDoneOr}
+use Rattle.world.proofs.Runs.{with_last_step, run-room, opening-room}
+use Rattle.course.specs.declared.sent.Sent.{Sent}
+use Rattle.course.specs.Counts.{leaving, none_sent, one_sent, sent_count, with_sent}
+use Rattle.course.specs.Course.{Course, after_step, after_steps, course_of, course_refusal, opening_course, IsCourse}
+
+-- so few steps were done that no generation passes 64 bits with one more
+pub room_left : (c : Course) → IsCourse c → c.steps + 1 < 2 ^ 64 → HasRoomForSteps 1 c.world
+room_left c kept short =
+    run-room kept.done 1 (opening c.network) c.world kept.runs (opening-room (length kept.done + 1) c.network (let count = kept.count in omega (arith, count, short)))
+
+-- lawful steps lead to its world
+pub reached : (c : Course) → IsCourse c → IsNetwork c.network → IsReached c.network c.world
+reached c kept valid = record { valid = valid; steps = kept.done; runs = kept.runs }
+
+-- ---- the opening
+
+pub kept_open : (n : Network) (w : World) (sent : Sent) → w ≡ opening n → sent ≡ none_sent → IsCourse (course_of n w 0 sent)
+kept_open n w sent opened none = record {
+  done = [];
+  count = refl;
+  runs = sym opened;
+  fits = omega arith;
+  few = (let zero_sent : sent_count sent ≡ 0 = ap sent_count none in omega (arith, zero_sent));
+}
+
+-- ---- one step more
+
+-- at most one message was sent more
+sent_more : (k : Kind) (s : Sent) → sent_count (one_sent k s) ≡ sent_count s + 1
+sent_more Update s = omega arith
+sent_more Query s = omega arith
+sent_more Reply s = omega arith
+
+pub sent_few : (o : Option Kind) (s : Sent) → sent_count (with_sent o s) ≤ sent_count s + 1
+sent_few None s = omega arith
+sent_few (Some k) s = (let more = sent_more k s in omega (arith, more))
+
+-- a step leaves what every course keeps
+pub kept_after : (c : Course) (step : Step) → IsCourse c → Lawful c.world step → c.steps + 1 < 2 ^ 64 → IsCourse (after_step c step)
+kept_after c step kept lawful short = record {
+  done = kept.done ++ step ∷ [];
+  count = (let longer : length (kept.done ++ step ∷ []) ≡ length kept.done + 1 = length-append kept.done (step ∷ []) in let count = kept.count in omega (arith, longer, count));
+  runs = with_last_step (opening c.network) kept.done c.world step kept.runs lawful;
+  fits = short;
+  few = (let more = sent_few (leaving c.world step) c.sent in let few = kept.few in omega (arith, more, few));
+}
+
+-- so what is made of the parts after the step is the course after it
+pub is_after : (c : Course) (step : Step) (w : World) (sent : Sent) → w ≡ next c.world step → sent ≡ with_sent (leaving c.world step) c.sent → after_step c step ≡ course_of c.network w (c.steps + 1) sent
+is_after c step w sent world counted =
+    ap (λ v. course_of c.network v (c.steps + 1) (with_sent (leaving c.world step) c.sent)) (sym world) ∙ ap (course_of c.network w (c.steps + 1)) (sym counted)
+
+-- steps after steps
+pub after_push : (c : Course) (xs : List Step) (x : Step) → after_steps c (xs ++ x ∷ []) ≡ after_step (after_steps c xs) x
+after_push c [] x = refl
+after_push c (y ∷ ys) x = after_push (after_step c y) ys x
+
+-- ---- a step that is refused
+
+-- a world that is as before is that of the course before
+pub same_world : (c : Course) (w : World) → w ≡ c.world → course_of c.network w c.steps c.sent ≡ c
+same_world c w world = ap (λ v. course_of c.network v c.steps c.sent) world
+
+-- while steps can be counted, a step is refused as the world refuses it
+pub counted : (c : Course) (step : Step) → c.steps + 1 < 2 ^ 64 → course_refusal c step ≡ refusal c.world step
+counted c step short = ap (λ b. if b then refusal c.world step else Some Refusal.JournalFull) (lt-ltb (c.steps + 1) (2 ^ 64) short)
+
+-- and while they cannot, because of that
+pub uncounted : (c : Course) (step : Step) → 2 ^ 64 ≤ c.steps + 1 → course_refusal c step ≡ Some Refusal.JournalFull
+uncounted c step full = ap (λ b. if b then refusal c.world step else Some Refusal.JournalFull) (le-ltb (c.steps + 1) (2 ^ 64) full)
+
+-- a call that passes on why a step of the world was refused
+pub passed_on : {X : Type 0} (c : Course) (step : Step) (r : Result X Refusal) (e : Refusal) → c.steps + 1 < 2 ^ 64 → IsDoneOr {X = X} (refusal c.world step) (Err e) → (x : Refusal) × (r ≡ Err x) × (x ≡ e) → IsDoneOr (course_refusal c step) r
+passed_on {X} c step r e short failed found =
+    subst (IsDoneOr (course_refusal c step)) (sym (found.1 ∙ ap Err found.2)) (subst (λ o. IsDoneOr {X = X} o (Err e)) (sym (counted c step short)) failed)
+
+-- a call that answers this refusal was refused for its cause, or for want of memory
+pub refused_as : (X : Type 0) (cause : Option Refusal) (e : Refusal) → IsDoneOr {X = X} cause (Err e) → CanBeRefused cause e
+refused_as X None e h = h
+refused_as X (Some c) e h = let inner : ◌≡◌ {A = Result X Refusal} (Err e) (Err c) = h in cc

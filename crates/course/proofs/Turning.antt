@@ -1,0 +1,60 @@
+-- Steps that routers do in turn.
+use Rattle.std.proofs.Common.{refl, sym, ap, subst, ◌∙◌, arith, inl, inr, length-append, ◌≡◌, ◌⊎◌, ℕ, ◌+◌, ◌^◌, ◌<◌, ◌≤◌, Bool, true, false, if◌then◌else◌, nat_lt, List, [], ◌∷◌, ◌++◌, length, Option, Some, None, option_and_then}
+use Rattle.std.proofs.lemmas.Bool.{cases_lt, ltb-false}
+use Rattle.no_packet_loops.proofs.Common.{World, Lawful, Lawful_to_refusal, next, refusal, Refusal, Runs}
+use Rattle.network_model.specs.declared.step.Step.{Step}
+use Rattle.network_model.specs.Turns.{next_step}
+use Rattle.world.specs.Steps.{CanBeRefused}
+use Rattle.world.proofs.Runs.{with_last_step}
+use Rattle.convergence.proofs.Turns.{next_chosen}
+use Rattle.course.specs.Course.{Course, after_step, course_refusal}
+use Rattle.course.specs.Turns.{AreTurns, HasTurned, IsStopped, IsTurn, none_shut, open_step}
+use Rattle.course.proofs.Idle.{busy-unsettled}
+use Rattle.course.proofs.Courses.{after_push}
+
+-- no turn
+pub turned_none : (c : Course) → HasTurned c c 0
+turned_none c = record { steps = []; count = refl; turns = tt; runs = refl; after = refl }
+
+turns_push : (w : World) (ss : List Step) (v : World) (s : Step) → AreTurns w ss → Runs w ss v → IsTurn v s → AreTurns w (ss ++ s ∷ [])
+turns_push w [] v s turns runs turn = (subst (λ u. IsTurn u s) (sym runs) turn, tt)
+turns_push w (x ∷ xs) v s turns runs turn = (turns.0, turns_push (next w x) xs v s turns.1 runs.1 turn)
+
+-- one turn more
+pub turned_more : (old mid new : Course) (done : ℕ) (s : Step) → HasTurned old mid done → IsTurn mid.world s → Lawful mid.world s → new ≡ after_step mid s → HasTurned old new (done + 1)
+turned_more old mid new done s turned turn lawful is = record {
+  steps = turned.steps ++ s ∷ [];
+  count = (let longer : length (turned.steps ++ s ∷ []) ≡ length turned.steps + 1 = length-append turned.steps (s ∷ []) in let count = turned.count in omega (arith, longer, count));
+  turns = turns_push old.world turned.steps mid.world s turned.turns turned.runs turn;
+  runs = subst (Runs old.world (turned.steps ++ s ∷ [])) (sym (ap (λ (x : Course). x.world) is)) (with_last_step old.world turned.steps mid.world s turned.runs lawful);
+  after = is ∙ ap (λ x. after_step x s) turned.after ∙ sym (after_push old turned.steps s);
+}
+
+-- a turn that is refused is so because no step can be counted, or for want of memory
+pub stopped : (c : Course) (step : Step) (e : Refusal) → IsTurn c.world step → CanBeRefused (course_refusal c step) e → IsStopped c e
+stopped c step e turn refused = record {
+  unsettled = busy-unsettled c.world turn.0 step turn.1;
+  cause = by_room (nat_lt (c.steps + 1) (2 ^ 64)) refl refused;
+}
+  where
+    by_room : (b : Bool) → nat_lt (c.steps + 1) (2 ^ 64) ≡ b → CanBeRefused (if b then refusal c.world step else Some Refusal.JournalFull) e → ((e ≡ Refusal.JournalFull) × (2 ^ 64 ≤ c.steps + 1)) ⊎ (e ≡ Refusal.NoMemory)
+    by_room true _ is = inr (subst (λ o. CanBeRefused o e) (Lawful_to_refusal c.world step (next_chosen c.world turn.0 step turn.1).1) is)
+    by_room false full is = inl (is, ltb-false (c.steps + 1) (2 ^ 64) full)
+
+-- ---- routers that have nothing to do
+
+-- one more than those before
+pub one_more_idle : (f : ℕ → Option Step) (n : ℕ) → ((i : ℕ) → i < n → f i ≡ None) → f n ≡ None → (i : ℕ) → i < n + 1 → f i ≡ None
+one_more_idle f n before here i below = by_order (cases_lt i n)
+  where
+    by_order : (i < n) ⊎ (n ≤ i) → f i ≡ None
+    by_order (inl less) = before i less
+    by_order (inr same) = (let is : n ≡ i = omega (arith, same, below) in subst (λ k. f k ≡ None) is here)
+
+-- where nothing is shut, a router has to do what it has to do in its world
+pub all_open : (w : World) (i : ℕ) → open_step none_shut w i ≡ next_step w i
+all_open w i = by_step (next_step w i)
+  where
+    by_step : (o : Option Step) → option_and_then (λ s. if none_shut s then None else Some s) o ≡ o
+    by_step None = refl
+    by_step (Some s) = refl

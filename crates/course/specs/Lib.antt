@@ -1,0 +1,4 @@
+pub mod Counts
+pub mod Course
+pub mod Turns
+pub mod Links

@@ -1,0 +1,40 @@
+-- Steps that routers do in turn.
+use Rattle.std.specs.Prelude.{◌≡◌, ℕ, ◌+◌, ◌^◌, ◌≤◌, ◌⊎◌, ⊤, Bool, false, if◌then◌else◌, List, [], ◌∷◌, length, Option, Some, None, option_and_then}
+use Rattle.network_model.specs.declared.step.Step.{Step}
+use Rattle.network_model.specs.declared.step.Refusal.{Refusal}
+use Rattle.network_model.specs.declared.step.Refusal.TheVariants.{JournalFull, NoMemory}
+use Rattle.network_model.specs.World.{World}
+use Rattle.network_model.specs.Step.{next}
+use Rattle.network_model.specs.Run.{Runs}
+use Rattle.network_model.specs.Turns.{is_settled, next_step}
+use Rattle.course.specs.Course.{Course, after_steps}
+
+-- what router i has to do next, if that is not shut
+abbrev pub open_step : (Step → Bool) → World → ℕ → Option Step
+open_step shut w i = option_and_then (λ s. if shut s then None else Some s) (next_step w i)
+
+-- nothing is shut
+abbrev pub none_shut : Step → Bool
+none_shut s = false
+
+-- the step is what some router has to do next
+abbrev pub IsTurn : World → Step → Type 0
+IsTurn w s = (i : ℕ) × (next_step w i ≡ Some s)
+
+-- so is each of these steps, where it is done
+abbrev pub AreTurns : World → List Step → Type 0
+AreTurns w [] = ⊤
+AreTurns w (s ∷ ss) = IsTurn w s × AreTurns (next w s) ss
+
+-- the one course is the other with so many steps more, each lawful, and what some router had to do next
+pub record HasTurned (old new : Course) (done : ℕ) : Type 0 where
+  pub steps : List Step
+  pub count : length steps ≡ done
+  pub turns : AreTurns old.world steps
+  pub runs : Runs old.world steps new.world
+  pub after : new ≡ after_steps old steps
+
+-- why turns end though something is left to do: no further step can be counted, or there is no memory for the next
+pub record IsStopped (c : Course) (e : Refusal) : Type 0 where
+  pub unsettled : is_settled c.world ≡ false
+  pub cause : ((e ≡ JournalFull) × (2 ^ 64 ≤ c.steps + 1)) ⊎ (e ≡ NoMemory)
