@@ -12,7 +12,7 @@ use Rattle.fabric.proofs.WritersOut.{Spares, lent_none, lent_set, spared}
 use Rattle.network_model.specs.declared.step.Step.{Step}
 use Rattle.network_model.specs.Journal.{Fits}
 use Rattle.convergence.proofs.Turns.{next_chosen}
-use Rattle.fabric.proofs.Idle.{busy-unsettled}
+use Rattle.course.proofs.Idle.{busy-unsettled}
 use Rattle.world.proofs.Runs.{with_last_step}
 use Rattle.fabric.specs.Fabric.{Fabric, after_step, awaits_writer, count_lent, fabric_refusal, is_lent, lent_at, with_lent}
 use Rattle.fabric.specs.Images.{images_in_force}

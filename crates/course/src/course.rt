@@ -1,6 +1,6 @@
 //! The course: a world, and how many steps made it.
 
-ghost use Rattle.std.specs.Prelude.{ℕ, Err, IsTrue, ◌≡◌, ◌<◌, ◌↔◌, None, Some, length, IfOk, IfSome, IsOk, OnOk, OnErr, MatchOption, false, true};
+ghost use Rattle.std.specs.Prelude.{ℕ, Err, IsTrue, ◌≡◌, ◌+◌, ◌^◌, ◌<◌, ◌↔◌, None, Some, length, IfOk, IfSome, IsOk, OnOk, OnErr, MatchOption, false, true};
 ghost use Rattle.network_model.specs.Step as steps;
 ghost use Rattle.network_model.specs.Turns as turns;
 ghost use Rattle.network_model.specs.Forwarding.{is_quiet};
@@ -192,6 +192,25 @@ impl<A: SmallAllocator> Course<A> {
         self.steps += 1;
         self.sent = self.sent.with(kind);
         Ok(())
+    }
+
+    /// The same, for whoever knows that a step can be counted: it is refused as the world refuses it.
+    pub fn step_on(&mut self, step: Step) -> Result<(), Refusal>
+        requires { (self.old).steps + 1 < 2 ^ 64 }
+        ensures ok { OnOk result (steps.Lawful (self.old).world step
+            × ((self.new).world ≡ steps.next (self.old).world step)) }
+        ensures count { OnOk result ((self.new).steps ≡ (self.old).steps + 1) }
+        ensures network { (self.new).network ≡ (self.old).network }
+        ensures err { OnErr result (self.new ≡ self.old) }
+        ensures cause { IsDoneOr (steps.refusal (self.old).world step) result }
+        ensures publication { (i : ℕ) → step ≡ Step.Publish i
+            → MatchOption (steps.refusal (self.old).world step) (IsOk result) (λ e. result ≡ Err e) }
+        ensures down { (l : ℕ) → step ≡ Step.LinkDown l
+            → MatchOption (steps.refusal (self.old).world step) (IsOk result) (λ e. result ≡ Err e) }
+        ensures stale { DiscardsStale (self.old).world step result }
+        ensures room { DeliversWithRoom (self.old).world step result }
+    {
+        self.step(step)
     }
 
     /// It does nothing. What holds of every course, for whoever has one: lawful steps lead from the opening of its

@@ -1,6 +1,5 @@
 pub mod Fabrics
 pub mod Headline
-pub mod Idle
 pub mod NamedRows
 pub mod HeardPrefixes
 pub mod ReaderLists

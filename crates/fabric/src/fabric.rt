@@ -22,13 +22,14 @@ ghost use Rattle.network_model.specs.Network.{most_workers};
 use crate::desk::{Desk, close_all, seat_all};
 use crate::images::{opening_images, patch_due};
 use crate::ports::deal;
+use course::Course;
 use network_model::{Answer, NoMemory, Prefix, Refusal, SmallAllocator, Step};
 use publication::{FabricName, ImageReader, Job, Ticket, Told, Unnamed, copy_of, open_all};
 use route_table::RouteTable;
 use std::alloc::Global;
 use std::marker::Model;
 use std::sync::Wait;
-use world::{Network, Ran, WatchedWorld, World};
+use world::{Network, Ran, World};
 
 /// The greatest number of steps in a journal.
 pub const MOST_STEPS: usize = 1_000_000;
@@ -36,8 +37,7 @@ pub const MOST_STEPS: usize = 1_000_000;
 /// A network that runs, with the image in force at each router, and the journal: all steps done since
 /// it was opened, in order. It is not `Drop`: end it by `close`.
 pub struct Fabric<B: FabricName, A: SmallAllocator = Global> {
-    network: Network,
-    world: WatchedWorld<A>,
+    course: Course<A>,
     // The writer of each router's image, or what is kept of it while it is out.
     desks: Vec<Desk<B, A>, A>,
     // A reader of each router's image, for `lookup`.
@@ -51,16 +51,17 @@ pub struct Fabric<B: FabricName, A: SmallAllocator = Global> {
 }
 
 impl<B: FabricName, A: SmallAllocator> Model for Fabric<B, A> {
-    ghost use Rattle.std.specs.Prelude.{vec_capacity};
+    ghost use Rattle.std.specs.Prelude.{◌≡◌, length, vec_capacity};
     ghost use Rattle.fabric.specs.Fabric.{Fabric as FabricState};
     ghost use Rattle.fabric.specs.Writers.{FitTogether, fabric_seen};
 
     ghost Value = { FabricState };
 
-    ghost view = { λ f. fabric_seen B.openings f.network f.journal.items f.world f.desks.items };
+    ghost view = { λ f. fabric_seen B.openings f.course.network f.journal.items f.course.world f.desks.items };
 
-    ghost invariant = { λ f. FitTogether B.openings f.network f.journal.items
-        (vec_capacity f.journal) f.world f.desks.items f.readers.items f.sum f.set_aside };
+    ghost invariant = { λ f. FitTogether B.openings f.course.network f.journal.items
+        (vec_capacity f.journal) f.course.world f.desks.items f.readers.items f.sum f.set_aside
+        × (f.course.steps ≡ length f.journal.items) };
 }
 
 impl<B: FabricName, A: SmallAllocator> Fabric<B, A> {
@@ -88,8 +89,10 @@ impl<B: FabricName, A: SmallAllocator> Fabric<B, A> {
         ensures least_cost { IfOk result (λ o. LeadsAtLeastCost o.0) }
         ensures converges { IfOk result (λ o. ConvergesLeftAlone o.0) }
     {
-        let world = WatchedWorld::open(alloc, &network)?;
-        let images = opening_images(alloc, world.world())?;
+        // It tells that the network has no fault.
+        let _routers = network.routers();
+        let course = Course::open(alloc, network)?;
+        let images = opening_images(alloc, course.world())?;
         let journal = empty_journal(alloc)?;
         let (writers, lists) = open_all::<B, _, R>(rt, alloc, unnamed, images, workers + 1)?;
         let desks = seat_all(rt, alloc, writers)?;
@@ -98,8 +101,7 @@ impl<B: FabricName, A: SmallAllocator> Fabric<B, A> {
             return Err(Refusal::NoMemory);
         };
         let fabric = Fabric {
-            network,
-            world,
+            course,
             desks,
             readers,
             journal,
@@ -115,7 +117,7 @@ impl<B: FabricName, A: SmallAllocator> Fabric<B, A> {
         ensures network { result.now ≡ (self.now).network }
         ensures count { length (self.now).world.routers ≡ (self.now).network.routers }
     {
-        &self.network
+        self.course.network()
     }
 
     /// The steps done, in order: done one after another from the opening of the network, each of them
@@ -140,7 +142,7 @@ impl<B: FabricName, A: SmallAllocator> Fabric<B, A> {
     pub fn world(&self) -> &World<A>
         ensures { result.now ≡ (self.now).world }
     {
-        self.world.world()
+        self.course.world()
     }
 
     /// What a router has to do next: the first of a release, a publication, and a delivery by ascending
@@ -205,9 +207,9 @@ impl<B: FabricName, A: SmallAllocator> Fabric<B, A> {
         ensures idle { IsTrue result ↔ ((i : ℕ) → i < (self.now).network.routers
             → turns.next_step (self.now).world i ≡ None) }
     {
-        // The network has no fault, which its type keeps.
-        let _routers = self.network.routers();
-        self.world.is_settled()
+        // It tells what holds of a quiet network.
+        self.course.holds();
+        self.course.is_settled()
     }
 
     /// What the image in force at a router answers for an address: its generation, and the row with
@@ -317,17 +319,17 @@ impl<B: FabricName, A: SmallAllocator> Fabric<B, A> {
             Step::Publish { router } => {
                 let alloc = *self.journal.allocator();
                 // The chosen rows of a network's routers are of all that they have heard of.
-                let _routers = self.network.routers();
+                let _routers = self.course.network().routers();
                 let waiting = waiting_at(&self.desks, router);
-                match patch_due(alloc, self.world.world(), router, waiting)? {
+                match patch_due(alloc, self.course.world(), router, waiting)? {
                     Some(patch) => {
                         self.desks[usize::from(router)].publish(rt, patch)?;
-                        self.world.step(step).unwrap();
+                        self.course.step_on(step).unwrap();
                     }
-                    None => self.world.step(step)?,
+                    None => self.course.step_on(step)?,
                 }
             }
-            _ => self.world.step(step)?,
+            _ => self.course.step_on(step)?,
         }
         self.sum = sum;
         self.journal.push(again).unwrap();
@@ -372,9 +374,9 @@ impl<B: FabricName, A: SmallAllocator> Fabric<B, A> {
         self.admits(&Step::Publish { router })?;
         let alloc = *self.journal.allocator();
         // The chosen rows of a network's routers are of all that they have heard of.
-        let _routers = self.network.routers();
+        let _routers = self.course.network().routers();
         let waiting = waiting_at(&self.desks, router);
-        let Some(patch) = patch_due(alloc, self.world.world(), router, waiting)? else {
+        let Some(patch) = patch_due(alloc, self.course.world(), router, waiting)? else {
             return Err(self.why_not_due(router));
         };
         let copy = copy_of(&patch)?;
@@ -438,7 +440,7 @@ impl<B: FabricName, A: SmallAllocator> Fabric<B, A> {
         self.set_aside -= 1;
         if published {
             let step = Step::Publish { router };
-            self.world.step(step).unwrap();
+            self.course.step_on(step).unwrap();
             self.sum += step.number();
             self.journal.push(step).unwrap();
         }
@@ -490,15 +492,15 @@ impl<B: FabricName, A: SmallAllocator> Fabric<B, A> {
     {
         // The four parts follow from what a fabric keeps, and from that its network has no fault.
         let _desks = &self.desks;
-        let _routers = self.network.routers();
+        let _routers = self.course.network().routers();
+        self.course.holds();
     }
 
     /// Ends the fabric, with the writers that are in. It waits for readers that are looking up; from then
     /// on they find no image.
     pub fn close<R: Wait>(self, rt: &R) {
         let Fabric {
-            network: _network,
-            world: _world,
+            course: _course,
             desks,
             readers: _readers,
             journal: _journal,

@@ -6,9 +6,8 @@
 //!
 //! ```text
 //!   Fabric
-//!     network   the network that was opened, without faults
+//!     course    the network that was opened, and its world: opening, then s1, then s2, .., then sn
 //!     journal   s1, s2, .., sn     each lawful; with a place for each writer that is out, at most a million
-//!     world     = opening, then s1, then s2, .., then sn
 //!     desks     one a router: its writer, or what stays of one that is out with a ticket
 //!     readers   one a router, by which the fabric looks up itself; workers are given others
 //! ```

@@ -1,21 +1,15 @@
+use Rattle.std.proofs.Common.{subst}
+use Rattle.no_packet_loops.proofs.Common.{IsNetwork}
 use Rattle.std.specs.Prelude.{vec_capacity}
 use Rattle.fabric.specs.Writers.{fabric_seen}
-use Rattle.fabric.proofs.Headline.{never_twice, least_cost, converges}
+use Rattle.fabric.proofs.Headline.{never_twice}
 use Rattle.fabric.proofs.WritersOut.{lent_due}
 use Rattle.fabric.proofs.fabric.Fabric.holds.Goals as goal
 
 pub returns-clause-no_loop : goal.returns-clause-no_loop
 returns-clause-no_loop g c =
-    rw (← c.self.view_is) (never_twice (fabric_seen g.B.FabricName.openings c.self.inside.network c.self.inside.journal.items c.self.inside.world c.self.inside.desks.items) (vec_capacity c.self.inside.journal) c.self.invariant.0 c.routers-routers.ensures.valid)
-
-pub returns-clause-least_cost : goal.returns-clause-least_cost
-returns-clause-least_cost g c =
-    rw (← c.self.view_is) (least_cost (fabric_seen g.B.FabricName.openings c.self.inside.network c.self.inside.journal.items c.self.inside.world c.self.inside.desks.items) (vec_capacity c.self.inside.journal) c.self.invariant.0 c.routers-routers.ensures.valid)
-
-pub returns-clause-converges : goal.returns-clause-converges
-returns-clause-converges g c =
-    rw (← c.self.view_is) (converges (fabric_seen g.B.FabricName.openings c.self.inside.network c.self.inside.journal.items c.self.inside.world c.self.inside.desks.items) (vec_capacity c.self.inside.journal) c.self.invariant.0 c.routers-routers.ensures.valid)
+    rw (← c.self.view_is) (never_twice (fabric_seen g.B.FabricName.openings c.self.inside.course.network c.self.inside.journal.items c.self.inside.course.world c.self.inside.desks.items) (vec_capacity c.self.inside.journal) c.self.invariant.0.0 (subst IsNetwork c.network.ensures.network c.routers-routers.ensures.valid))
 
 pub returns-clause-pending : goal.returns-clause-pending
 returns-clause-pending g c =
-    rw (← c.self.view_is) (lent_due c.self.inside.world c.self.inside.desks.items c.self.invariant.2)
+    rw (← c.self.view_is) (lent_due c.self.inside.course.world c.self.inside.desks.items c.self.invariant.0.2)

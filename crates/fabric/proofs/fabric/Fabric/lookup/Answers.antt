@@ -16,7 +16,7 @@ list_answer g c = answer_of (image_of g.B.FabricName.openings c.in-Some.told) c.
 
 answer : (g : given.Over) (c : goal.After-drop-told-inside g) → answer_at c.args.self.now.world c.args.router c.args.addr ≡ Some (list_answer g c)
 answer g c =
-    let before = ap (λ (f : Fabric). f.images) (sym c.self.view_is) ∙ c.self.invariant.0.in_force ∙ ap (λ (f : Fabric). images_in_force f.world) c.self.view_is in
+    let before = ap (λ (f : Fabric). f.images) (sym c.self.view_is) ∙ c.self.invariant.0.0.in_force ∙ ap (λ (f : Fabric). images_in_force f.world) c.self.view_is in
     answer_shown c.args.self.now.world c.args.self.now.images before c.args.router (image_of g.B.FabricName.openings c.in-Some.told) c.in-Some.ensures.in_force c.args.addr
 
 pub returns-clause-ok : goal.returns-clause-ok
@@ -37,7 +37,7 @@ pub index_mut-requires : goal.index_mut-requires
 index_mut-requires g c =
     let below = c.in-Some.ensures.known.0 refl in
     let world = ap (λ (f : Fabric). length f.world.routers) c.self.view_is in
-    let every = c.self.invariant.3.every_router in
+    let every = c.self.invariant.0.3.every_router in
     let count = c.self.inside.readers.ok.0 in
     omega (arith, below, world, every, count, c.from.ensures)
 
@@ -46,9 +46,9 @@ reader_number : (g : given.Over) (c : goal.After-told-2-1 g) → c.args.router �
 reader_number g c =
     let below = c.in-Some.ensures.known.0 refl in
     let world = ap (λ (f : Fabric). length f.world.routers) c.self.view_is in
-    let every = c.self.invariant.3.every_router in
+    let every = c.self.invariant.0.3.every_router in
     let within : c.from.result < length c.self.inside.readers.items = omega (arith, below, world, every, c.from.ensures) in
-    sym c.from.ensures ∙ sym (c.self.invariant.3.numbered c.from.result c.index_mut.result.now within) ∙ ap (λ (k : Known). k.router) (sym c.index_mut.ensures.value)
+    sym c.from.ensures ∙ sym (c.self.invariant.0.3.numbered c.from.result c.index_mut.result.now within) ∙ ap (λ (k : Known). k.router) (sym c.index_mut.ensures.value)
 
 pub ask-requires : goal.ask-requires
 ask-requires g c = c.in-Some.ensures.router ∙ reader_number g c
@@ -57,14 +57,14 @@ pub invariant_of-self : goal.invariant_of-self
 invariant_of-self g c =
     let readers = c.self.inside.readers.items in
     let asked = c.ask.new.reader in
-    let number : asked.router ≡ c.from.result = c.ask.ensures.router ∙ sym (reader_number g c.before.before.before) ∙ sym c.from.ensures in (
-      c.self.invariant.0,
-      c.self.invariant.1,
-      c.self.invariant.2,
+    let number : asked.router ≡ c.from.result = c.ask.ensures.router ∙ sym (reader_number g c.before.before.before) ∙ sym c.from.ensures in ((
+      c.self.invariant.0.0,
+      c.self.invariant.0.1,
+      c.self.invariant.0.2,
       record {
-        every_router = length-set readers c.from.result asked ∙ c.self.invariant.3.every_router;
-        numbered = each_set (λ i (v : Known). v.router ≡ i) readers c.from.result asked c.self.invariant.3.numbered number;
+        every_router = length-set readers c.from.result asked ∙ c.self.invariant.0.3.every_router;
+        numbered = each_set (λ i (v : Known). v.router ≡ i) readers c.from.result asked c.self.invariant.0.3.numbered number;
       },
-      c.self.invariant.4,
-      c.self.invariant.5,
-    )
+      c.self.invariant.0.4,
+      c.self.invariant.0.5,
+    ), c.self.invariant.1)

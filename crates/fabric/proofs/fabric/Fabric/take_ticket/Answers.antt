@@ -1,10 +1,11 @@
-use Rattle.std.proofs.Common.{rules, ◌≡◌, ◌∙◌, ◌+◌, ◌<◌, ◌≤◌, ◌++◌, [], ◌∷◌, length, vec_len, None, Some, refl, sym, ap, subst, arith, true, false, IsOk, MatchBool, MatchOption, Err, slice_get, set, vec_capacity}
+use Rattle.std.proofs.Common.{rules, ◌≡◌, ◌∙◌, ◌+◌, ◌<◌, ◌≤◌, ◌++◌, [], ◌∷◌, length, length-append, vec_len, None, Some, refl, sym, ap, subst, arith, true, false, IsOk, MatchBool, MatchOption, Err, slice_get, set, vec_capacity}
 use Rattle.no_packet_loops.proofs.Common.{false≢true, slice_get_past, err_from_is_err_and, Lawful, next, Lawful_to_refusal, None_not_Some}
 use Rattle.network_model.specs.declared.step.Step.TheVariants.{Publish}
 use Rattle.network_model.specs.Journal.{Fits, most_steps, step_number}
 use Rattle.router_core.proofs.Refused.{gave_up}
 use Rattle.publication.specs.Lists.{Writing}
 use Rattle.publication.proofs.Places.{each_there}
+use Rattle.course.specs.Course.{Course}
 use Rattle.fabric.specs.Desks.{all_lent, desk_in, writings}
 use Rattle.fabric.specs.Fabric.{Fabric, after_step, count_lent, fabric_of, lent_at, with_lent, IsFabric}
 use Rattle.fabric.specs.Writers.{ArePending, AreReaders, AreWriters, shown_images, fabric_seen}
@@ -38,8 +39,8 @@ left g c = ap (λ k. set c.self.inside.desks.items k c.take_back.new.self) (plac
 pub overflow_sub-self : goal.overflow_sub-self
 overflow_sub-self g c =
     let s = c.self.inside in
-    let count = count_back s.world g.B.FabricName.openings s.desks.items c.args.ticket.before.router c.index_mut.result.now c.args.ticket (at_desk g c) (out g c) (list g c) c.in_ok-take_back.ensures.kept c.self.invariant.2 c.self.invariant.1 in
-    let aside = c.self.invariant.5 in
+    let count = count_back s.course.world g.B.FabricName.openings s.desks.items c.args.ticket.before.router c.index_mut.result.now c.args.ticket (at_desk g c) (out g c) (list g c) c.in_ok-take_back.ensures.kept c.self.invariant.0.2 c.self.invariant.0.1 in
+    let aside = c.self.invariant.0.5 in
     omega (arith, count, aside)
 
 -- ---- refused
@@ -55,14 +56,14 @@ unchanged g c = ap (set c.self.inside.desks.items c.from-place.result) (c.in_err
 
 pub invariant_of-self : goal.invariant_of-self
 invariant_of-self g c =
-    let s = c.self.inside in (
-      subst (λ ds. IsFabric (fabric_seen g.B.FabricName.openings s.network s.journal.items s.world ds) (vec_capacity s.journal)) (sym (unchanged g c)) c.self.invariant.0,
-      subst (λ ds. AreWriters s.world (writings ds)) (sym (unchanged g c)) c.self.invariant.1,
-      subst (ArePending s.world) (sym (unchanged g c)) c.self.invariant.2,
-      c.self.invariant.3,
-      c.self.invariant.4,
-      c.self.invariant.5 ∙ sym (ap (λ ds. count_lent (all_lent ds)) (unchanged g c)),
-    )
+    let s = c.self.inside in ((
+      subst (λ ds. IsFabric (fabric_seen g.B.FabricName.openings s.course.network s.journal.items s.course.world ds) (vec_capacity s.journal)) (sym (unchanged g c)) c.self.invariant.0.0,
+      subst (λ ds. AreWriters s.course.world (writings ds)) (sym (unchanged g c)) c.self.invariant.0.1,
+      subst (ArePending s.course.world) (sym (unchanged g c)) c.self.invariant.0.2,
+      c.self.invariant.0.3,
+      c.self.invariant.0.4,
+      c.self.invariant.0.5 ∙ sym (ap (λ ds. count_lent (all_lent ds)) (unchanged g c)),
+    ), c.self.invariant.1)
 
 pub returns-in_err-take_back-clause-its : goal.returns-in_err-take_back-clause-its
 returns-in_err-take_back-clause-its g c =
@@ -70,43 +71,43 @@ returns-in_err-take_back-clause-its g c =
       λ ok. absurd (false≢true (subst IsOk p.1 ok)),
       λ same. absurd (false≢true (c.in_err-take_back.ensures.its.1 (
         sym (lent_there c.self.inside.desks.items c.args.ticket.before.router c.index_mut.result.now (at_refused g c)) ∙ ap (λ (f : Fabric). lent_at f.lent c.args.ticket.before.router) c.self.view_is ∙ same,
-        each_there (λ k (x : Writing). (x.published).router ≡ k) (writings c.self.inside.desks.items) (c.self.invariant.1).numbered c.args.ticket.before.router c.index_mut.result.now.writing
+        each_there (λ k (x : Writing). (x.published).router ≡ k) (writings c.self.inside.desks.items) (c.self.invariant.0.1).numbered c.args.ticket.before.router c.index_mut.result.now.writing
             (writing_there c.self.inside.desks.items c.args.ticket.before.router c.index_mut.result.now (at_refused g c)),
       ))),
     )
 
 -- ---- published
 
-pub step-requires : goal.step-requires
-step-requires g c = room_left (fabric_seen g.B.FabricName.openings c.self.inside.network c.self.inside.journal.items c.self.inside.world c.self.inside.desks.items) (vec_capacity c.self.inside.journal) c.self.invariant.0
+pub step_on-requires : goal.step_on-requires
+step_on-requires g c = let same = c.self.invariant.1 in let short = c.self.invariant.0.0.short in omega (arith, same, short)
 
 pub unwrap-requires : goal.unwrap-requires
 unwrap-requires g c =
     let b : goal.In_ok-take_back g = c.before.before.before.before in
     let s = c.self.inside in
-    let lawful : Lawful s.world (Publish c.args.ticket.before.router) = lawful_back s.world g.B.FabricName.openings s.desks.items c.args.ticket.before.router c.index_mut.result.now c.args.ticket (at_desk g b) (out g b) (list g b) c.in_ok-take_back.ensures.kept c.self.invariant.2 c.self.invariant.1
-    s.network s.journal.items (vec_capacity s.journal) c.self.invariant.0 in
-    subst (λ o. MatchOption o (IsOk c.step.result) (λ e. c.step.result ≡ Err e))
-    (Lawful_to_refusal s.world (Publish c.router-router.result) (subst (λ i. Lawful s.world (Publish i)) (sym c.router-router.ensures) lawful))
-    (c.step.ensures.publication c.router-router.result refl)
+    let lawful : Lawful s.course.world (Publish c.args.ticket.before.router) = lawful_back s.course.world g.B.FabricName.openings s.desks.items c.args.ticket.before.router c.index_mut.result.now c.args.ticket (at_desk g b) (out g b) (list g b) c.in_ok-take_back.ensures.kept c.self.invariant.0.2 c.self.invariant.0.1
+    s.course.network s.journal.items (vec_capacity s.journal) c.self.invariant.0.0 in
+    subst (λ o. MatchOption o (IsOk c.step_on.result) (λ e. c.step_on.result ≡ Err e))
+    (Lawful_to_refusal s.course.world (Publish c.router-router.result) (subst (λ i. Lawful s.course.world (Publish i)) (sym c.router-router.ensures) lawful))
+    (c.step_on.ensures.publication c.router-router.result refl)
 
 pub unwrap-requires-then-published : goal.unwrap-requires-then-published
 unwrap-requires-then-published g c =
     let b : goal.In_ok-take_back g = c.before.before.before.before.before.before.before.before.before.before in
     let s = c.self.inside in
     let short : length s.journal.items + count_lent (all_lent (set s.desks.items c.args.ticket.before.router (desk_in c.args.ticket.writing))) < most_steps
-    = short_back s.world g.B.FabricName.openings s.desks.items c.args.ticket.before.router c.index_mut.result.now c.args.ticket (at_desk g b) (out g b) (list g b) c.in_ok-take_back.ensures.kept c.self.invariant.2 c.self.invariant.1
-    s.network s.journal.items (vec_capacity s.journal) c.self.invariant.0 in
-    let room : most_steps ≤ vec_capacity s.journal = c.self.invariant.0.room in
+    = short_back s.course.world g.B.FabricName.openings s.desks.items c.args.ticket.before.router c.index_mut.result.now c.args.ticket (at_desk g b) (out g b) (list g b) c.in_ok-take_back.ensures.kept c.self.invariant.0.2 c.self.invariant.0.1
+    s.course.network s.journal.items (vec_capacity s.journal) c.self.invariant.0.0 in
+    let room : most_steps ≤ vec_capacity s.journal = c.self.invariant.0.0.room in
     let len : length s.journal.items ≡ vec_len s.journal = search rules in
     c.push.ensures.succeeds (omega (arith, short, room, len))
 
 -- what is left once the step is done
 record IsDone (g : given.Over) (c : goal.After-unwrap-then-published g) : Type 0 where
-  lawful : Lawful c.self.inside.world (Publish c.args.ticket.before.router)
-  after : after_step (fabric_of c.self.inside.network c.self.inside.journal.items c.self.inside.world (shown_images g.B.FabricName.openings (writings c.self.inside.desks.items)) (all_lent (set c.self.inside.desks.items c.args.ticket.before.router (desk_in c.args.ticket.writing)))) (Publish c.args.ticket.before.router)
-      ≡ fabric_seen g.B.FabricName.openings c.self.inside.network c.push.new.self.items c.step.new.self (set c.self.inside.desks.items c.from-place.result c.take_back.new.self)
-  world : c.step.new.self ≡ next c.self.inside.world (Publish c.args.ticket.before.router)
+  lawful : Lawful c.self.inside.course.world (Publish c.args.ticket.before.router)
+  after : after_step (fabric_of c.self.inside.course.network c.self.inside.journal.items c.self.inside.course.world (shown_images g.B.FabricName.openings (writings c.self.inside.desks.items)) (all_lent (set c.self.inside.desks.items c.args.ticket.before.router (desk_in c.args.ticket.writing)))) (Publish c.args.ticket.before.router)
+      ≡ fabric_seen g.B.FabricName.openings c.self.inside.course.network c.push.new.self.items c.step_on.new.self.world (set c.self.inside.desks.items c.from-place.result c.take_back.new.self)
+  world : c.step_on.new.self.world ≡ next c.self.inside.course.world (Publish c.args.ticket.before.router)
   pushed : c.push.new.self.items ≡ c.self.inside.journal.items ++ Publish c.args.ticket.before.router ∷ []
 
 done : (g : given.Over) (c : goal.After-unwrap-then-published g) → IsDone g c
@@ -115,20 +116,29 @@ done g c =
     let s = c.self.inside in
     let i = c.args.ticket.before.router in
     let published : c.args.ticket.is_published ≡ true = sym c.is_published-published.ensures ∙ c.if-published.true in
-    let ok : Lawful s.world (Publish c.router-router.result) × (c.step.new.self ≡ next s.world (Publish c.router-router.result)) = rw c.unwrap.ensures at c.step.ensures.ok in
-    let world : c.step.new.self ≡ next s.world (Publish i) = ok.1 ∙ ap (λ k. next s.world (Publish k)) c.router-router.ensures in
+    let ok : Lawful s.course.world (Publish c.router-router.result) × (c.step_on.new.self.world ≡ next s.course.world (Publish c.router-router.result)) = rw c.unwrap.ensures at c.step_on.ensures.ok in
+    let world : c.step_on.new.self.world ≡ next s.course.world (Publish i) = ok.1 ∙ ap (λ k. next s.course.world (Publish k)) c.router-router.ensures in
     let items : c.push.new.self.items ≡ s.journal.items ++ Publish c.router-router.result ∷ [] = rw c.unwrap-then-published.ensures at c.push.ensures.items in
     let pushed : c.push.new.self.items ≡ s.journal.items ++ Publish i ∷ [] = items ∙ ap (λ k. s.journal.items ++ Publish k ∷ []) c.router-router.ensures in
-    let images = images_back s.world g.B.FabricName.openings s.desks.items i c.index_mut.result.now c.args.ticket (at_desk g b) (out g b) (list g b) c.in_ok-take_back.ensures.kept c.self.invariant.2 c.self.invariant.1
-    s.network s.journal.items (vec_capacity s.journal) c.self.invariant.0 published ∙ ap (λ ds. shown_images g.B.FabricName.openings (writings ds)) (sym (left g b)) in
+    let images = images_back s.course.world g.B.FabricName.openings s.desks.items i c.index_mut.result.now c.args.ticket (at_desk g b) (out g b) (list g b) c.in_ok-take_back.ensures.kept c.self.invariant.0.2 c.self.invariant.0.1
+    s.course.network s.journal.items (vec_capacity s.journal) c.self.invariant.0.0 published ∙ ap (λ ds. shown_images g.B.FabricName.openings (writings ds)) (sym (left g b)) in
     let lent = ap all_lent (sym (left g b)) in
     record {
-      lawful = lawful_back s.world g.B.FabricName.openings s.desks.items i c.index_mut.result.now c.args.ticket (at_desk g b) (out g b) (list g b) c.in_ok-take_back.ensures.kept c.self.invariant.2 c.self.invariant.1
-          s.network s.journal.items (vec_capacity s.journal) c.self.invariant.0;
-      after = λ k. fabric_of s.network (sym pushed k) (sym world k) (images k) (lent k);
+      lawful = lawful_back s.course.world g.B.FabricName.openings s.desks.items i c.index_mut.result.now c.args.ticket (at_desk g b) (out g b) (list g b) c.in_ok-take_back.ensures.kept c.self.invariant.0.2 c.self.invariant.0.1
+          s.course.network s.journal.items (vec_capacity s.journal) c.self.invariant.0.0;
+      after = λ k. fabric_of s.course.network (sym pushed k) (sym world k) (images k) (lent k);
       world = world;
       pushed = pushed;
     }
+
+-- the count of steps has it, too
+counted_on : (g : given.Over) (c : goal.After-unwrap-then-published g) → c.step_on.new.self.steps ≡ length c.push.new.self.items
+counted_on g c =
+    let D = done g c in
+    let count : c.step_on.new.self.steps ≡ c.self.inside.course.steps + 1 = rw c.unwrap.ensures at c.step_on.ensures.count in
+    let longer : length c.push.new.self.items ≡ length c.self.inside.journal.items + 1 = ap length D.pushed ∙ length-append c.self.inside.journal.items (Publish c.args.ticket.before.router ∷ []) in
+    let same = c.self.invariant.1 in
+    omega (arith, count, same, longer)
 
 pub invariant_of-self-then-published : goal.invariant_of-self-then-published
 invariant_of-self-then-published g c =
@@ -136,27 +146,28 @@ invariant_of-self-then-published g c =
     let s = c.self.inside in
     let i = c.args.ticket.before.router in
     let D = done g c in
-    let kept = kept_back s.world g.B.FabricName.openings s.desks.items i c.index_mut.result.now c.args.ticket (at_desk g b) (out g b) (list g b) c.in_ok-take_back.ensures.kept c.self.invariant.2 c.self.invariant.1
-    s.network s.journal.items (vec_capacity s.journal) c.self.invariant.0 in
-    let short = short_back s.world g.B.FabricName.openings s.desks.items i c.index_mut.result.now c.args.ticket (at_desk g b) (out g b) (list g b) c.in_ok-take_back.ensures.kept c.self.invariant.2 c.self.invariant.1
-    s.network s.journal.items (vec_capacity s.journal) c.self.invariant.0 in
-    let count = count_back s.world g.B.FabricName.openings s.desks.items i c.index_mut.result.now c.args.ticket (at_desk g b) (out g b) (list g b) c.in_ok-take_back.ensures.kept c.self.invariant.2 c.self.invariant.1 in
-    let numbered : c.number.result ≡ step_number (Publish i) = c.number.ensures.number ∙ ap (λ k. step_number (Publish k)) c.router-router.ensures in (
-      kept_as (fabric_of s.network s.journal.items s.world (shown_images g.B.FabricName.openings (writings s.desks.items)) (all_lent (set s.desks.items i (desk_in c.args.ticket.writing))))
-          (fabric_seen g.B.FabricName.openings s.network c.push.new.self.items c.step.new.self (set s.desks.items c.from-place.result c.take_back.new.self))
-          (Publish i) (vec_capacity s.journal) (vec_capacity c.push.new.self) kept D.lawful short D.after c.push.ensures.capacity,
+    let kept = kept_back s.course.world g.B.FabricName.openings s.desks.items i c.index_mut.result.now c.args.ticket (at_desk g b) (out g b) (list g b) c.in_ok-take_back.ensures.kept c.self.invariant.0.2 c.self.invariant.0.1
+    s.course.network s.journal.items (vec_capacity s.journal) c.self.invariant.0.0 in
+    let short = short_back s.course.world g.B.FabricName.openings s.desks.items i c.index_mut.result.now c.args.ticket (at_desk g b) (out g b) (list g b) c.in_ok-take_back.ensures.kept c.self.invariant.0.2 c.self.invariant.0.1
+    s.course.network s.journal.items (vec_capacity s.journal) c.self.invariant.0.0 in
+    let count = count_back s.course.world g.B.FabricName.openings s.desks.items i c.index_mut.result.now c.args.ticket (at_desk g b) (out g b) (list g b) c.in_ok-take_back.ensures.kept c.self.invariant.0.2 c.self.invariant.0.1 in
+    let numbered : c.number.result ≡ step_number (Publish i) = c.number.ensures.number ∙ ap (λ k. step_number (Publish k)) c.router-router.ensures in ((
+      subst (λ n. IsFabric (fabric_seen g.B.FabricName.openings n c.push.new.self.items c.step_on.new.self.world (set s.desks.items c.from-place.result c.take_back.new.self)) (vec_capacity c.push.new.self)) (sym c.step_on.ensures.network)
+          (kept_as (fabric_of s.course.network s.journal.items s.course.world (shown_images g.B.FabricName.openings (writings s.desks.items)) (all_lent (set s.desks.items i (desk_in c.args.ticket.writing))))
+          (fabric_seen g.B.FabricName.openings s.course.network c.push.new.self.items c.step_on.new.self.world (set s.desks.items c.from-place.result c.take_back.new.self))
+          (Publish i) (vec_capacity s.journal) (vec_capacity c.push.new.self) kept D.lawful short D.after c.push.ensures.capacity),
       subst (λ v. AreWriters v (writings (set s.desks.items c.from-place.result c.take_back.new.self))) (sym D.world)
-          (subst (λ ds. AreWriters (next s.world (Publish i)) (writings ds)) (sym (left g b))
-          (writers_next s.world (Publish i) (writings (set s.desks.items i (desk_in c.args.ticket.writing)))
-          (writers_back s.world g.B.FabricName.openings s.desks.items i c.index_mut.result.now c.args.ticket (at_desk g b) (out g b) (list g b) c.in_ok-take_back.ensures.kept c.self.invariant.2 c.self.invariant.1))),
+          (subst (λ ds. AreWriters (next s.course.world (Publish i)) (writings ds)) (sym (left g b))
+          (writers_next s.course.world (Publish i) (writings (set s.desks.items i (desk_in c.args.ticket.writing)))
+          (writers_back s.course.world g.B.FabricName.openings s.desks.items i c.index_mut.result.now c.args.ticket (at_desk g b) (out g b) (list g b) c.in_ok-take_back.ensures.kept c.self.invariant.0.2 c.self.invariant.0.1))),
       subst (λ v. ArePending v (set s.desks.items c.from-place.result c.take_back.new.self)) (sym D.world)
-          (subst (ArePending (next s.world (Publish i))) (sym (left g b))
-          (pending_on s.world g.B.FabricName.openings s.desks.items i c.index_mut.result.now c.args.ticket (at_desk g b) (out g b) (list g b) c.in_ok-take_back.ensures.kept c.self.invariant.2 c.self.invariant.1
-          s.network s.journal.items (vec_capacity s.journal) c.self.invariant.0)),
-      subst (λ v. AreReaders v s.readers.items) (sym D.world) (readers_next s.world (Publish i) s.readers.items c.self.invariant.3),
-      summed_more s.journal.items (Publish i) c.push.new.self.items s.sum c.number.result c.self.invariant.4 numbered c.number.ensures.below (subst (λ k. Fits (Publish k)) c.router-router.ensures c.number.ensures.fits) D.pushed,
-      (let same = ap (λ ds. count_lent (all_lent ds)) (left g b) in let aside = c.self.invariant.5 in omega (arith, count, same, aside)),
-    )
+          (subst (ArePending (next s.course.world (Publish i))) (sym (left g b))
+          (pending_on s.course.world g.B.FabricName.openings s.desks.items i c.index_mut.result.now c.args.ticket (at_desk g b) (out g b) (list g b) c.in_ok-take_back.ensures.kept c.self.invariant.0.2 c.self.invariant.0.1
+          s.course.network s.journal.items (vec_capacity s.journal) c.self.invariant.0.0)),
+      subst (λ v. AreReaders v s.readers.items) (sym D.world) (readers_next s.course.world (Publish i) s.readers.items c.self.invariant.0.3),
+      summed_more s.journal.items (Publish i) c.push.new.self.items s.sum c.number.result c.self.invariant.0.4 numbered c.number.ensures.below (subst (λ k. Fits (Publish k)) c.router-router.ensures c.number.ensures.fits) D.pushed,
+      (let same = ap (λ ds. count_lent (all_lent ds)) (left g b) in let aside = c.self.invariant.0.5 in omega (arith, count, same, aside)),
+    ), counted_on g c)
 
 -- ---- not published
 
@@ -166,20 +177,20 @@ invariant_of-self-else-published g c =
     let s = c.self.inside in
     let i = c.args.ticket.before.router in
     let not_yet : c.args.ticket.is_published ≡ false = sym c.is_published-published.ensures ∙ c.if-published.false in
-    let shown = shown_back s.world g.B.FabricName.openings s.desks.items i c.index_mut.result.now c.args.ticket (at_desk g b) (out g b) (list g b) c.in_ok-take_back.ensures.kept c.self.invariant.2 c.self.invariant.1 not_yet in
-    let kept = kept_back s.world g.B.FabricName.openings s.desks.items i c.index_mut.result.now c.args.ticket (at_desk g b) (out g b) (list g b) c.in_ok-take_back.ensures.kept c.self.invariant.2 c.self.invariant.1
-    s.network s.journal.items (vec_capacity s.journal) c.self.invariant.0 in
-    let count = count_back s.world g.B.FabricName.openings s.desks.items i c.index_mut.result.now c.args.ticket (at_desk g b) (out g b) (list g b) c.in_ok-take_back.ensures.kept c.self.invariant.2 c.self.invariant.1 in (
-      subst (λ ds. IsFabric (fabric_seen g.B.FabricName.openings s.network s.journal.items s.world ds) (vec_capacity s.journal)) (sym (left g b))
-          (subst (λ images. IsFabric (fabric_of s.network s.journal.items s.world images (all_lent (set s.desks.items i (desk_in c.args.ticket.writing)))) (vec_capacity s.journal)) (sym shown) kept),
-      subst (λ ds. AreWriters s.world (writings ds)) (sym (left g b))
-          (writers_back s.world g.B.FabricName.openings s.desks.items i c.index_mut.result.now c.args.ticket (at_desk g b) (out g b) (list g b) c.in_ok-take_back.ensures.kept c.self.invariant.2 c.self.invariant.1),
-      subst (ArePending s.world) (sym (left g b))
-          (pending_back s.world g.B.FabricName.openings s.desks.items i c.index_mut.result.now c.args.ticket (at_desk g b) (out g b) (list g b) c.in_ok-take_back.ensures.kept c.self.invariant.2 c.self.invariant.1),
-      c.self.invariant.3,
-      c.self.invariant.4,
-      (let same = ap (λ ds. count_lent (all_lent ds)) (left g b) in let aside = c.self.invariant.5 in omega (arith, count, same, aside)),
-    )
+    let shown = shown_back s.course.world g.B.FabricName.openings s.desks.items i c.index_mut.result.now c.args.ticket (at_desk g b) (out g b) (list g b) c.in_ok-take_back.ensures.kept c.self.invariant.0.2 c.self.invariant.0.1 not_yet in
+    let kept = kept_back s.course.world g.B.FabricName.openings s.desks.items i c.index_mut.result.now c.args.ticket (at_desk g b) (out g b) (list g b) c.in_ok-take_back.ensures.kept c.self.invariant.0.2 c.self.invariant.0.1
+    s.course.network s.journal.items (vec_capacity s.journal) c.self.invariant.0.0 in
+    let count = count_back s.course.world g.B.FabricName.openings s.desks.items i c.index_mut.result.now c.args.ticket (at_desk g b) (out g b) (list g b) c.in_ok-take_back.ensures.kept c.self.invariant.0.2 c.self.invariant.0.1 in ((
+      subst (λ ds. IsFabric (fabric_seen g.B.FabricName.openings s.course.network s.journal.items s.course.world ds) (vec_capacity s.journal)) (sym (left g b))
+          (subst (λ images. IsFabric (fabric_of s.course.network s.journal.items s.course.world images (all_lent (set s.desks.items i (desk_in c.args.ticket.writing)))) (vec_capacity s.journal)) (sym shown) kept),
+      subst (λ ds. AreWriters s.course.world (writings ds)) (sym (left g b))
+          (writers_back s.course.world g.B.FabricName.openings s.desks.items i c.index_mut.result.now c.args.ticket (at_desk g b) (out g b) (list g b) c.in_ok-take_back.ensures.kept c.self.invariant.0.2 c.self.invariant.0.1),
+      subst (ArePending s.course.world) (sym (left g b))
+          (pending_back s.course.world g.B.FabricName.openings s.desks.items i c.index_mut.result.now c.args.ticket (at_desk g b) (out g b) (list g b) c.in_ok-take_back.ensures.kept c.self.invariant.0.2 c.self.invariant.0.1),
+      c.self.invariant.0.3,
+      c.self.invariant.0.4,
+      (let same = ap (λ ds. count_lent (all_lent ds)) (left g b) in let aside = c.self.invariant.0.5 in omega (arith, count, same, aside)),
+    ), c.self.invariant.1)
 
 -- ---- the answer
 
@@ -188,7 +199,7 @@ returns-clause-its g c =
     let b : goal.In_ok-take_back g = c.before.before in
     let s = c.self.inside in (
       λ _. ap (λ (f : Fabric). lent_at f.lent c.args.ticket.before.router) (sym c.self.view_is)
-          ∙ lent_was s.world g.B.FabricName.openings s.desks.items c.args.ticket.before.router c.index_mut.result.now c.args.ticket (at_desk g b) (out g b) (list g b) c.in_ok-take_back.ensures.kept c.self.invariant.2 c.self.invariant.1,
+          ∙ lent_was s.course.world g.B.FabricName.openings s.desks.items c.args.ticket.before.router c.index_mut.result.now c.args.ticket (at_desk g b) (out g b) (list g b) c.in_ok-take_back.ensures.kept c.self.invariant.0.2 c.self.invariant.0.1,
       λ _. refl,
     )
 
@@ -200,24 +211,25 @@ returns-clause-done g c =
     elim c.if-published.branch [
       | then-published w ↦
           let published : c.args.ticket.is_published ≡ true = sym c.is_published-published.ensures ∙ w.if-published.true in
-          let ok : Lawful s.world (Publish c.router-router.result) × (w.step.new.self ≡ next s.world (Publish c.router-router.result)) = rw w.unwrap.ensures at w.step.ensures.ok in
-          let world : w.step.new.self ≡ next s.world (Publish i) = ok.1 ∙ ap (λ k. next s.world (Publish k)) c.router-router.ensures in
+          let ok : Lawful s.course.world (Publish c.router-router.result) × (w.step_on.new.self.world ≡ next s.course.world (Publish c.router-router.result)) = rw w.unwrap.ensures at w.step_on.ensures.ok in
+          let world : w.step_on.new.self.world ≡ next s.course.world (Publish i) = ok.1 ∙ ap (λ k. next s.course.world (Publish k)) c.router-router.ensures in
           let items : w.push.new.self.items ≡ s.journal.items ++ Publish c.router-router.result ∷ [] = rw w.unwrap-then-published.ensures at w.push.ensures.items in
           let pushed : w.push.new.self.items ≡ s.journal.items ++ Publish i ∷ [] = items ∙ ap (λ k. s.journal.items ++ Publish k ∷ []) c.router-router.ensures in
-          let lawful : Lawful s.world (Publish i) = subst (λ k. Lawful s.world (Publish k)) c.router-router.ensures ok.0 in
+          let lawful : Lawful s.course.world (Publish i) = subst (λ k. Lawful s.course.world (Publish k)) c.router-router.ensures ok.0 in
           subst (λ flag. MatchBool flag (Lawful c.args.self.now.world (Publish i) × (c.if-published.self ≡ after_step (with_lent c.args.self.now i None) (Publish i))) (c.if-published.self ≡ with_lent c.args.self.now i None)) (sym published) (
             subst (λ (f : Fabric). Lawful f.world (Publish i)) c.self.view_is lawful,
             w.self-is
-                ∙ published_is s.world g.B.FabricName.openings s.desks.items i c.index_mut.result.now c.args.ticket (at_desk g b) (out g b) (list g b) c.in_ok-take_back.ensures.kept c.self.invariant.2 c.self.invariant.1
-                s.network s.journal.items (vec_capacity s.journal) c.self.invariant.0 published w.push.new.self.items w.step.new.self (set s.desks.items c.from-place.result c.take_back.new.self) pushed world (left g b)
+                ∙ ap (λ n. fabric_seen g.B.FabricName.openings n w.push.new.self.items w.step_on.new.self.world (set s.desks.items c.from-place.result c.take_back.new.self)) w.step_on.ensures.network
+                ∙ published_is s.course.world g.B.FabricName.openings s.desks.items i c.index_mut.result.now c.args.ticket (at_desk g b) (out g b) (list g b) c.in_ok-take_back.ensures.kept c.self.invariant.0.2 c.self.invariant.0.1
+                s.course.network s.journal.items (vec_capacity s.journal) c.self.invariant.0.0 published w.push.new.self.items w.step_on.new.self.world (set s.desks.items c.from-place.result c.take_back.new.self) pushed world (left g b)
                 ∙ ap (λ (f : Fabric). after_step (with_lent f i None) (Publish i)) c.self.view_is,
           )
       | else-published w ↦
           let not_yet : c.args.ticket.is_published ≡ false = sym c.is_published-published.ensures ∙ w.if-published.false in
           subst (λ flag. MatchBool flag (Lawful c.args.self.now.world (Publish i) × (c.if-published.self ≡ after_step (with_lent c.args.self.now i None) (Publish i))) (c.if-published.self ≡ with_lent c.args.self.now i None)) (sym not_yet)
           (w.self-is
-          ∙ unpublished_is s.world g.B.FabricName.openings s.desks.items i c.index_mut.result.now c.args.ticket (at_desk g b) (out g b) (list g b) c.in_ok-take_back.ensures.kept c.self.invariant.2 c.self.invariant.1
-          s.network s.journal.items (vec_capacity s.journal) c.self.invariant.0 not_yet (set s.desks.items c.from-place.result c.take_back.new.self) (left g b)
+          ∙ unpublished_is s.course.world g.B.FabricName.openings s.desks.items i c.index_mut.result.now c.args.ticket (at_desk g b) (out g b) (list g b) c.in_ok-take_back.ensures.kept c.self.invariant.0.2 c.self.invariant.0.1
+          s.course.network s.journal.items (vec_capacity s.journal) c.self.invariant.0.0 not_yet (set s.desks.items c.from-place.result c.take_back.new.self) (left g b)
           ∙ ap (λ (f : Fabric). with_lent f i None) c.self.view_is)
     ]
 
@@ -234,6 +246,6 @@ pub returns-in_err-take_back-clause-same : goal.returns-in_err-take_back-clause-
 returns-in_err-take_back-clause-same g c =
     let s = c.self.inside in
     gave_up c.from_residual.result
-    (ap (λ ds. fabric_seen g.B.FabricName.openings s.network s.journal.items s.world ds)
+    (ap (λ ds. fabric_seen g.B.FabricName.openings s.course.network s.journal.items s.course.world ds)
     (ap (set s.desks.items c.from-place.result) (c.in_err-take_back.ensures.same ∙ c.index_mut.ensures.value) ∙ set_again s.desks.items c.from-place.result c.index_mut.result.now)
     ∙ c.self.view_is)

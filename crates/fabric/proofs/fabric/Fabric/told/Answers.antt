@@ -31,20 +31,20 @@ returns-clause-in_force g c =
 pub returns-clause-router : goal.returns-clause-router
 returns-clause-router g c =
     ap (λ (k : Known). k.router) c.told.ensures.told
-    ∙ each_there (λ i (x : Writing). (x.published).router ≡ i) (writings c.self.inside.desks.items) (c.self.invariant.1).numbered c.args.router c.in_ok-desk.desk.now.writing (there g c)
+    ∙ each_there (λ i (x : Writing). (x.published).router ≡ i) (writings c.self.inside.desks.items) (c.self.invariant.0.1).numbered c.args.router c.in_ok-desk.desk.now.writing (there g c)
 
 pub returns-clause-last : goal.returns-clause-last
 returns-clause-last g c =
     let told = c.told.result in
     subst (λ (f : Fabric). IfSome (slice_get f.world.routers c.args.router) (λ (r : Router). length told.publications ≡ r.generation)) c.self.view_is
-    (list_is_last g.B.FabricName.openings c.self.inside.world (writings c.self.inside.desks.items) c.self.invariant.0.in_force c.args.router c.in_ok-desk.desk.now.writing (there g c) told c.told.ensures.told c.told.ensures.count)
+    (list_is_last g.B.FabricName.openings c.self.inside.course.world (writings c.self.inside.desks.items) c.self.invariant.0.0.in_force c.args.router c.in_ok-desk.desk.now.writing (there g c) told c.told.ensures.told c.told.ensures.count)
 
 pub returns-in_err-desk-clause-known : goal.returns-in_err-desk-clause-known
 returns-in_err-desk-clause-known g c =
     let s = c.self.inside in
     let read = c.in_err-desk.ensures.lookup in
     let same = ap length c.deref.ensures.value in
-    let count = desk_count s.world g.B.FabricName.openings s.desks.items c.self.invariant.0.in_force in
+    let count = desk_count s.course.world g.B.FabricName.openings s.desks.items c.self.invariant.0.0.in_force in
     let world = ap (λ (f : Fabric). length f.world.routers) c.self.view_is in
     let past : length c.args.self.now.world.routers ≤ c.args.router = omega (arith, read, c.from.ensures, same, count, world) in (
       λ some. absurd (false≢true (ap is_some (sym c.from_residual.ensures) ∙ some)),
@@ -56,6 +56,6 @@ returns-clause-known g c =
     let s = c.self.inside in
     let below = c.in_ok-desk.ensures.lookup.3.0 in
     let same = ap length c.deref.ensures.value in
-    let count = desk_count s.world g.B.FabricName.openings s.desks.items c.self.invariant.0.in_force in
+    let count = desk_count s.course.world g.B.FabricName.openings s.desks.items c.self.invariant.0.0.in_force in
     let world = ap (λ (f : Fabric). length f.world.routers) c.self.view_is in
     (λ _. omega (arith, below, c.from.ensures, same, count, world), λ _. refl)
