@@ -15,7 +15,7 @@ use Rattle.convergence.proofs.Turns.{next_chosen}
 use Rattle.course.proofs.Idle.{busy-unsettled}
 use Rattle.world.proofs.Runs.{with_last_step}
 use Rattle.fabric.specs.Fabric.{Fabric, after_step, awaits_writer, count_lent, fabric_refusal, is_lent, lent_at, with_lent}
-use Rattle.fabric.specs.Images.{images_in_force}
+use Rattle.course.specs.Images.{images_in_force}
 use Rattle.control.specs.Served.{AreTurns, IsServed, IsStopped, IsTurnAt, PublishesNext, images_after}
 use Rattle.control.proofs.WritersOut.{lent_kept}
 

@@ -9,7 +9,7 @@ use Rattle.publication.proofs.Places.{each-push}
 use Rattle.network_model.specs.declared.step.Step.TheVariants.{Publish}
 use Rattle.world.specs.Steps.{CanBeRefused, IsDoneOr}
 use Rattle.fabric.specs.Fabric.{Fabric, fabric_refusal, next_fabric_step}
-use Rattle.fabric.proofs.Causes.{refused_as}
+use Rattle.course.proofs.Courses.{refused_as}
 use Rattle.control.specs.declared.share.Share.{Share}
 use Rattle.control.specs.Served.{IsFound, IsTurn, IsTurnRefused}
 use Rattle.network_model.proofs.Common.{None_not_Some}

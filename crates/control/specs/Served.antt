@@ -15,7 +15,7 @@ use Rattle.world.specs.Steps.{CanBeRefused}
 use Rattle.fabric.specs.Fabric.{Fabric, count_lent, fabric_refusal, is_lent, ForwardsAsPublished}
 use Rattle.fabric.specs.Fabric.{next_fabric_step as next_turn}
 use Rattle.fabric.specs.Headline.{NeverMeetsTwice, LeadsAtLeastCost, ConvergesLeftAlone}
-use Rattle.fabric.specs.Images.{images_in_force}
+use Rattle.course.specs.Images.{images_in_force}
 
 -- a fabric of no routers
 abbrev pub no_fabric : Fabric

@@ -5,4 +5,5 @@ pub mod Idle
 pub mod Links
 pub mod Leaving
 pub mod Turning
+pub mod Images
 pub mod Example

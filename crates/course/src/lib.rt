@@ -17,7 +17,8 @@
 //! count says, leads from the opening of the network to the world. From that come, by the laws, the parts of the
 //! headline that speak of published tables (`headline` of [`Course::holds`]): no packet circles, at quiet rows
 //! lead at least cost, and left alone the network comes to rest there. Where the published tables are, as images
-//! or otherwise, is for whoever has the course.
+//! or otherwise, is for whoever has the course; which image is in force, and which is due, `specs/Images.antt`
+//! says for all of them.
 //!
 //! What is tricky: a router that has something to do may have to wait for something outside of its world, as a
 //! fabric's router waits for its writer. [`Shut`] tells of which steps that is so.

@@ -1,45 +1,14 @@
 -- What is due, and what a call answers that gave up, or did not.
-use Rattle.std.proofs.Common.{refl, sym, ap, subst, ◌∙◌, ◌≡◌, ℕ, ◌<◌, List, length, Bool, true, false, cond, Option, Some, None, IsSome, Result, Err, option_and_then, get_or, slice_get}
-use Rattle.no_packet_loops.proofs.Common.{false≢true, slice_get_read, slice_get_within, Prefix, Refusal, Router, World, Lawful, is_due, refusal, router_publishing, Lawful_to_refusal, Image}
+use Rattle.std.proofs.Common.{refl, sym, ap, subst, ◌∙◌, ◌≡◌, ℕ, ◌<◌, List, length, true, false, Option, Some, None, IsSome, Result, Err, slice_get}
+use Rattle.no_packet_loops.proofs.Common.{false≢true, slice_get_within, Prefix, Refusal, World, refusal, Lawful_to_refusal}
 use Rattle.network_model.specs.declared.step.Step.{Step}
 use Rattle.network_model.specs.declared.step.Step.TheVariants.{Publish}
-use Rattle.world.specs.Steps.{CanBeRefused, IsDoneOr}
+use Rattle.world.specs.Steps.{IsDoneOr}
 use Rattle.image_patch.specs.declared.Patch.{Patch as PatchFields}
+use Rattle.course.specs.Images.{due_at}
+use Rattle.course.proofs.Images.{due_lawful}
 use Rattle.fabric.specs.Fabric.{Fabric, fabric_refusal}
-use Rattle.fabric.specs.Images.{due_at, image_in_force}
 use Rattle.fabric.specs.Patches.{IsPatchDue}
-
--- a call that answers this refusal was refused for its cause, or for want of memory
-pub refused_as : (X : Type 0) (cause : Option Refusal) (e : Refusal) → IsDoneOr {X = X} cause (Err e) → CanBeRefused cause e
-refused_as X None e h = h
-refused_as X (Some c) e h = let inner : ◌≡◌ {A = Result X Refusal} (Err e) (Err c) = h in cc
-
--- what a router publishes next, where something is due
-abbrev next_image : Router → Option Image
-next_image r = cond (is_due r) (Some (image_in_force (router_publishing r))) None
-
--- the image that is due at a router which has something to publish
-pub due_image : (w : World) (i : ℕ) (r : Router) → slice_get w.routers i ≡ Some r → is_due r ≡ true → due_at w i ≡ Some (image_in_force (router_publishing r))
-due_image w i r at is = ap (option_and_then next_image) at ∙ ap (λ b. cond b (Some (image_in_force (router_publishing r))) None) is
-
--- the same of a router that was read in a list of all
-pub due_read : (w : World) {rs : List Router} {i k : ℕ} {r : Router} {b : Bool} → rs ≡ w.routers → k ≡ i → k < length rs → r ≡ get_or rs k r → b ≡ is_due r → b ≡ true
-    → (slice_get w.routers i ≡ Some r) × (due_at w i ≡ Some (image_in_force (router_publishing r)))
-due_read w {rs} {i} {k} {r} routers place within read tells is =
-    let there : slice_get w.routers i ≡ Some r = ap (λ xs. slice_get xs i) (sym routers) ∙ ap (slice_get rs) (sym place) ∙ slice_get_read rs (length rs) k r refl within read in
-    (there, due_image w i r there (sym tells ∙ is))
-
--- where an image is due, the router may publish
-pub due_lawful : (w : World) (i : ℕ) → IsSome (due_at w i) → Lawful w (Publish i)
-due_lawful w i due = by_router (slice_get w.routers i) refl due
-  where
-    by_due : (r : Router) (b : Bool) → IsSome (cond b (Some (image_in_force (router_publishing r))) None) → b ≡ true
-    by_due r true _ = refl
-    by_due r false none = absurd (false≢true none)
-
-    by_router : (o : Option Router) → slice_get w.routers i ≡ o → IsSome (option_and_then next_image o) → Lawful w (Publish i)
-    by_router None at none = absurd (false≢true none)
-    by_router (Some r) at some = (r, at, by_due r (is_due r) some)
 
 -- where a patch is due, nothing refuses the step that publishes it, once the fabric admits it
 pub admitted : (f : Fabric) (w : World) (s : Step) (i : ℕ) → fabric_refusal f s ≡ refusal f.world s → f.world ≡ w → s ≡ Publish i → IsSome (due_at w i) → fabric_refusal f s ≡ None

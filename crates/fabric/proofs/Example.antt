@@ -8,7 +8,7 @@ use Rattle.network_model.proofs.Lawful.{run-Runs}
 use Rattle.no_packet_loops.proofs.Example.{pair, pair_good}
 use Rattle.fabric.specs.Ahead.{SomePacketGoesAhead}
 use Rattle.fabric.specs.Fabric.{Fabric, fabric_of}
-use Rattle.fabric.specs.Images.{images_in_force}
+use Rattle.course.specs.Images.{images_in_force}
 use Rattle.fabric.specs.Writers.{IsPending, LentAreDue}
 
 -- the link comes up, both routers hear of that, router 0 publishes and tells router 1 of its prefix, and router 1 takes that

@@ -7,7 +7,7 @@ use Rattle.all_packets.proofs.Improving.{way_by}
 use Rattle.all_packets.proofs.Ways.{always_no_moving_circles}
 use Rattle.quiet_routes.proofs.Routes.{quiet_routes}
 use Rattle.convergence.proofs.Converging.{always_converges}
-use Rattle.fabric.specs.Images.{image_in_force}
+use Rattle.course.specs.Images.{image_in_force}
 use Rattle.fabric.specs.Fabric.{Fabric, is_lent, IsFabric}
 use Rattle.fabric.specs.Headline.{image_row, image_hop, GoesByImage, IsMovingImageWay, NeverMeetsTwice, LeadsAtLeastCost, ConvergesLeftAlone}
 

@@ -3,7 +3,8 @@ use Rattle.std.proofs.Common.{refl, sym, ap, subst, ◌∙◌, ◌≡◌, ℕ, L
 use Rattle.no_packet_loops.proofs.Common.{slice_get-map, Prefix, Entry, Router, World, Image, answer_of, None_not_Some, Some_injective}
 use Rattle.publication.specs.declared.known.Known.{Known}
 use Rattle.publication.specs.Lists.{Writing, generation_of, image_of}
-use Rattle.fabric.specs.Images.{answer_at, image_in_force, images_in_force}
+use Rattle.course.specs.Images.{image_in_force, images_in_force}
+use Rattle.fabric.specs.Images.{answer_at}
 use Rattle.fabric.specs.Writers.{shown_images}
 
 module _ (openings : List (List (Prefix × Entry))) (w : World) (writers : List Writing) (shown : shown_images openings writers ≡ images_in_force w) (i : ℕ) (x : Writing) (there : slice_get writers i ≡ Some x) where

@@ -6,7 +6,7 @@ use Rattle.publication.specs.declared.known.Known.{Known}
 use Rattle.publication.specs.Lists.{EachAt, Writing, image_of, is_named, new_writing, opening_of}
 use Rattle.fabric.specs.Desks.{all_lent, desk_in, writings}
 use Rattle.fabric.specs.Fabric.{count_lent, fabric_of, opening_fabric, IsFabric}
-use Rattle.fabric.specs.Images.{chosen_image, images_in_force}
+use Rattle.course.specs.Images.{chosen_image, images_in_force}
 use Rattle.fabric.specs.Writers.{ArePending, AreReaders, AreWriters, IsPending, IsReaderPort, opening_tables, shown_images}
 use Rattle.fabric.proofs.Fabrics.{kept_at_opening}
 use Rattle.fabric.proofs.WritersOut.{count-none, none_lent}

@@ -12,7 +12,7 @@ use Rattle.publication.specs.declared.known.Known.{Known}
 use Rattle.publication.specs.Lists.{Covers, Writing, generation_of, image_of, is_named, patch_of, patched_prefixes}
 use Rattle.publication.proofs.RowsAgain.{has_row}
 use Rattle.fabric.specs.Fabric.{fabric_of, IsFabric}
-use Rattle.fabric.specs.Images.{due_at, image_in_force, images_in_force}
+use Rattle.course.specs.Images.{due_at, image_in_force, images_in_force}
 use Rattle.fabric.specs.Patches.{IsPatchDue, rows_to_set}
 use Rattle.fabric.specs.Writers.{AreHeard, AreReaders, AreWriters, IsHeard, shown_images, waiting_at}
 use Rattle.fabric.proofs.Fabrics.{image_at}

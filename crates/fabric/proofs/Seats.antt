@@ -13,10 +13,11 @@ use Rattle.publication.proofs.Places.{each_set, each_there}
 use Rattle.publication.proofs.Tables.{image-covered}
 use Rattle.fabric.specs.Desks.{Desk, all_lent, desk_in, desk_out, writings}
 use Rattle.fabric.specs.Fabric.{after_step, awaits_writer, count_lent, fabric_of, lent_at, with_lent, IsFabric}
-use Rattle.fabric.specs.Images.{due_at, image_in_force, images_in_force}
+use Rattle.course.specs.Images.{due_at, image_in_force, images_in_force}
 use Rattle.fabric.specs.Patches.{IsPatchDue}
 use Rattle.fabric.specs.Writers.{AreHeard, ArePending, AreWriters, IsPending, shown_images, waiting_at, fabric_seen}
-use Rattle.fabric.proofs.Fabrics.{due_of, images_due, kept_lent}
+use Rattle.course.proofs.Images.{due_of}
+use Rattle.fabric.proofs.Fabrics.{images_due, kept_lent}
 use Rattle.fabric.proofs.ImagesInForce.{router_of}
 use Rattle.fabric.proofs.WritersOut.{all_pending_next, count-set, lent_none, lent_there, one}
 use Rattle.fabric.proofs.Publications.{IsDue, is_due_by, makes, number_is, still_heard, unseen_shown, writer_within, writers_set}

@@ -8,7 +8,7 @@ use Rattle.publication.specs.Lists.{Writing}
 use Rattle.publication.proofs.Places.{each_there, there_each}
 use Rattle.fabric.specs.Desks.{Desk, all_lent, desk_in}
 use Rattle.fabric.specs.Fabric.{Fabric, awaits_writer, count_lent, is_lent, lent_at}
-use Rattle.fabric.specs.Images.{image_in_force}
+use Rattle.course.specs.Images.{image_in_force}
 use Rattle.fabric.specs.Writers.{ArePending, IsPending}
 
 -- ---- how many are out

@@ -12,7 +12,7 @@ use Rattle.network_model.specs.Run.{Runs}
 use Rattle.network_model.specs.Journal.{Fits, most_steps, journal_sum}
 use Rattle.network_model.specs.Turns as turns
 use Rattle.network_model.specs.Publication.{Image, Patch, image_answer}
-use Rattle.fabric.specs.Images.{images_in_force}
+use Rattle.course.specs.Images.{images_in_force}
 
 -- the network that was opened, the steps done since, the world that they made, the image of each router, and the patch with which each router's writer is out, if it is. The image is the one in force at a router whose
 -- writer is in; at another it is the one that was in force when the writer left

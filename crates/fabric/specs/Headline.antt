@@ -10,7 +10,7 @@ use Rattle.all_packets.specs.Packets.{IsWayBy}
 use Rattle.quiet_routes.specs.Routes.{HasBestRow}
 use Rattle.convergence.specs.Converges.{Converges}
 use Rattle.fabric.specs.Fabric.{Fabric, is_lent}
-use Rattle.fabric.specs.Images.{image_in_force}
+use Rattle.course.specs.Images.{image_in_force}
 
 -- ---- mixtures: of the routers whose writers are out, some forward by what they have chosen, where by_control says so, the others by what they published
 

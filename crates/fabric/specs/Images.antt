@@ -1,26 +1,10 @@
--- The images in force, and what they answer.
-use Rattle.std.specs.Prelude.{ℕ, if◌then◌else◌, List, map, Option, Some, None, option_map, option_and_then, slice_get}
+-- What the images in force answer.
+use Rattle.std.specs.Prelude.{ℕ, Option, option_map, slice_get}
 use Rattle.network_model.specs.declared.route.Answer.{Answer}
-use Rattle.network_model.specs.World.{Router, World}
-use Rattle.network_model.specs.Step.{is_due, router_publishing}
-use Rattle.network_model.specs.Publication.{Image, answer_of}
-
--- the image in force at a router: the rows that it published, and which publication that was
-abbrev pub image_in_force : Router → Image
-image_in_force r = record { generation = r.generation; rows = (r.table).published }
-
--- those of all routers, in order
-abbrev pub images_in_force : World → List Image
-images_in_force w = map image_in_force w.routers
-
--- the image of the rows that a router has chosen, as it is made when a network opens
-abbrev pub chosen_image : Router → Image
-chosen_image r = record { generation = 0; rows = (r.table).control }
+use Rattle.network_model.specs.World.{World}
+use Rattle.network_model.specs.Publication.{answer_of}
+use Rattle.course.specs.Images.{image_in_force}
 
 -- what the image in force at a router answers for an address; nothing where there is no such router
 abbrev pub answer_at : World → ℕ → ℕ → Option Answer
 answer_at w i addr = option_map (λ r. answer_of (image_in_force r) addr) (slice_get w.routers i)
-
--- the image that a publication of router i would put in force; nothing where it would be refused
-abbrev pub due_at : World → ℕ → Option Image
-due_at w i = option_and_then (λ r. if is_due r then Some (image_in_force (router_publishing r)) else None) (slice_get w.routers i)

@@ -7,7 +7,7 @@ use Rattle.network_model.specs.World.{Router, Table, World}
 use Rattle.network_model.specs.Step.{has_row}
 use Rattle.image_patch.specs.declared.Patch.{Patch}
 use Rattle.image_patch.specs.Patches.{patched}
-use Rattle.fabric.specs.Images.{image_in_force, due_at}
+use Rattle.course.specs.Images.{image_in_force, due_at}
 
 -- the rows that a publication names: the chosen rows that differ from those in force, and those of the prefixes that wait
 abbrev pub rows_to_set : Table → List Prefix → List (Prefix × Entry)

@@ -13,7 +13,7 @@ use Rattle.image_patch.specs.Patches.{patched}
 use Rattle.network_model.specs.declared.step.Step.{Step}
 use Rattle.fabric.specs.Desks.{Desk, all_lent, writings}
 use Rattle.fabric.specs.Fabric.{Fabric, count_lent, fabric_of, lent_at, IsFabric, IsSumOf}
-use Rattle.fabric.specs.Images.{image_in_force}
+use Rattle.course.specs.Images.{image_in_force}
 
 -- the rows that each router of a network has chosen when it opens, by the routers' numbers
 abbrev pub opening_tables : Network → List (List (Prefix × Entry))

@@ -7,7 +7,7 @@ use Rattle.network_model.specs.declared.step.Step.{Step}
 use Rattle.network_model.specs.Journal.{most_steps}
 use Rattle.network_model.specs.Step.{refusal}
 use Rattle.world.specs.Steps.{CanBeRefused, IsDoneOr}
-use Rattle.fabric.proofs.Causes.{refused_as}
+use Rattle.course.proofs.Courses.{refused_as}
 use Rattle.simulation.specs.Simulation.{Simulation, simulation_refusal}
 use Rattle.play.specs.Replays.{replay_refusal}
 

@@ -3,7 +3,7 @@ use Rattle.std.specs.Prelude.{⊤}
 use Rattle.network_model.specs.declared.step.Refusal.{Refusal}
 use Rattle.std.proofs.Common.{◌≡◌, List, [], ◌∷◌, ◌++◌, Option, Result, Ok, Err, IsOk, IfErr, OnErr, MatchResult, refl, sym, subst, true≢false}
 use Rattle.world.specs.Steps.{CanBeRefused, IsDoneOr}
-use Rattle.fabric.proofs.Causes.{refused_as}
+use Rattle.course.proofs.Courses.{refused_as}
 use Rattle.script.specs.declared.command.Command.{Command}
 use Rattle.plans.specs.declared.fault.Cause.{Cause}
 use Rattle.plans.specs.declared.fault.Cause.TheVariants.{Refused}

@@ -4,7 +4,7 @@ use Rattle.no_packet_loops.proofs.Common.{slice_get-map, longest_match, entry_le
 use Rattle.network_model.specs.Forwarding.{hop}
 use Rattle.all_packets.specs.Packets.{IsWay, NoPacketCircles}
 use Rattle.all_packets.proofs.Improving.{way_by}
-use Rattle.simulation.specs.InForce.{image_in_force}
+use Rattle.course.specs.Images.{image_in_force}
 use Rattle.simulation.specs.Simulation.{Simulation, IsSimulation}
 use Rattle.simulation.specs.Headline.{image_hop, IsImageWay, NeverMeetsTwice}
 

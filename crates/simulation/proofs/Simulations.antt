@@ -3,9 +3,9 @@ use Rattle.std.proofs.Common.{refl, sym, ap, ◌∙◌, ◌≡◌, ℕ, List, []
 use Rattle.no_packet_loops.proofs.Common.{length-map, range_with_len, Router, World, Network, opening, Image, image_answer, Some_injective}
 use Rattle.network_model.specs.declared.step.Step.{Step}
 use Rattle.course.specs.Course.{Course, opening_course, after_steps as course_after}
-use Rattle.simulation.specs.InForce.{image_in_force, images_in_force, chosen_image}
+use Rattle.course.specs.Images.{image_in_force, images_in_force, chosen_image}
 use Rattle.simulation.specs.Simulation.{Simulation, after_step, after_steps, course_part, opening_simulation, with_images, ForwardsAsPublished, IsSimulation}
-use Rattle.simulation.proofs.InForce.{chosen_published, image_at}
+use Rattle.course.proofs.Images.{chosen_published, image_at}
 
 -- ---- the images in force
 

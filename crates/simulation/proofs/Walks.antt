@@ -5,7 +5,7 @@ use Rattle.no_packet_loops.proofs.Traces.{by_entry-goes}
 use Rattle.network_model.specs.Forwarding.{hop}
 use Rattle.all_packets.specs.Packets.{IsWay, NoPacketCircles}
 use Rattle.all_packets.specs.Through.{through_from}
-use Rattle.simulation.specs.InForce.{image_in_force, images_in_force}
+use Rattle.course.specs.Images.{image_in_force, images_in_force}
 use Rattle.course.specs.Links.{HasShortWays as HasShortWaysThere, LeadsToRouters}
 use Rattle.simulation.specs.Simulation.{Simulation, IsSimulation}
 use Rattle.simulation.proofs.Headline.{along_images}

@@ -1,4 +1,4 @@
-pub mod InForce
+pub mod Patches
 pub mod Simulation
 pub mod Headline
 pub mod Settling

@@ -8,7 +8,7 @@ use Rattle.network_model.specs.World.{Network, Router, World, opening}
 use Rattle.network_model.specs.Step.{next}
 use Rattle.network_model.specs.Publication.{Image, image_answer, answer_of}
 use Rattle.course.specs.declared.sent.Sent.{Sent}
-use Rattle.simulation.specs.InForce.{images_in_force}
+use Rattle.course.specs.Images.{images_in_force}
 use Rattle.course.specs.Counts.{leaving, none_sent, with_sent}
 use Rattle.course.specs.Course.{Course, course_of, course_refusal}
 

@@ -5,7 +5,8 @@ ghost use Rattle.network_model.specs.Step as steps;
 ghost use Rattle.network_model.specs.Step.{router_publishing};
 ghost use Rattle.world.specs.Steps.{DeliversWithRoom, DiscardsStale, HasRoomForSteps, IsDoneOr};
 ghost use Rattle.course.specs.Course.{after_step, course_refusal};
-ghost use Rattle.simulation.specs.InForce.{chosen_image, due_at, image_in_force, images_in_force, IsPatchDue};
+ghost use Rattle.course.specs.Images.{chosen_image, due_at, image_in_force, images_in_force};
+ghost use Rattle.simulation.specs.Patches.{IsPatchDue};
 ghost use Rattle.image_patch.specs.Patches.{patched};
 
 use course::Course;

@@ -15,9 +15,7 @@
 //! What always holds of a simulation besides what holds of its course (`IsSimulation` in
 //! `specs/Simulation.antt`): each image has what its router published. From both come the four parts of the
 //! headline, which `open`, `step`, `run` and `holds` hand on: `forwards`, `no_loop`, `least_cost` and `converges`.
-//!
-//! Which image is in force, and which is due, is defined in `fabric` and once more here, in the same words.
-//! Neither stands on the other, so a library for C has no lock below it.
+//! Which image is in force, and which is due, is defined in `course`, so a library for C has no lock below it.
 #![tactic(auto)]
 
 mod images;

@@ -2,7 +2,7 @@ use Rattle.std.proofs.Common.{◌≡◌, ◌∙◌, Some, ap, refl, sym, subst, 
 use Rattle.fabric.specs.Fabric.{Fabric, fabric_refusal, next_fabric_step}
 use Rattle.control.specs.Served.{IsStopped, none_asked}
 use Rattle.control.proofs.Served.{done_free, served_next, served_none, stopped, turn_next}
-use Rattle.fabric.proofs.Causes.{refused_as}
+use Rattle.course.proofs.Courses.{refused_as}
 use Rattle.control.proofs.ordered.settle_in_order.Goals as goal
 
 pub loop-init : goal.loop-init

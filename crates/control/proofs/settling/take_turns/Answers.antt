@@ -2,7 +2,7 @@ use Rattle.std.proofs.Common.{◌≡◌, ◌∙◌, Some, ap, refl, sym, subst, 
 use Rattle.fabric.specs.Fabric.{Fabric, fabric_refusal, next_fabric_step}
 use Rattle.control.specs.Served.{IsStopped, none_asked}
 use Rattle.control.proofs.Served.{done_free, served_next, stopped, turn_next}
-use Rattle.fabric.proofs.Causes.{refused_as}
+use Rattle.course.proofs.Courses.{refused_as}
 use Rattle.control.proofs.settling.take_turns.Goals as goal
 
 -- the step that was done was the router's next

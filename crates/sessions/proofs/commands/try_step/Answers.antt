@@ -1,6 +1,6 @@
 use Rattle.std.proofs.Common.{OnErr, ◌≡◌, inr, subst}
 use Rattle.world.specs.Steps.{IsDoneOr}
-use Rattle.fabric.proofs.Causes.{refused_as}
+use Rattle.course.proofs.Courses.{refused_as}
 use Rattle.sessions.specs.Nets.{refusal_of}
 use Rattle.sessions.proofs.commands.try_step.Goals as goal
 

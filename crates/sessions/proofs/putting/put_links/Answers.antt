@@ -1,7 +1,7 @@
 use Rattle.std.proofs.Common.{◌∙◌, ◌<◌, inr, ap, length, sym, subst, arith}
 use Rattle.network_model.specs.World.{Network}
 use Rattle.world.specs.Steps.{CanBeRefused}
-use Rattle.fabric.proofs.Causes.{refused_as}
+use Rattle.course.proofs.Courses.{refused_as}
 use Rattle.sessions.specs.Commands.{is_amiss_at}
 use Rattle.sessions.specs.Nets.{refusal_of}
 use Rattle.sessions.proofs.Links.{none_below}

@@ -1,6 +1,6 @@
 use Rattle.std.proofs.Common.{sym, ap, ◌∙◌, ◌++◌, ◌∷◌, [], map, get_or, take_all}
 use Rattle.no_packet_loops.proofs.Common.{map_more, Image}
-use Rattle.simulation.specs.InForce.{chosen_image}
+use Rattle.course.specs.Images.{chosen_image}
 use Rattle.simulation.proofs.images.opening_images.Goals as goal
 
 pub loop-router-preserved : goal.loop-router-preserved

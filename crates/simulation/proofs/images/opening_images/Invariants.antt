@@ -1,5 +1,5 @@
 use Rattle.std.proofs.Common.{◌≡◌, map, take}
-use Rattle.simulation.specs.InForce.{chosen_image}
+use Rattle.course.specs.Images.{chosen_image}
 use Rattle.simulation.proofs.images.opening_images.Given as goal
 
 abbrev pub invariant-loop-router : goal.invariant-loop-router

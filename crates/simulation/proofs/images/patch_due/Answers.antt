@@ -1,6 +1,6 @@
 use Rattle.std.proofs.Common.{refl, sym, ap, subst, ◌∙◌, Some, IsSome}
 use Rattle.router_core.proofs.Refused.{gave_up}
-use Rattle.simulation.proofs.InForce.{due_read}
+use Rattle.course.proofs.Images.{due_read}
 use Rattle.simulation.proofs.images.patch_due.Goals as goal
 
 pub returns-in_err-next_patch-clause-err : goal.returns-in_err-next_patch-clause-err

@@ -5,8 +5,10 @@ use Rattle.world.specs.Steps.{IsDoneOr}
 use Rattle.world.proofs.Done.{memory_lacked}
 use Rattle.course.specs.Course.{Course, after_step, course_refusal}
 use Rattle.course.proofs.Elements.{read_at}
-use Rattle.simulation.specs.InForce.{due_at, IsPatchDue}
-use Rattle.simulation.proofs.InForce.{due_there, due_lawful, has_image, patch_lawful, published_shown}
+use Rattle.course.specs.Images.{due_at}
+use Rattle.simulation.specs.Patches.{IsPatchDue}
+use Rattle.course.proofs.Images.{due_lawful, has_image}
+use Rattle.simulation.proofs.InForce.{due_there, patch_lawful, published_shown}
 use Rattle.simulation.proofs.images.publish.Given as given
 use Rattle.simulation.proofs.images.publish.Goals as goal
 

@@ -4,7 +4,7 @@ use Rattle.network_model.specs.Step.{Lawful}
 use Rattle.world.specs.Steps.{IsDoneOr}
 use Rattle.fabric.specs.Fabric.{Fabric, fabric_refusal, next_fabric_step}
 use Rattle.control.proofs.Served.{done_none, next_router, turn_next}
-use Rattle.fabric.proofs.Causes.{refused_as}
+use Rattle.course.proofs.Courses.{refused_as}
 use Rattle.control.proofs.guarded.Guarded.begin.Goals as goal
 
 pub lend-requires : goal.lend-requires

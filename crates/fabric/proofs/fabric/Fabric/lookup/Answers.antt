@@ -4,7 +4,8 @@ use Rattle.publication.specs.declared.known.Known.{Known}
 use Rattle.publication.specs.Lists.{image_of}
 use Rattle.publication.proofs.Places.{each_set}
 use Rattle.fabric.specs.Fabric.{Fabric}
-use Rattle.fabric.specs.Images.{answer_at, image_in_force, images_in_force}
+use Rattle.course.specs.Images.{image_in_force, images_in_force}
+use Rattle.fabric.specs.Images.{answer_at}
 use Rattle.fabric.proofs.Causes.{nothing_at}
 use Rattle.fabric.proofs.ImagesInForce.{answer_shown}
 use Rattle.fabric.proofs.fabric.Fabric.lookup.Given as given

@@ -8,10 +8,11 @@ use Rattle.publication.specs.Lists.{Writing, image_of, patch_of}
 use Rattle.publication.specs.Outings.{Outing}
 use Rattle.fabric.specs.Desks.{all_lent, desk_out, writings}
 use Rattle.fabric.specs.Fabric.{Fabric, count_lent, fabric_of, fabric_refusal, lent_at, with_lent, IsFabric}
-use Rattle.fabric.specs.Images.{due_at}
+use Rattle.course.specs.Images.{due_at}
 use Rattle.fabric.specs.Patches.{IsPatchDue}
 use Rattle.fabric.specs.Writers.{ArePending, AreWriters, shown_images, waiting_at, fabric_seen}
-use Rattle.fabric.proofs.Causes.{admitted, due_lawful, due_seen}
+use Rattle.course.proofs.Images.{due_lawful}
+use Rattle.fabric.proofs.Causes.{admitted, due_seen}
 use Rattle.fabric.proofs.Fabrics.{room_left}
 use Rattle.fabric.proofs.Publications.{IsDue, due_there, names_all, next_number, number_is, shows}
 use Rattle.fabric.proofs.Seats.{count_away, desk_within, due_desk, is_in, kept_away, lent_away, none_kept, pending_away, seat, shown_away, writers_away, writing_there}

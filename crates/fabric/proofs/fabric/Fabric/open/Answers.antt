@@ -3,7 +3,7 @@ use Rattle.no_packet_loops.proofs.Common.{most_routers, length-map, World, openi
 use Rattle.no_packet_loops.proofs.Wiring.{few_routers}
 use Rattle.publication.specs.Lists.{no_patches}
 use Rattle.course.specs.Course.{Course}
-use Rattle.fabric.specs.Images.{chosen_image}
+use Rattle.course.specs.Images.{chosen_image}
 use Rattle.fabric.specs.Desks.{all_lent, desk_in, writings}
 use Rattle.fabric.specs.Fabric.{count_lent, fabric_of, IsFabric}
 use Rattle.fabric.specs.Writers.{ArePending, AreWriters, FitTogether, IsReaderPort, shown_images, fabric_seen}

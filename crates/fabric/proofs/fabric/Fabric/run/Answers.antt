@@ -4,7 +4,7 @@ use Rattle.network_model.specs.declared.step.Step.{Step}
 use Rattle.no_packet_loops.proofs.Common.{Lawful, Runs, slice_get_read}
 use Rattle.world.specs.Steps.{CanBeRefused}
 use Rattle.fabric.specs.Fabric.{Fabric, after_step, fabric_refusal}
-use Rattle.fabric.proofs.Causes.{refused_as}
+use Rattle.course.proofs.Courses.{refused_as}
 use Rattle.world.proofs.Runs.{with_last_step}
 use Rattle.fabric.proofs.fabric.Fabric.run.Goals as goal
 
