@@ -1,5 +1,5 @@
 -- What a step leaves of what every course keeps.
-use Rattle.std.proofs.Common.{refl, sym, ap, subst, ◌∙◌, arith, length-append, ◌≡◌, ℕ, ◌+◌, ◌^◌, ◌<◌, ◌≤◌, List, [], ◌∷◌, ◌++◌, length, true, false, if◌then◌else◌, Option, Some, None, Result, Err}
+use Rattle.std.proofs.Common.{refl, sym, ap, ◌∙◌, arith, length-append, ◌≡◌, ℕ, ◌+◌, ◌^◌, ◌<◌, ◌≤◌, List, [], ◌∷◌, ◌++◌, length, true, false, if◌then◌else◌, Option, Some, None, Result, Err}
 use Rattle.std.proofs.lemmas.Bool.{lt-ltb, le-ltb}
 use Rattle.no_packet_loops.proofs.Common.{World, Network, opening, IsNetwork, Lawful, next, refusal, Refusal}
 use Rattle.metric.specs.declared.kind.Kind.{Kind}
@@ -74,14 +74,13 @@ same_world c w world = ap (λ v. course_of c.network v c.steps c.sent) world
 pub counted : (c : Course) (step : Step) → c.steps + 1 < 2 ^ 64 → course_refusal c step ≡ refusal c.world step
 counted c step short = ap (λ b. if b then refusal c.world step else Some Refusal.JournalFull) (lt-ltb (c.steps + 1) (2 ^ 64) short)
 
+-- the same of a course that was seen
+pub counted_seen : (c d : Course) (step : Step) → c ≡ d → c.steps + 1 < 2 ^ 64 → course_refusal d step ≡ refusal c.world step
+counted_seen c d step seen short = ap (λ (x : Course). course_refusal x step) (sym seen) ∙ counted c step short
+
 -- and while they cannot, because of that
 pub uncounted : (c : Course) (step : Step) → 2 ^ 64 ≤ c.steps + 1 → course_refusal c step ≡ Some Refusal.JournalFull
 uncounted c step full = ap (λ b. if b then refusal c.world step else Some Refusal.JournalFull) (le-ltb (c.steps + 1) (2 ^ 64) full)
-
--- a call that passes on why a step of the world was refused
-pub passed_on : {X : Type 0} (c : Course) (step : Step) (r : Result X Refusal) (e : Refusal) → c.steps + 1 < 2 ^ 64 → IsDoneOr {X = X} (refusal c.world step) (Err e) → (x : Refusal) × (r ≡ Err x) × (x ≡ e) → IsDoneOr (course_refusal c step) r
-passed_on {X} c step r e short failed found =
-    subst (IsDoneOr (course_refusal c step)) (sym (found.1 ∙ ap Err found.2)) (subst (λ o. IsDoneOr {X = X} o (Err e)) (sym (counted c step short)) failed)
 
 -- a call that answers this refusal was refused for its cause, or for want of memory
 pub refused_as : (X : Type 0) (cause : Option Refusal) (e : Refusal) → IsDoneOr {X = X} cause (Err e) → CanBeRefused cause e

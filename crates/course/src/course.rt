@@ -17,7 +17,7 @@ use crate::watch::Watch;
 use network_model::{NoMemory, Refusal, SmallAllocator, Step};
 use std::alloc::Global;
 use std::marker::Model;
-use world::{Network, Touched, WatchedWorld, World};
+use world::{Network, WatchedWorld, World};
 
 /// A network that runs. It takes memory by the routers, links, rows and messages under way, and not by the steps.
 #[derive(Drop)]
@@ -186,9 +186,8 @@ impl<A: SmallAllocator> Course<A> {
             return Err(Refusal::JournalFull);
         }
         let kind = leaving(self.world.world(), &step);
-        let touched = Touched::by(&step, self.world.world());
+        let touched = self.world.step(step)?;
         self.watch.note(&self.network, &step, touched);
-        self.world.step(step)?;
         self.steps += 1;
         self.sent = self.sent.with(kind);
         Ok(())

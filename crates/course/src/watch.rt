@@ -92,8 +92,8 @@ impl<A: SmallAllocator> Watch<A> {
         None
     }
 
-    /// What a step brings to do that is about to be done, and touches this. What takes from a link brings its
-    /// far end nothing to do.
+    /// What a step brings to do that was done, and touched this. What takes from a link brings its far end nothing
+    /// to do.
     pub fn note(&mut self, network: &Network, step: &Step, touched: Touched) {
         if let Some(router) = touched.router.or(touched.attachments) {
             self.add(router);

@@ -4,6 +4,7 @@ pub mod Openings
 pub mod Faults
 pub mod Headline
 pub mod Degrees
+pub mod Causes
 pub mod Done
 pub mod Ranges
 pub mod Runs

@@ -7,7 +7,7 @@ ghost use Rattle.network_model.specs.Step as steps;
 ghost use Rattle.network_model.specs.Turns as turns;
 ghost use Rattle.world.specs.Steps.{DeliversWithRoom, DiscardsStale, IsDoneOr, HasRoomForSteps};
 ghost use Rattle.world.specs.Rest.{has_notice, is_busy, is_restless};
-ghost use Rattle.world.specs.Touched.{unrest_at};
+ghost use Rattle.world.specs.Touched.{touched_by, unrest_at};
 
 use crate::network::Network;
 use crate::touched::Touched;
@@ -75,8 +75,8 @@ impl<A: SmallAllocator> WatchedWorld<A> {
         self.unrest == 0
     }
 
-    /// Does one step, as the world does it.
-    pub fn step(&mut self, step: Step) -> Result<(), Refusal>
+    /// Does one step, as the world does it, and answers what the step could change.
+    pub fn step(&mut self, step: Step) -> Result<Touched, Refusal>
         requires { HasRoomForSteps 1 self.old }
         ensures ok { OnOk result (steps.Lawful self.old step
             × (self.new ≡ steps.next self.old step)) }
@@ -88,13 +88,14 @@ impl<A: SmallAllocator> WatchedWorld<A> {
             → MatchOption (steps.refusal self.old step) (IsOk result) (λ e. result ≡ Err e) }
         ensures stale { DiscardsStale self.old step result }
         ensures room { DeliversWithRoom self.old step result }
+        ensures touched { IfOk result (λ t. t ≡ touched_by step self.old) }
     {
         let touched = Touched::by(&step, &self.world);
         let before = unrest_of(touched, &self.world);
         self.world.step(step)?;
         let after = unrest_of(touched, &self.world);
         self.unrest = self.unrest - before + after;
-        Ok(())
+        Ok(touched)
     }
 }
 
