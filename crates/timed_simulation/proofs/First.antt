@@ -343,7 +343,7 @@ module _ (t : Timed) (K : IsOnTime (world_of t) t.clock t.links t.routers t.chan
         (due_of_many (arrival_event t i) (option_map_or (λ d. d) (degree_of (world_of t) i) 0) (λ q _. arrival_due q)))
         home_due
 
-    router_due : IsDueIf (router_event t i)
+    pub router_due : IsDueIf (router_event t i)
     router_due = by_release (release_at (world_of t) i) refl
       where
         by_release : (o : Option Held) → release_at (world_of t) i ≡ o → IsDueIf (option_map_or (λ (e : Event). Some e) (option_map (λ (h : Held). event_now t (Release i)) o) (waiting_event t i))

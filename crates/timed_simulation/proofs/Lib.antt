@@ -13,4 +13,6 @@ pub mod Since
 pub mod Motions
 pub mod Lawful
 pub mod Rest
+pub mod Apart
+pub mod Nexts
 pub mod Example

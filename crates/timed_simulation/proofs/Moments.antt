@@ -14,7 +14,7 @@ abbrev pub NotBefore : ℕ → Option Event → Type 0
 NotBefore m None = Unit {0}
 NotBefore m (Some e) = m ≤ e.moment
 
-sooner-after : (m : ℕ) (a b : Option Event) → NotBefore m a → NotBefore m b → NotBefore m (sooner a b)
+pub sooner-after : (m : ℕ) (a b : Option Event) → NotBefore m a → NotBefore m b → NotBefore m (sooner a b)
 sooner-after m None b p q = q
 sooner-after m (Some a) None p q = p
 sooner-after m (Some a) (Some b) p q = by_order (nat_lt b.moment a.moment)

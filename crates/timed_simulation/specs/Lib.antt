@@ -5,3 +5,4 @@ pub mod Due
 pub mod Since
 pub mod Runs
 pub mod Kinds
+pub mod Next

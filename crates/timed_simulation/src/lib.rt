@@ -12,6 +12,7 @@
 //!     links        for each direction its delay, and for each item on its way the moment of its arrival
 //!     routers      for each its delay, and since when it has something to publish
 //!     changes      those that are given and not yet done, by their moments
+//!     minima       for each router when it has something to do next, and which of them is first
 //! ```
 //!
 //! The *event list* is what is left to do, each at its moment:
@@ -38,7 +39,8 @@
 //! is refused.
 //!
 //! What always holds (`IsTimed` in `specs/Runs.antt`): some events, whose moments never decrease, lead by
-//! lawful steps from the opening of the network to its world. A refused call changes nothing.
+//! lawful steps from the opening of the network to its world, and the moments that are kept are those of the
+//! routers (`KeepsMoments` in `specs/Next.antt`). A refused call changes nothing.
 //!
 //! Where there was a choice:
 //!
@@ -51,10 +53,13 @@
 //! - Sums stop at 2^64 - 1, and an event at that moment is refused with 52 (`TimeSpent`), because a sum
 //!   that wrapped would be done first. A change for a moment that is past is refused with 51
 //!   (`PastMoment`).
-//! - The next event is looked for in all routers. A heap of events would have to take out those of
-//!   messages that a link loses.
+//! - A tree has the moment of each router (`minima`), and after an event only those routers are asked again
+//!   that its step touched (`src/again.rt`), because all others keep what they have to do next. A heap of events
+//!   would have to take out those of messages that a link loses.
 #![tactic(auto)]
 
+mod again;
+mod clocked;
 mod events;
 mod fault;
 mod links;

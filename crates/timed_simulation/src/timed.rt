@@ -1,30 +1,26 @@
-//! The timed simulation: a simulation, and when what is left to do is due.
+//! The timed simulation: a simulation with a clock, and which of its routers is due first.
 
-ghost use Rattle.std.specs.Prelude.{ℕ, Err, IsTrue, ◌≡◌, ◌≤◌, ◌<◌, ◌+◌, ◌↔◌, ◌⊎◌, false, None, Some, drop, length, slice_get, IfOk, IfErr, IfSome, IfNone, OnOk, OnErr, MatchOption};
-ghost use Rattle.network_model.specs.World.{degree_of, place_at};
+ghost use Rattle.std.specs.Prelude.{IsTrue, ◌≡◌, ◌≤◌, ◌<◌, ◌↔◌, ◌⊎◌, false, None, Some, drop, length, slice_get, IfOk, IfErr, IfSome, IfNone, OnOk, OnErr, MatchOption};
 ghost use Rattle.coming_to_rest.specs.Worlds.{is_own};
 ghost use Rattle.simulation.specs.Headline as headline;
 ghost use Rattle.simulation.specs.Simulation as simulations;
 ghost use Rattle.timed_simulation.specs.Timed.{after_event, opening_timed, with_change, world_of};
-ghost use Rattle.timed_simulation.specs.Events.{arrival_event, change_event, event_now, home_event, next_event, own_event, publication_event, publication_moment, router_event, waiting_event};
+ghost use Rattle.timed_simulation.specs.Events.{next_event, router_event, soonest};
 ghost use Rattle.timed_simulation.specs.Due.{IsDoneUntil, IsDue, IsFirst, NothingIsDue, NothingIsLate, NothingIsLeftOut};
 ghost use Rattle.timed_simulation.specs.Runs.{IsAtRest, IsGivenOr, IsNext, IsStoppedAt, IsStoppedFor, IsStoppedShort, IsTimed, IsTimedRun};
 
-use crate::events::{
-    Change, Event, RouterTime, begins_at, insert_change, note_begun, opening_routers, sooner,
-    take_done,
-};
+use crate::again::look_again;
+use crate::clocked::Clocked;
+use crate::events::{Change, Event, sooner};
 use crate::fault::TimeFault;
-use crate::links::{LinkDelays, LinkTimes, later, motion_of, note, opening_links, reserve};
-use network_model::{NoMemory, Place, SmallAllocator, Step};
+use crate::links::LinkDelays;
+use minima::Minima;
+use network_model::{NoMemory, SmallAllocator, Step};
 use simulation::Simulation;
 use std::alloc::Global;
 use std::collections::VecDeque;
 use std::marker::Model;
-use world::Network;
-
-/// The most ports that a router has.
-const MOST_PORTS: u8 = 32;
+use world::{Network, Touched};
 
 /// How far a run came: how many events were done, and why the next was not done, if it was due.
 #[derive(Clone, Copy, Debug, PartialEq, Eq)]
@@ -36,29 +32,20 @@ pub struct TimedRan {
 /// A network that runs in simulated time.
 #[derive(Drop)]
 pub struct TimedSimulation<A: SmallAllocator = Global> {
-    simulation: Simulation<A>,
-    // The moment of the last event.
-    clock: u64,
-    // When the items on each link arrive.
-    links: Vec<LinkTimes<A>, A>,
-    // How long each router takes to publish, and since when it is due.
-    routers: Vec<RouterTime, A>,
-    // The changes that are to be done, by their moments; of one moment as they were given.
-    changes: VecDeque<Change, A>,
+    clocked: Clocked<A>,
+    // When each router has something to do next.
+    minima: Minima<A>,
 }
 
 impl<A: SmallAllocator> Model for TimedSimulation<A> {
-    ghost use Rattle.std.specs.Prelude.{map};
-    ghost use Rattle.timed_simulation.specs.Links.{link_of};
-    ghost use Rattle.timed_simulation.specs.Timed.{Timed, timed_of};
-    ghost use Rattle.timed_simulation.specs.Runs.{IsTimed};
+    ghost use Rattle.timed_simulation.specs.Timed.{Timed};
+    ghost use Rattle.timed_simulation.specs.Next.{KeepsMoments};
 
     ghost Value = { Timed };
 
-    ghost view = { λ t. timed_of t.simulation t.clock (map link_of t.links.items) t.routers.items t.changes.items };
+    ghost view = { λ t. t.clocked };
 
-    ghost invariant = { λ t. IsTimed
-        (timed_of t.simulation t.clock (map link_of t.links.items) t.routers.items t.changes.items) };
+    ghost invariant = { λ t. KeepsMoments t.clocked t.minima };
 }
 
 impl<A: SmallAllocator> TimedSimulation<A> {
@@ -75,39 +62,30 @@ impl<A: SmallAllocator> TimedSimulation<A> {
         requires each_router { length routers.now ≡ network.routers }
         ensures { IfOk result (λ t. t ≡ opening_timed network links.now routers.now) }
     {
-        // A network has no fault, which its type keeps.
-        let _routers = network.routers();
-        let links = opening_links(alloc, links)?;
-        let routers = opening_routers(alloc, routers)?;
-        let simulation = Simulation::open(alloc, network)?;
-        Ok(TimedSimulation {
-            simulation,
-            clock: 0,
-            links,
-            routers,
-            changes: VecDeque::new(alloc),
-        })
+        let minima = Minima::new(alloc, network.routers())?;
+        let clocked = Clocked::open(alloc, network, links, routers)?;
+        Ok(TimedSimulation { clocked, minima })
     }
 
     /// The network, its world, the images in force, and how many steps and messages there were.
     pub fn simulation(&self) -> &Simulation<A>
         ensures { result.now ≡ (self.now).simulation }
     {
-        &self.simulation
+        self.clocked.simulation()
     }
 
     /// The moment of the last event, in microseconds since the opening.
     pub fn now(&self) -> u64
         ensures { result ≡ (self.now).clock }
     {
-        self.clock
+        self.clocked.now()
     }
 
     /// The changes that are to be done, by their moments.
     pub fn changes(&self) -> &VecDeque<Change, A>
         ensures { result.now.items ≡ (self.now).changes }
     {
-        &self.changes
+        self.clocked.changes()
     }
 
     /// Whether nothing is left to do: each change that was given is done, and the network is settled.
@@ -116,120 +94,17 @@ impl<A: SmallAllocator> TimedSimulation<A> {
         ensures nothing { IsTrue result ↔ NothingIsDue self.now }
         ensures least_cost { IsTrue result → headline.HasBestRows (self.now).simulation }
     {
-        self.changes.is_empty() && self.simulation.is_settled()
+        self.clocked.is_at_rest()
     }
 
-    // The first of the changes that were given.
-    fn change_event(&self) -> Option<Event>
-        ensures { result ≡ change_event self.now }
+    // The soonest of what the routers have to do, by number.
+    fn first_event(&self) -> Option<Event>
+        ensures { result ≡ soonest (router_event self.now) (length (world_of self.now).routers) }
     {
-        let change = *self.changes.front()?;
-        Some(Event {
-            moment: self.clock.max(change.moment),
-            step: change.step,
-            given: true,
-        })
-    }
-
-    // What a router has to do at a moment.
-    fn own_event(&self, moment: u64, step: Step) -> Event
-        ensures { result ≡ own_event self.now moment step }
-    {
-        Event {
-            moment: self.clock.max(moment),
-            step,
-            given: false,
+        match self.minima.first() {
+            Some(due) => self.clocked.router_event(due.router),
+            None => None,
         }
-    }
-
-    // What a router has to do at once.
-    fn event_now(&self, step: Step) -> Event
-        ensures { result ≡ event_now self.now step }
-    {
-        Event {
-            moment: self.clock,
-            step,
-            given: false,
-        }
-    }
-
-    // When a router publishes, if it has something to publish.
-    fn publication_moment(&self, router: u16) -> u64
-        ensures { result ≡ publication_moment self.now router }
-    {
-        match self.routers.get(usize::from(router)) {
-            Some(time) => later(time.since, time.delay),
-            None => 0,
-        }
-    }
-
-    // A router publishes, if it has something to publish.
-    fn publication_event(&self, router: u16) -> Option<Event>
-        ensures { result ≡ publication_event self.now router }
-    {
-        let found = self.simulation.world().routers().get(usize::from(router))?;
-        if !found.due() {
-            return None;
-        }
-        let moment = self.publication_moment(router);
-        Some(self.own_event(moment, Step::Publish { router }))
-    }
-
-    // A router takes the front item at a port, if there is one.
-    fn arrival_event(&self, router: u16, port: u8, place: Place) -> Option<Event>
-        requires { place_at (world_of self.now) router port ≡ Some place }
-        ensures { result ≡ arrival_event self.now router port }
-    {
-        let links = self.simulation.world().links();
-        let Ok(_) = links.front(place.link, place.end) else {
-            return None;
-        };
-        let moment = match self.links.get(usize::from(place.link)) {
-            Some(link) => link.front(place.end),
-            None => 0,
-        };
-        Some(self.own_event(moment, Step::Deliver { router, port }))
-    }
-
-    // A router takes the oldest notice of its attachments, at the port behind those of its links.
-    fn home_event(&self, router: u16, port: u8) -> Option<Event>
-        requires router { router < length (world_of self.now).routers }
-        requires port { degree_of (world_of self.now) router ≡ Some port }
-        ensures { result ≡ home_event self.now router }
-    {
-        if self.simulation.world().notices(router) == 0 {
-            return None;
-        }
-        Some(self.event_now(Step::Deliver { router, port }))
-    }
-
-    // The soonest of what a router has to do other than to release.
-    fn waiting_event(&self, router: u16) -> Option<Event>
-        requires { router < length (world_of self.now).routers }
-        ensures { result ≡ waiting_event self.now router }
-    {
-        // A network without faults has at most so many ports at a router.
-        let _routers = self.simulation.network().routers();
-        let mut first = None;
-        for port in 0..=MOST_PORTS {
-            let Some(place) = self.simulation.world().port(router, port) else {
-                let taken = sooner(self.publication_event(router), first);
-                return sooner(taken, self.home_event(router, port));
-            };
-            first = sooner(first, self.arrival_event(router, port, place));
-        }
-        unreachable!()
-    }
-
-    // What a router has to do next.
-    fn router_event(&self, router: u16) -> Option<Event>
-        requires { router < length (world_of self.now).routers }
-        ensures { result ≡ router_event self.now router }
-    {
-        if self.simulation.world().router(router).front().is_some() {
-            return Some(self.event_now(Step::Release { router }));
-        }
-        self.waiting_event(router)
     }
 
     /// What is done next, if anything is left to do: the soonest of the changes that were given, and of what
@@ -242,12 +117,8 @@ impl<A: SmallAllocator> TimedSimulation<A> {
         ensures first { IfSome result (IsFirst self.now) }
         ensures none { IfNone result (NothingIsDue self.now) }
     {
-        let mut first = None;
-        for place in 0..self.simulation.network().routers() {
-            let router = place as u16;
-            first = sooner(first, self.router_event(router));
-        }
-        sooner(self.change_event(), first)
+        self.clocked.holds();
+        sooner(self.clocked.change_event(), self.first_event())
     }
 
     // The same, where its moment is no later than this one.
@@ -271,17 +142,7 @@ impl<A: SmallAllocator> TimedSimulation<A> {
         ensures err { OnErr result (self.new ≡ self.old) }
         ensures cause { IsGivenOr (self.old).clock moment result }
     {
-        if moment < self.clock {
-            return Err(TimeFault::PastMoment);
-        }
-        insert_change(
-            &mut self.changes,
-            Change {
-                moment,
-                step: change,
-            },
-        )?;
-        Ok(())
+        self.clocked.at(moment, change)
     }
 
     /// Takes the first of the changes off the list, for example one whose step is refused.
@@ -289,7 +150,7 @@ impl<A: SmallAllocator> TimedSimulation<A> {
         ensures change { result ≡ slice_get (self.old).changes 0 }
         ensures rest { self.new ≡ record self.old { changes = drop 1 (self.old).changes } }
     {
-        self.changes.pop_front()
+        self.clocked.withdraw()
     }
 
     // Does the next event. Refused, it leaves all as it was.
@@ -299,17 +160,10 @@ impl<A: SmallAllocator> TimedSimulation<A> {
         ensures err { OnErr result (self.new ≡ self.old) }
         ensures cause { IfErr result (IsStoppedFor self.old event) }
     {
-        if event.moment >= u64::MAX {
-            return Err(TimeFault::TimeSpent);
-        }
-        let motion = motion_of(self.simulation.world(), &event.step);
-        let begins = begins_at(self.simulation.world(), &event.step);
-        reserve(&mut self.links, motion)?;
-        self.simulation.step(event.step)?;
-        note(&mut self.links, event.moment, motion);
-        note_begun(&mut self.routers, event.moment, begins);
-        take_done(&mut self.changes, event.given);
-        self.clock = event.moment;
+        self.clocked.holds();
+        let touched = Touched::by(&event.step, self.clocked.simulation().world());
+        self.clocked.do_event(event)?;
+        look_again(&mut self.minima, &self.clocked, touched);
         Ok(())
     }
 
@@ -395,6 +249,6 @@ impl<A: SmallAllocator> TimedSimulation<A> {
         ensures least_cost { headline.LeadsAtLeastCost (self.now).simulation }
         ensures converges { headline.ConvergesLeftAlone (self.now).simulation }
     {
-        self.simulation.holds();
+        self.clocked.holds();
     }
 }

@@ -108,7 +108,7 @@ opening_router-rests : (n : Network) (i : ℕ) → is_restless (opening_router_o
 opening_router-rests n i = ap (λ xs. (nat_lt 0 (length xs) || nat_lt 0 0) || nat_lt 0 0) (none_changed (map (λ a. (a.0, Local)) (costs_of n i)) (sorted-map prefix_cmp (λ (c : ℕ). Local) (costs_of n i) ∙ sorted-rows_of (map (λ a. (a.0, a.2)) (filter (λ a. a.1 == i) n.attachments))))
 
 -- a network that opens is at rest
-opening-rests : (n : Network) → unrest (opening n) ≡ 0
+pub opening-rests : (n : Network) → unrest (opening n) ≡ 0
 opening-rests n =
     let links = count-none is_busy opening_link n.links (λ s. refl) in
     let notices = count-none has_notice (λ i. record { costs = costs_of n i; notices = [] }) (range_with_len 0 n.routers) (λ i. refl) in

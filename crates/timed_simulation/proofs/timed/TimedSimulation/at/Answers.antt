@@ -1,23 +1,17 @@
-use Rattle.std.proofs.Common.{map, sym, subst}
-use Rattle.timed_simulation.specs.declared.events.Change.{Change}
-use Rattle.timed_simulation.specs.Links.{link_of}
-use Rattle.timed_simulation.specs.Timed.{timed_of, Timed}
-use Rattle.timed_simulation.specs.Due.{RisesFrom}
-use Rattle.timed_simulation.proofs.Rising.{with_one_more}
-use Rattle.timed_simulation.proofs.Runs.{kept_changes}
+use Rattle.std.proofs.Common.{◌≡◌, subst, OnErr, OnOk}
+use Rattle.timed_simulation.specs.Timed.{Timed, with_change}
+use Rattle.timed_simulation.specs.Runs.{IsGivenOr}
+use Rattle.timed_simulation.proofs.Nexts.{kept_given}
 use Rattle.timed_simulation.proofs.timed.TimedSimulation.at.Goals as goal
 
--- no memory for the change
 pub invariant_of-self : goal.invariant_of-self
-invariant_of-self g c =
-    let old : Timed = timed_of c.self.inside.simulation c.self.inside.clock (map link_of c.self.inside.links.items) c.self.inside.routers.items c.self.inside.changes.items in
-    kept_changes old c.insert_change.new.changes.items c.self.invariant
-    (subst (RisesFrom (λ (x : Change). x.moment) c.self.inside.clock) (sym c.in_err-insert_change.ensures.err) (c.self.invariant.on_time).of_changes)
+invariant_of-self g c = kept_given c.self.inside.clocked c.at.new.self (record { moment = c.args.moment; step = c.args.change }) c.self.inside.minima c.at.result c.at.ensures.ok c.at.ensures.err c.self.invariant
 
--- given
-pub invariant_of-self-2 : goal.invariant_of-self-2
-invariant_of-self-2 g c =
-    let old : Timed = timed_of c.self.inside.simulation c.self.inside.clock (map link_of c.self.inside.links.items) c.self.inside.routers.items c.self.inside.changes.items in
-    kept_changes old c.insert_change.new.changes.items c.self.invariant
-    (subst (RisesFrom (λ (x : Change). x.moment) c.self.inside.clock) (sym c.in_ok-insert_change.ensures.ok)
-    (with_one_more c.self.inside.clock (record { moment = c.args.moment; step = c.args.change }) c.self.inside.changes.items (c.self.invariant.on_time).of_changes c.if-moment-self.false))
+pub returns-clause-ok : goal.returns-clause-ok
+returns-clause-ok g c = subst (λ (t : Timed). OnOk c.at.result (c.at.new.self ≡ with_change (record { moment = c.args.moment; step = c.args.change }) t)) c.self.view_is c.at.ensures.ok
+
+pub returns-clause-err : goal.returns-clause-err
+returns-clause-err g c = subst (λ (t : Timed). OnErr c.at.result (c.at.new.self ≡ t)) c.self.view_is c.at.ensures.err
+
+pub returns-clause-cause : goal.returns-clause-cause
+returns-clause-cause g c = subst (λ (t : Timed). IsGivenOr t.clock c.args.moment c.at.result) c.self.view_is c.at.ensures.cause

@@ -1,10 +1,10 @@
-use Rattle.std.proofs.Common.{sym, subst, map}
-use Rattle.timed_simulation.specs.Links.{link_of}
-use Rattle.timed_simulation.specs.Runs.{IsTimed}
-use Rattle.timed_simulation.proofs.Runs.{kept_open, opened_parts}
+use Rattle.std.proofs.Common.{◌∙◌, ap, sym, subst, None, replicate}
+use Rattle.timed_simulation.specs.Next.{KeepsMoments}
+use Rattle.timed_simulation.proofs.Nexts.{opened}
 use Rattle.timed_simulation.proofs.timed.TimedSimulation.open.Goals as goal
 
 pub invariant_of-result : goal.invariant_of-result
 invariant_of-result g c =
-    subst IsTimed (sym (opened_parts c.args.network c.args.links.now c.args.routers.now c.in_ok-simulation.simulation (map link_of c.in_ok-links.links.items) c.in_ok-routers.routers.items c.new.result.items c.in_ok-simulation.ensures.ok c.in_ok-links.ensures c.in_ok-routers.ensures c.new.ensures.items))
-    (kept_open c.args.network c.routers-routers.ensures.valid c.args.links.now c.args.routers.now c.requires.each_link c.requires.each_router)
+    subst (λ ms. KeepsMoments c.in_ok-clocked.clocked ms) (sym (c.in_ok-minima.ensures ∙ ap (λ n. replicate n None) c.routers.ensures.number))
+    (subst (λ t. KeepsMoments t (replicate (c.args.network).routers None)) (sym c.in_ok-clocked.ensures)
+    (opened c.args.network c.routers.ensures.valid c.args.links.now c.args.routers.now c.requires.each_link c.requires.each_router))

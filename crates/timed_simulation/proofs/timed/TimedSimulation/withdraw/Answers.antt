@@ -1,15 +1,15 @@
-use Rattle.std.proofs.Common.{map, sym, subst}
-use Rattle.timed_simulation.specs.declared.events.Change.{Change}
-use Rattle.timed_simulation.specs.Links.{link_of}
-use Rattle.timed_simulation.specs.Timed.{timed_of, Timed}
-use Rattle.timed_simulation.specs.Due.{RisesFrom}
-use Rattle.timed_simulation.proofs.Rising.{rises_tail}
-use Rattle.timed_simulation.proofs.Runs.{kept_changes}
+use Rattle.std.proofs.Common.{◌≡◌, sym, subst, drop, slice_get}
+use Rattle.timed_simulation.specs.Timed.{Timed}
+use Rattle.timed_simulation.specs.Next.{KeepsMoments}
+use Rattle.timed_simulation.proofs.Nexts.{kept_changes}
 use Rattle.timed_simulation.proofs.timed.TimedSimulation.withdraw.Goals as goal
 
 pub invariant_of-self : goal.invariant_of-self
 invariant_of-self g c =
-    let old : Timed = timed_of c.self.inside.simulation c.self.inside.clock (map link_of c.self.inside.links.items) c.self.inside.routers.items c.self.inside.changes.items in
-    kept_changes old c.pop_front.new.self.items c.self.invariant
-    (subst (RisesFrom (λ (x : Change). x.moment) c.self.inside.clock) (sym c.pop_front.ensures.rest)
-    (rises_tail (λ (x : Change). x.moment) c.self.inside.clock c.self.inside.changes.items (c.self.invariant.on_time).of_changes))
+    subst (λ t. KeepsMoments t c.self.inside.minima) (sym c.withdraw.ensures.rest) (kept_changes c.self.inside.clocked c.self.inside.minima c.self.invariant (drop 1 (c.self.inside.clocked).changes))
+
+pub returns-clause-change : goal.returns-clause-change
+returns-clause-change g c = subst (λ (t : Timed). c.withdraw.result ≡ slice_get t.changes 0) c.self.view_is c.withdraw.ensures.change
+
+pub returns-clause-rest : goal.returns-clause-rest
+returns-clause-rest g c = subst (λ (t : Timed). c.withdraw.new.self ≡ record t { changes = drop 1 t.changes }) c.self.view_is c.withdraw.ensures.rest

@@ -2,7 +2,7 @@ use Rattle.std.proofs.Common.{◌≡◌, ℕ, ◌≤◌, Some}
 use Rattle.network_model.specs.World.{degree_of}
 use Rattle.timed_simulation.specs.Timed.{world_of}
 use Rattle.timed_simulation.specs.Events.{arrival_event, soonest}
-use Rattle.timed_simulation.proofs.timed.TimedSimulation.waiting_event.Given as goal
+use Rattle.timed_simulation.proofs.clocked.Clocked.waiting_event.Given as goal
 
 abbrev pub invariant-loop-port : goal.invariant-loop-port
 invariant-loop-port g l = record {

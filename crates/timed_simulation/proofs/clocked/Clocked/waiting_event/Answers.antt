@@ -5,7 +5,7 @@ use Rattle.timed_simulation.specs.Events.{arrival_event}
 use Rattle.timed_simulation.specs.Runs.{steps_of}
 use Rattle.timed_simulation.proofs.Ports.{few, has_degree, past_places, port_of_place}
 use Rattle.timed_simulation.proofs.Soonest.{soonest_more, waiting_is}
-use Rattle.timed_simulation.proofs.timed.TimedSimulation.waiting_event.Goals as goal
+use Rattle.timed_simulation.proofs.clocked.Clocked.waiting_event.Goals as goal
 
 pub home_event-requires-clause-port : goal.home_event-requires-clause-port
 home_event-requires-clause-port g c =
