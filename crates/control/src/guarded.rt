@@ -17,7 +17,6 @@ ghost use Rattle.control.specs.Shares.{IsHolder, owes};
 use crate::errand::Errand;
 use crate::name::{ControlName, High, Low, Out};
 use crate::share::Share;
-use crate::watch::Watch;
 use fabric::Fabric;
 use network_model::{Refusal, Step};
 use publication::{FabricName, Job, Ticket};
@@ -28,11 +27,10 @@ use std::sync::ledger::Book;
 // What the high ledger counts by.
 pub const UNIT: u128 = 1 << 64;
 
-/// The fabric, which of its routers may have something to do, and the books of the shares: they add up to
-/// its journal's sum, and to the writers that holders have out. Contracts see it as the fabric.
+/// The fabric, and the books of the shares: they add up to its journal's sum, and to the writers that holders
+/// have out. Contracts see it as the fabric.
 pub struct Guarded<B: FabricName, N: ControlName> {
     pub(crate) fabric: Fabric<B>,
-    pub(crate) watch: Watch,
     pub(crate) high: Book<High<N>>,
     pub(crate) low: Book<Low<N>>,
     pub(crate) out: Book<Out<N>>,
@@ -69,7 +67,6 @@ impl<B: FabricName, N: ControlName> Guarded<B, N> {
     {
         Guarded {
             fabric,
-            watch: Watch::all(),
             high,
             low,
             out,
@@ -92,7 +89,6 @@ impl<B: FabricName, N: ControlName> Guarded<B, N> {
         let number = step.number();
         let Guarded {
             fabric,
-            watch,
             high,
             low,
             out: _,
@@ -110,7 +106,6 @@ impl<B: FabricName, N: ControlName> Guarded<B, N> {
         fabric.holds();
         high.audit(own_high);
         low.audit(own_low);
-        watch.note(fabric, &step);
         fabric.step(rt, step)?;
         // No journal's sum needs more than 128 bits.
         let _sum = fabric.sum();
@@ -148,6 +143,32 @@ impl<B: FabricName, N: ControlName> Guarded<B, N> {
         let Some(step) = self.fabric.next_step(router) else {
             return (Ok(None), None);
         };
+        self.take_turn(rt, router, step, lends, share)
+    }
+
+    /// Does what a router has to do next, and answers it. Where it may lend, it gives for a publication the
+    /// ticket with which the router's writer goes out, and adds nothing yet.
+    pub fn take_turn<R: Wait>(
+        &mut self,
+        rt: &R,
+        router: u16,
+        step: Step,
+        lends: bool,
+        share: &mut Share<N>,
+    ) -> (Result<Option<Step>, Refusal>, Option<Errand<B, N>>)
+        requires next { next_turn self.old router ≡ Some step }
+        ensures found { IsFound N.opened N.asked N.shares share.old.sum self.old }
+        ensures turn { IsTurn self.old router result.0 }
+        ensures ticket { IfSome result.1 (λ t. (result.0 ≡ Ok (Some (Step.Publish router)))
+            × (fabric_refusal self.old (Step.Publish router) ≡ None)
+            × (t.is_published ≡ false) × (t.before.router ≡ router)) }
+        ensures lent { IfSome result.1 (λ t. lends ≡ true) }
+        ensures sum { share.new.sum ≡ share.old.sum + added_at_once result.0 result.1 }
+        ensures holder { IsHolder share.old share.new }
+        ensures out { MatchOption result.1 (owes share.new ≡ owes share.old)
+            (λ _. owes share.new ≡ owes share.old + 1) }
+    {
+        self.audit(share);
         let done = step;
         if let Step::Publish { router: _ } = step {
             if lends {
@@ -161,6 +182,14 @@ impl<B: FabricName, N: ControlName> Guarded<B, N> {
             Ok(()) => (Ok(Some(done)), None),
             Err(refusal) => (Err(refusal), None),
         }
+    }
+
+    /// A router that has something to do, looked for from this one on, and what that is.
+    pub fn turn_from(&mut self, from: u16) -> Option<(u16, Step)>
+        ensures same { self.new ≡ self.old }
+        ensures some { IfSome result (λ d. next_turn self.old d.0 ≡ Some d.1) }
+    {
+        self.fabric.turn_from(from)
     }
 
     // Lets the writer of a router that publishes next go out.
@@ -200,7 +229,6 @@ impl<B: FabricName, N: ControlName> Guarded<B, N> {
         let number = Step::Publish { router }.number();
         let Guarded {
             fabric,
-            watch,
             high,
             low,
             out,
@@ -219,7 +247,6 @@ impl<B: FabricName, N: ControlName> Guarded<B, N> {
         low.audit(own_low);
         fabric.give_back(ticket)?;
         out.sub(own_out, 1);
-        watch.add(router);
         if published {
             // No journal's sum needs more than 128 bits.
             let _sum = fabric.sum();

@@ -62,13 +62,13 @@ mod progress;
 mod serve;
 mod settling;
 mod share;
-mod watch;
 
 pub use control::Control;
+pub use course::Order;
 pub use crew::{Crew, NO_THRESHOLDS, THRESHOLDS, Thresholds};
 pub use name::ControlName;
 pub use network_model::{Refusal, Step};
-pub use ordered::{TurnOrder, settle_in_order};
+pub use ordered::settle_in_order;
 pub use progress::Progress;
 pub use serve::{NoGate, TurnGate};
 pub use settling::settle;

@@ -1,7 +1,8 @@
 //! Many turns under one lock, and publications between two of them.
 
-ghost use Rattle.std.specs.Prelude.{◌≡◌, ◌<◌, ◌≤◌, ◌+◌, ◌⊎◌, IfErr, OnErr, OnOk, MatchResult, true, vec_len};
+ghost use Rattle.std.specs.Prelude.{◌≡◌, ◌<◌, ◌≤◌, ◌+◌, ◌⊎◌, IfErr, OnErr, OnOk, MatchResult, Some, true, vec_len};
 ghost use Rattle.network_model.specs.declared.step.Refusal.TheVariants.{NoMemory as OutOfMemory, WrongTicket as WithWrongTicket};
+ghost use Rattle.fabric.specs.Fabric.{next_fabric_step as next_turn};
 ghost use Rattle.control.specs.Served.{IsServed, IsTurnRefused};
 ghost use Rattle.control.specs.Shares.{IsHolder, owes};
 
@@ -11,9 +12,8 @@ use crate::guarded::Guarded;
 use crate::name::ControlName;
 use crate::serve::TurnGate;
 use crate::share::Share;
-use crate::watch::Watch;
 use fabric::Fabric;
-use network_model::{NoMemory, Refusal};
+use network_model::{NoMemory, Refusal, Step};
 use publication::FabricName;
 use std::sync::Wait;
 
@@ -57,24 +57,19 @@ impl<B: FabricName, N: ControlName> Guarded<B, N> {
         ensures holder { IsHolder share.old share.new }
     {
         self.take_back(rt, share, errands)?;
-        if self.watch.is_empty() {
-            self.watch = Watch::all();
-        }
         let mut pass = Pass {
             router,
             rows: 0,
             settled: false,
         };
         for _ in 0..MOST_TURNS {
-            let next = if thresholds.calls(pass.rows) {
-                None
-            } else {
-                self.watch.next(pass.router, self.routers())
-            };
-            let Some(router) = next else {
+            if thresholds.calls(pass.rows) || self.is_settled() {
+                break;
+            }
+            let Some((router, step)) = self.turn_from(pass.router) else {
                 break;
             };
-            let rows = self.turn(rt, router, thresholds, share, errands)?;
+            let rows = self.turn(rt, router, step, thresholds, share, errands)?;
             pass.rows = pass.rows.saturating_add(rows);
             pass.router = router.wrapping_add(1);
         }
@@ -82,36 +77,37 @@ impl<B: FabricName, N: ControlName> Guarded<B, N> {
         Ok(pass)
     }
 
-    // A turn of a router. Of a publication that is left to an errand it tells how many rows it counts as.
+    // A turn of a router, which has this to do next. Of a publication that is left to an errand it tells how many
+    // rows it counts as.
     fn turn<R: Wait>(
         &mut self,
         rt: &R,
         router: u16,
+        step: Step,
         thresholds: Thresholds,
         share: &mut Share<N>,
         errands: &mut Vec<Errand<B, N>>,
     ) -> Result<usize, Refusal>
+        requires next { next_turn self.old router ≡ Some step }
         ensures back { owes share.new + vec_len errands.old ≡ owes share.old + vec_len errands.new }
         ensures err { IfErr result (IsTurnRefused N.opened N.asked) }
         ensures holder { IsHolder share.old share.new }
     {
         if usize::from(router) >= self.routers() {
-            self.watch.remove(router);
             return Ok(0);
         }
-        let rows = rows_due(&self.fabric, router);
+        let rows = match step {
+            Step::Publish { router: _ } => rows_due(&self.fabric, router),
+            _ => 0,
+        };
         let lends = errands.len() < errands.capacity() && thresholds.lends(rows);
-        let (done, errand) = self.begin(rt, router, lends, share);
+        let (done, errand) = self.take_turn(rt, router, step, lends, share);
         if let Some(errand) = errand {
             errands.push_reserved(errand);
             return Ok(rows.max(1));
         }
         match done {
-            Ok(Some(_)) => Ok(0),
-            Ok(None) => {
-                self.watch.remove(router);
-                Ok(0)
-            }
+            Ok(_) => Ok(0),
             Err(refusal) => Err(refusal),
         }
     }

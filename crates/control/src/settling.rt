@@ -19,8 +19,8 @@ use crate::pass::{MOST_TICKETS, Pass, publish_all, rows_due};
 use crate::progress::{Progress, STEPS_BETWEEN};
 use crate::serve::{TurnGate, first_refusal};
 use crate::share::{Halt, Opening, Share};
-use crate::watch::Watch;
 use core::mem::replace_with;
+use course::{Order, Turns};
 use fabric::Fabric;
 use network_model::{NoMemory, Refusal, Step};
 use publication::FabricName;
@@ -167,33 +167,28 @@ where
     ensures alone { IfErr result (IsStopped fabric.new) }
     ensures lent { (fabric.new).lent ≡ (fabric.old).lent }
 {
-    let routers = fabric.network().routers();
-    let mut watch = Watch::all();
-    let mut router = 0;
+    let mut turns = Turns::new(Order::Cyclic, fabric.network().routers());
     for _ in rt.forever() {
-        let Some(found) = watch.next(router, routers) else {
-            break;
+        if fabric.is_settled() {
+            return Ok(());
+        }
+        let Some((router, step)) = fabric.turn_from(turns.from()) else {
+            return Ok(());
         };
-        router = found.wrapping_add(1);
-        match fabric.next_step(found) {
-            Some(step) => {
-                if crew.threads > 1 && is_worth_threads(fabric, crew.thresholds, &step) {
-                    break;
-                }
-                // It tells that the step fits its number.
-                let _number = step.number();
-                watch.note(fabric, &step);
-                match fabric.step(rt, step) {
-                    Ok(()) => report_steps(fabric, progress),
-                    Err(refusal) => return Err(refusal),
-                }
+        if crew.threads > 1 && is_worth_threads(fabric, crew.thresholds, &step) {
+            return Ok(());
+        }
+        // It tells that the step fits its number.
+        let _number = step.number();
+        match fabric.step(rt, step) {
+            Ok(()) => {
+                turns.after(router);
+                report_steps(fabric, progress);
             }
-            // A watch of more routers than it tells apart is never empty.
-            None if fabric.is_settled() => break,
-            None => watch.remove(found),
+            Err(refusal) => return Err(refusal),
         }
     }
-    Ok(())
+    unreachable!()
 }
 
 // Reports how many steps were done, after every so many.

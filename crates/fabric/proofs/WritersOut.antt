@@ -7,7 +7,7 @@ use Rattle.image_patch.specs.Patches.{patched}
 use Rattle.publication.specs.Lists.{Writing}
 use Rattle.publication.proofs.Places.{each_there, there_each}
 use Rattle.fabric.specs.Desks.{Desk, all_lent, desk_in}
-use Rattle.fabric.specs.Fabric.{Fabric, awaits_writer, count_lent, is_lent, lent_at}
+use Rattle.fabric.specs.Fabric.{Fabric, awaits_lent, awaits_writer, count_lent, is_lent, lent_at}
 use Rattle.course.specs.Images.{image_in_force}
 use Rattle.fabric.specs.Writers.{ArePending, IsPending}
 
@@ -53,9 +53,9 @@ pub lent_there : (desks : List Desk) (i : ℕ) (d : Desk) → slice_get desks i 
 lent_there desks i d at = ap (λ o. option_map_or (λ l. l) o None) (slice_get-map (λ (e : Desk). e.out) desks i ∙ ap (option_map (λ (e : Desk). e.out)) at)
 
 -- a delivery and a publication wait for their router's writer
-pub awaits_at : (f : Fabric) (s : Step) (i k : ℕ) → i ≡ k → ((q : ℕ) × (s ≡ Deliver k q)) ⊎ (s ≡ Publish k) → is_lent f i ≡ awaits_writer f s
-awaits_at f s i k same (inl delivers) = ap (is_lent f) same ∙ sym (ap (awaits_writer f) delivers.1)
-awaits_at f s i k same (inr publishes) = ap (is_lent f) same ∙ sym (ap (awaits_writer f) publishes)
+pub awaits_at : (lent : List (Option Patch)) (s : Step) (i k : ℕ) → i ≡ k → ((q : ℕ) × (s ≡ Deliver k q)) ⊎ (s ≡ Publish k) → is_some (lent_at lent i) ≡ awaits_lent lent s
+awaits_at lent s i k same (inl delivers) = ap (λ (j : ℕ). is_some (lent_at lent j)) same ∙ sym (ap (awaits_lent lent) delivers.1)
+awaits_at lent s i k same (inr publishes) = ap (λ (j : ℕ). is_some (lent_at lent j)) same ∙ sym (ap (awaits_lent lent) publishes)
 
 -- a writer that is out after one went out or came back is that one, or was out
 pub lent_set : (xs : List (Option Patch)) (i k : ℕ) (y : Option Patch) → is_some (lent_at (set xs i y) k) ≡ true → ((k ≡ i) × (is_some y ≡ true)) ⊎ (is_some (lent_at xs k) ≡ true)

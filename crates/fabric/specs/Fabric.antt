@@ -53,16 +53,20 @@ count_lent lent = length (filter (λ l. is_some l) lent)
 abbrev pub with_lent : Fabric → ℕ → Option Patch → Fabric
 with_lent f i l = fabric_of f.network f.journal f.world f.images (set f.lent i l)
 
--- whether a step has to wait for a writer that is out: a delivery or a publication at its router
+-- whether a step has to wait for one of the writers that are out: a delivery or a publication at its router
+abbrev pub awaits_lent : List (Option Patch) → Step → Bool
+awaits_lent lent (LinkUp l) = false
+awaits_lent lent (LinkDown l) = false
+awaits_lent lent (SetCost i q cost) = false
+awaits_lent lent (Deliver i q) = is_some (lent_at lent i)
+awaits_lent lent (Publish i) = is_some (lent_at lent i)
+awaits_lent lent (Release i) = false
+awaits_lent lent (Attach i p cost) = false
+awaits_lent lent (Detach i p) = false
+
+-- the same in a fabric
 abbrev pub awaits_writer : Fabric → Step → Bool
-awaits_writer f (LinkUp l) = false
-awaits_writer f (LinkDown l) = false
-awaits_writer f (SetCost i q cost) = false
-awaits_writer f (Deliver i q) = is_lent f i
-awaits_writer f (Publish i) = is_lent f i
-awaits_writer f (Release i) = false
-awaits_writer f (Attach i p cost) = false
-awaits_writer f (Detach i p) = false
+awaits_writer f s = awaits_lent f.lent s
 
 -- why a step is refused: the journal, with the places set aside, is full; the router's writer is out; or as the world refuses it
 abbrev pub fabric_refusal : Fabric → Step → Option Refusal

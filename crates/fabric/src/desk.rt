@@ -4,9 +4,11 @@ ghost use Rattle.std.specs.Prelude.{◌≡◌, ◌⊎◌, ◌+◌, ◌++◌, ◌
 ghost use Rattle.image_patch.specs.Patches.{patched};
 ghost use Rattle.publication.specs.Lists.{Covers, generation_of, image_of, patch_of, patched_prefixes, with_publication};
 ghost use Rattle.publication.specs.Outings.{IsOuting, new_outing};
-ghost use Rattle.fabric.specs.Desks.{desk_in, desk_out};
+ghost use Rattle.fabric.specs.Desks.{all_lent, desk_in, desk_out};
+ghost use Rattle.fabric.specs.Fabric.{awaits_lent};
 
-use network_model::{NoMemory, Prefix, SmallAllocator};
+use course::Shut;
+use network_model::{NoMemory, Prefix, SmallAllocator, Step};
 use publication::{FabricName, ImageWriter, Patch, Stub, Ticket, Told, close_all as end_all};
 use std::alloc::Global;
 use std::marker::Model;
@@ -160,6 +162,63 @@ impl<B: FabricName, A: SmallAllocator> Desk<B, A> {
             Place::In(writer) => writer.close(rt),
             Place::Out(_stub) => {}
         }
+    }
+}
+
+/// The desks of all routers, as what keeps routers from some steps: a delivery or a publication waits until its
+/// router's writer is in.
+pub(crate) struct Seats<'a, B: FabricName, A: SmallAllocator> {
+    desks: &'a [Desk<B, A>],
+}
+
+impl<'a, B: FabricName, A: SmallAllocator> Model for Seats<'a, B, A> {
+    ghost use Rattle.std.specs.Prelude.{List};
+    ghost use Rattle.fabric.specs.Desks.{Desk as DeskState};
+
+    ghost Value = { List DeskState };
+
+    ghost view = { λ s. s.desks.now };
+}
+
+impl<'a, B: FabricName, A: SmallAllocator> Seats<'a, B, A> {
+    ghost use Rattle.std.specs.Prelude.{◌≡◌};
+
+    /// These desks.
+    pub(crate) fn new(desks: &'a [Desk<B, A>]) -> Seats<'a, B, A>
+        ensures { result ≡ desks.now }
+    {
+        Seats { desks }
+    }
+}
+
+impl<'a, B: FabricName, A: SmallAllocator> Shut for Seats<'a, B, A> {
+    ghost use Rattle.fabric.specs.Desks.{all_lent};
+    ghost use Rattle.fabric.specs.Fabric.{awaits_lent};
+
+    ghost shuts = { λ desks. awaits_lent (all_lent desks) };
+
+    fn is_shut(&self, step: &Step) -> bool {
+        awaits_lent(self.desks, step)
+    }
+}
+
+/// Whether a step has to wait for one of the writers that are out.
+pub fn awaits_lent<B: FabricName, A: SmallAllocator>(desks: &[Desk<B, A>], step: &Step) -> bool
+    ensures { result ≡ awaits_lent (all_lent desks.now) step.now }
+{
+    match *step {
+        Step::Deliver { router, port: _ } | Step::Publish { router } => {
+            match desks.get(usize::from(router)) {
+                Some(desk) => desk.is_out(),
+                None => false,
+            }
+        }
+        Step::LinkUp { .. }
+        | Step::LinkDown { .. }
+        | Step::SetCost { .. }
+        | Step::Release { .. }
+        | Step::Attach { .. }
+        | Step::Detach { .. } => false,
     }
 }
 

@@ -20,10 +20,10 @@ ghost use Rattle.network_model.specs.Forwarding.{is_quiet};
 ghost use Rattle.network_model.specs.Publication.{answer_of};
 ghost use Rattle.network_model.specs.Network.{most_workers};
 
-use crate::desk::{Desk, close_all, seat_all};
+use crate::desk::{Desk, Seats, awaits_lent, close_all, seat_all};
 use crate::images::{opening_images, patch_due};
 use crate::ports::deal;
-use course::Course;
+use course::{Course, Sent};
 use network_model::{Answer, NoMemory, Prefix, Refusal, SmallAllocator, Step};
 use publication::{FabricName, ImageReader, Job, Ticket, Told, Unnamed, copy_of, open_all};
 use route_table::RouteTable;
@@ -163,20 +163,24 @@ impl<B: FabricName, A: SmallAllocator> Fabric<B, A> {
     fn awaits_writer(&self, step: &Step) -> bool
         ensures { result ≡ awaits_writer self.now step.now }
     {
-        match *step {
-            Step::Deliver { router, port: _ } | Step::Publish { router } => {
-                match self.desks.get(usize::from(router)) {
-                    Some(desk) => desk.is_out(),
-                    None => false,
-                }
-            }
-            Step::LinkUp { .. }
-            | Step::LinkDown { .. }
-            | Step::SetCost { .. }
-            | Step::Release { .. }
-            | Step::Attach { .. }
-            | Step::Detach { .. } => false,
-        }
+        awaits_lent(&self.desks, step)
+    }
+
+    /// A router that has something to do for which it awaits no writer, looked for from this one on, and what that
+    /// is. None only if no router has.
+    pub fn turn_from(&mut self, from: u16) -> Option<(u16, Step)>
+        ensures same { self.new ≡ self.old }
+        ensures some { IfSome result (λ d. next_fabric_step self.old d.0 ≡ Some d.1) }
+        ensures none { result ≡ None → (i : ℕ) → i < (self.old).network.routers
+            → next_fabric_step self.old i ≡ None }
+    {
+        let seats = Seats::new(&self.desks);
+        self.course.turn_of(&seats, from)
+    }
+
+    /// How many messages of each kind the steps in the journal put on links.
+    pub fn sent(&self) -> Sent {
+        self.course.sent()
     }
 
     // Whether the journal has a place for a step, which then waits for no writer.
@@ -415,9 +419,18 @@ impl<B: FabricName, A: SmallAllocator> Fabric<B, A> {
         ensures least_cost { LeadsAtLeastCost self.new }
         ensures converges { ConvergesLeftAlone self.new }
     {
+        let router = ticket.router();
         let done = self.take_ticket(ticket);
+        self.look_at(router);
         self.holds();
         done
+    }
+
+    // The router may have something to do, since its writer may be back.
+    fn look_at(&mut self, router: u16)
+        ensures { self.new ≡ self.old }
+    {
+        self.course.look_at(router);
     }
 
     fn take_ticket(&mut self, ticket: Ticket<B, A>) -> Result<(), Ticket<B, A>>

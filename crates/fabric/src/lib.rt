@@ -62,6 +62,7 @@ mod fabric;
 mod images;
 mod ports;
 
+pub use course::Sent;
 pub use fabric::{Fabric, MOST_STEPS};
 pub use network_model::{Answer, Entry, Prefix, Refusal, Step};
 pub use publication::{FabricName, ImageReader, Job, Ticket, Unnamed};

@@ -4,7 +4,6 @@ use Rattle.std.specs.Option.{option_map_or}
 use Rattle.network_model.specs.declared.step.Step.{Step as NetworkStep}
 use Rattle.network_model.specs.declared.step.Step.TheVariants.{LinkUp, LinkDown}
 use Rattle.network_model.specs.declared.step.Refusal.{Refusal}
-use Rattle.network_model.specs.declared.step.Refusal.TheVariants.{NoMemory}
 use Rattle.network_model.specs.World.{Link, World}
 use Rattle.world.specs.Steps.{CanBeRefused}
 use Rattle.script.specs.declared.command.Command.{Command}
@@ -107,7 +106,7 @@ IsRefused (Lookup router addr) f g cause = OfRefusal (CannotLookUp f router addr
 IsRefused (Inject router addr) f g cause = CannotInject f router cause × (g ≡ f)
 IsRefused (Trace router addr) f g cause = OfRefusal (CannotTrace f router) cause × (g ≡ f)
 IsRefused (TraceThrough router addr) f g cause = OfRefusal (CannotTrace f router) cause × (g ≡ f)
-IsRefused Count f g cause = OfRefusal (λ e. e ≡ NoMemory) cause × (g ≡ f)
+IsRefused Count f g cause = ⊥
 IsRefused Drain f g cause = CannotDrain f cause × (g ≡ f)
 IsRefused Report f g cause = ⊥
 

@@ -112,19 +112,13 @@ where
 }
 
 /// Counts what was done since the last time, and prints it. What it prints may be lost.
-pub fn show_count<B, H, W>(
-    live: &mut Live<B, H>,
-    printer: &Printer<'_>,
-    out: &mut W,
-) -> Result<(), Refusal>
+pub fn show_count<B, H, W>(live: &mut Live<B, H>, printer: &Printer<'_>, out: &mut W)
 where
     B: FabricName + Send + Sync + 'static,
     H: Host,
     W: Write,
-    ensures same { live.new ≡ live.old }
-    ensures err { IfErr result (λ e. e ≡ Refusal.NoMemory) }
+    ensures { live.new ≡ live.old }
 {
-    let counts = count(live)?;
+    let counts = count(live);
     let _ = printer.print(&Line::Counted(counts), out);
-    Ok(())
 }

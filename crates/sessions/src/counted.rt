@@ -249,7 +249,7 @@ impl Counted {
     pub fn count(&mut self) -> Counts
         ensures { self.new ≡ self.old }
     {
-        let totals = counts_of(&self.simulation);
+        let totals = counts_of(self.simulation.steps(), self.simulation.sent());
         let since = counts_since(totals, self.counted);
         self.counted = totals;
         since
@@ -283,8 +283,8 @@ impl Counted {
             return Err(Cause::Refused(Refusal::NoMemory));
         };
         // What was done and not yet counted is counted later, too.
-        let since = counts_since(counts_of(&self.simulation), self.counted);
-        self.counted = counts_since(counts_of(&copy), since);
+        let since = counts_since(counts_of(self.simulation.steps(), self.simulation.sent()), self.counted);
+        self.counted = counts_since(counts_of(copy.steps(), copy.sent()), since);
         self.simulation = copy;
         Ok(())
     }

@@ -14,14 +14,13 @@ ghost use Rattle.sessions.specs.Traces.{IsTrace};
 use crate::dispatcher::{Dispatcher, ports_of, print_replies};
 use crate::host::Host;
 use crate::totals::{counts_of, counts_since, no_counts};
-use control::{Crew, Progress, TurnGate, TurnOrder, settle, settle_in_order};
+use control::{Crew, Order, Progress, TurnGate, settle, settle_in_order};
 use fabric::{Fabric, FabricName};
 use faults::FaultKind;
 use lines::{Counts, Printer};
 use network_model::{Entry, NoMemory, Prefix, Refusal, Step, Trace};
 use plans::Cause;
 use publication::ImageReader;
-use simulation::{Order, Simulation, Turns};
 use std::alloc::Global;
 use std::io::Write;
 use std::marker::Model;
@@ -35,8 +34,6 @@ pub struct Kept<B: FabricName, H> {
     crew: Crew,
     dispatcher: Dispatcher<B>,
     fabric: Fabric<B>,
-    // A simulation that does the same steps, as far as they were counted.
-    again: Option<Simulation>,
     // What was done until they were counted last.
     counted: Counts,
 }
@@ -73,7 +70,6 @@ where
                 crew,
                 dispatcher: Dispatcher::new(ports),
                 fabric,
-                again: None,
                 counted: no_counts(),
             }),
             Err(memory) => Err((fabric, memory)),
@@ -91,36 +87,11 @@ where
             crew: _,
             dispatcher,
             fabric,
-            again: _,
             counted: _,
         } = self;
         match dispatcher.close(&rt, alloc) {
             Ok(_) => (fabric, Ok(())),
             Err(fault) => (fabric, Err(FaultKind::from(fault))),
-        }
-    }
-
-    // Does the steps again that were done since the last time, and answers what was done since the opening.
-    fn do_again(&mut self) -> Result<Counts, Refusal>
-        ensures same { self.new ≡ self.old }
-        ensures err { IfErr result (λ e. e ≡ Refusal.NoMemory) }
-    {
-        let mut again = match self.again.take() {
-            Some(again) => again,
-            None => {
-                let network = self.fabric.network().copy()?;
-                Simulation::open(self.alloc, network)?
-            }
-        };
-        let journal = self.fabric.journal();
-        let done = (again.steps() as usize).min(journal.len());
-        let ran = again.run(&journal[done..]);
-        let totals = counts_of(&again);
-        self.again = Some(again);
-        match ran.refusal {
-            // Each step was lawful the first time.
-            Some(_) => Err(Refusal::NoMemory),
-            None => Ok(totals),
         }
     }
 
@@ -154,10 +125,8 @@ where
     {
         match seed {
             Some(seed) => {
-                let routers = self.fabric.network().routers();
-                let turns = Turns::new(Order::Seeded(u64::from(seed)), routers);
-                let mut order = Drawn { turns };
-                settle_in_order(&self.rt, &mut self.fabric, &mut order, progress)
+                let order = Order::Seeded(u64::from(seed));
+                settle_in_order(&self.rt, &mut self.fabric, order, progress)
             }
             None => settle(
                 &self.rt,
@@ -227,30 +196,13 @@ where
         }
     }
 
-    /// What was done since the last time, or since the opening. Refused with `NoMemory`.
-    pub fn count(&mut self) -> Result<Counts, Refusal>
-        ensures err { IfErr result (λ e. e ≡ Refusal.NoMemory) }
-        ensures same { self.new ≡ self.old }
+    /// What was done since the last time, or since the opening.
+    pub fn count(&mut self) -> Counts
+        ensures { self.new ≡ self.old }
     {
-        let totals = self.do_again()?;
+        let totals = counts_of(self.fabric.journal().len() as u64, self.fabric.sent());
         let since = counts_since(totals, self.counted);
         self.counted = totals;
-        Ok(since)
-    }
-}
-
-// The order that a seed draws.
-#[derive(Clone, Copy)]
-struct Drawn {
-    turns: Turns,
-}
-
-impl TurnOrder for Drawn {
-    fn from(&self) -> u16 {
-        self.turns.from()
-    }
-
-    fn after(&mut self, router: u16) {
-        self.turns.after(router);
+        since
     }
 }

@@ -176,17 +176,16 @@ where
     }
 }
 
-/// What was done since the last time, or since the opening. Refused with `NoMemory`.
-pub fn count<B, H>(live: &mut Live<B, H>) -> Result<Counts, Refusal>
+/// What was done since the last time, or since the opening.
+pub fn count<B, H>(live: &mut Live<B, H>) -> Counts
 where
     B: FabricName + Send + Sync + 'static,
     H: Host,
-    ensures err { IfErr result (λ e. e ≡ Refusal.NoMemory) }
-    ensures same { live.new ≡ live.old }
+    ensures { live.new ≡ live.old }
 {
     match live {
         Either::Left(kept) => kept.count(),
-        Either::Right(counted) => Ok(counted.count()),
+        Either::Right(counted) => counted.count(),
     }
 }
 

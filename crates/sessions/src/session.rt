@@ -181,7 +181,10 @@ where
         }
         Command::Inject { router, addr } => inject(live, router, addr),
         Command::Drain => drain(live, &printer, out),
-        Command::Count => into_cause(show_count(live, &printer, out)),
+        Command::Count => {
+            show_count(live, &printer, out);
+            Ok(())
+        }
         Command::Save => save(live),
         Command::Restore => restore(live),
         Command::Report => {

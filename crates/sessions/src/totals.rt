@@ -1,7 +1,7 @@
 //! How many steps were done, and how many messages of each kind they put on links.
 
 use lines::Counts;
-use simulation::Simulation;
+use simulation::Sent;
 
 /// Nothing was done.
 pub(crate) fn no_counts() -> Counts {
@@ -13,11 +13,10 @@ pub(crate) fn no_counts() -> Counts {
     }
 }
 
-/// Since the opening of a simulation.
-pub(crate) fn counts_of(simulation: &Simulation) -> Counts {
-    let sent = simulation.sent();
+/// So many steps, and the messages that they put on links.
+pub(crate) fn counts_of(steps: u64, sent: Sent) -> Counts {
     Counts {
-        steps: simulation.steps(),
+        steps,
         updates: sent.updates,
         queries: sent.queries,
         replies: sent.replies,

@@ -1,6 +1,6 @@
 use Rattle.std.proofs.Common.{◌≡◌, ◌∙◌, Some, ap, refl, sym, subst, inr}
 use Rattle.fabric.specs.Fabric.{Fabric, fabric_refusal, next_fabric_step}
-use Rattle.control.specs.Served.{IsStopped, none_asked}
+use Rattle.control.specs.Served.{IsServed, IsStopped, none_asked}
 use Rattle.control.proofs.Served.{done_free, served_next, served_none, stopped, turn_next}
 use Rattle.course.proofs.Courses.{refused_as}
 use Rattle.control.proofs.ordered.settle_in_order.Goals as goal
@@ -9,20 +9,37 @@ pub loop-init : goal.loop-init
 loop-init g c = (served_none c.args.fabric.now none_asked, refl)
 
 -- the step that was done was the router's next
-pub loop-preserved-in-Some-first_turn : goal.loop-preserved-in-Some-first_turn
-loop-preserved-in-Some-first_turn g c =
-    let f = c.loop.fabric in
-    let s = c.in-Some-first_turn.step in
-    let due : next_fabric_step f c.in-Some-first_turn.router ≡ Some s = c.in-Some-first_turn.ensures in
+pub loop-preserved-in-Some-turn_from : goal.loop-preserved-in-Some-turn_from
+loop-preserved-in-Some-turn_from g c =
+    let f : Fabric = c.turn_from.new.self in
+    let same : f ≡ c.loop.fabric = c.turn_from.ensures.same in
+    let router = c.in-Some-turn_from.router in
+    let s = c.in-Some-turn_from.step in
+    let served : IsServed c.args.fabric.now none_asked f = subst (IsServed c.args.fabric.now none_asked) (sym same) c.loop.invariant.0 in
+    let due : next_fabric_step f router ≡ Some s = ap (λ (h : Fabric). next_fabric_step h router) same ∙ c.in-Some-turn_from.ensures.some in
     let ok = c.in-Ok.ensures.ok in (
-      served_next c.args.fabric.now none_asked f f c.step.new.self s c.loop.invariant.0 refl refl refl c.loop.invariant.0.stays (λ i lent. lent) (done_free f s _ c.in-Ok.ensures.cause)
-          (inr (c.in-Some-first_turn.router, turn_next f c.in-Some-first_turn.router s due)) ok.0 c.number-number.ensures.fits ok.1,
-      ap (λ (h : Fabric). h.lent) ok.1 ∙ c.loop.invariant.1,
+      served_next c.args.fabric.now none_asked f f c.step.new.self s served refl refl refl served.stays (λ i lent. lent) (done_free f s _ c.in-Ok.ensures.cause)
+          (inr (router, turn_next f router s due)) ok.0 c.number-number.ensures.fits ok.1,
+      ap (λ (h : Fabric). h.lent) ok.1 ∙ ap (λ (h : Fabric). h.lent) same ∙ c.loop.invariant.1,
     )
+
+-- no router has anything to do for which it awaits no writer
+pub loop-preserved : goal.loop-preserved
+loop-preserved g c = (subst (IsServed c.args.fabric.now none_asked) (sym c.turn_from.ensures.same) c.loop.invariant.0, ap (λ (h : Fabric). h.lent) c.turn_from.ensures.same ∙ c.loop.invariant.1)
 
 -- the step that was refused was the router's next, so it was refused for want of room or of memory
 pub returns-in-Err-clause-err : goal.returns-in-Err-clause-err
 returns-in-Err-clause-err g c =
+    let f : Fabric = c.turn_from.new.self in
+    let router = c.in-Some-turn_from.router in
+    let s = c.in-Some-turn_from.step in
     let e = c.in-Err.refusal in
-    let cause = refused_as _ (fabric_refusal c.loop.fabric c.in-Some-first_turn.step) e c.in-Err.ensures.cause in
-    subst (λ f. IsStopped f e) (sym c.in-Err.ensures.err) (stopped c.loop.fabric c.in-Some-first_turn.router c.in-Some-first_turn.step e c.in-Some-first_turn.ensures cause)
+    let due : next_fabric_step f router ≡ Some s = ap (λ (h : Fabric). next_fabric_step h router) c.turn_from.ensures.same ∙ c.in-Some-turn_from.ensures.some in
+    let cause = refused_as _ (fabric_refusal f s) e c.in-Err.ensures.cause in
+    subst (λ h. IsStopped h e) (sym c.in-Err.ensures.err) (stopped f router s e due cause)
+
+pub returns-in-Err-clause-turns : goal.returns-in-Err-clause-turns
+returns-in-Err-clause-turns g c = subst (IsServed c.args.fabric.now none_asked) (sym (c.in-Err.ensures.err ∙ c.turn_from.ensures.same)) c.loop.invariant.0
+
+pub returns-in-Err-clause-lent : goal.returns-in-Err-clause-lent
+returns-in-Err-clause-lent g c = ap (λ (h : Fabric). h.lent) (c.in-Err.ensures.err ∙ c.turn_from.ensures.same) ∙ c.loop.invariant.1

@@ -1,72 +1,24 @@
-use Rattle.std.proofs.Common.{◌≡◌, ◌∙◌, Err, None, Ok, Some, ap, subst, sym, inl, inr, arith}
+use Rattle.std.proofs.Common.{◌≡◌, ◌∙◌, ◌+◌, Ok, None, Some, false, IfSome, MatchOption, ap, subst, sym, arith}
 use Rattle.network_model.specs.declared.step.Step.TheVariants.{Publish}
-use Rattle.network_model.specs.Step.{Lawful}
-use Rattle.world.specs.Steps.{IsDoneOr}
 use Rattle.fabric.specs.Fabric.{Fabric, fabric_refusal, next_fabric_step}
-use Rattle.control.proofs.Served.{done_none, next_router, turn_next}
-use Rattle.course.proofs.Courses.{refused_as}
+use Rattle.control.specs.Served.{IsTurn}
+use Rattle.control.specs.Shares.{owes}
 use Rattle.control.proofs.guarded.Guarded.begin.Goals as goal
 
-pub lend-requires : goal.lend-requires
-lend-requires g c =
-    let mine : c.in-Publish.router ≡ c.args.router = next_router c.self.inside.fabric.world c.args.router c.in-Publish.router
-    (turn_next c.self.inside.fabric c.args.router (Publish c.in-Publish.router) (sym c.next_step.ensures ∙ c.in-Some.is ∙ ap Some c.in-Publish.is)) in
-    record { next = ap (λ (f : Fabric). next_fabric_step f c.args.router) (sym c.self.view_is) ∙ sym c.next_step.ensures ∙ c.in-Some.is ∙ ap Some (c.in-Publish.is ∙ ap Publish mine) }
+pub take_turn-requires : goal.take_turn-requires
+take_turn-requires g c = record { next = ap (λ (f : Fabric). next_fabric_step f c.args.router) (sym c.self.view_is) ∙ sym c.next_step.ensures ∙ c.in-Some.is }
 
-pub returns-in-Ok-clause-turn : goal.returns-in-Ok-clause-turn
-returns-in-Ok-clause-turn g c =
-    let before : c.self.inside.fabric ≡ c.args.self.now = c.self.view_is ∙ c.audit.ensures.fabric in
-    let mine : c.in-Publish.router ≡ c.args.router = next_router c.self.inside.fabric.world c.args.router c.in-Publish.router
-    (turn_next c.self.inside.fabric c.args.router (Publish c.in-Publish.router) (sym c.next_step.ensures ∙ c.in-Some.is ∙ ap Some c.in-Publish.is)) in (
-      ap (λ (f : Fabric). next_fabric_step f c.args.router) (sym before) ∙ sym c.next_step.ensures ∙ c.in-Some.is,
-      subst (λ (f : Fabric). Lawful f.world c.in-Some.step) c.audit.ensures.fabric
-          (subst (Lawful c.audit.new.self.world) (sym (c.in-Publish.is ∙ ap Publish mine)) c.in-Ok.ensures.due),
-    )
-
-pub returns-in-Ok-clause-ticket : goal.returns-in-Ok-clause-ticket
-returns-in-Ok-clause-ticket g c =
-    let mine : c.in-Publish.router ≡ c.args.router = next_router c.self.inside.fabric.world c.args.router c.in-Publish.router
-    (turn_next c.self.inside.fabric c.args.router (Publish c.in-Publish.router) (sym c.next_step.ensures ∙ c.in-Some.is ∙ ap Some c.in-Publish.is)) in (
-      ap (λ s. Ok (Some s)) (c.in-Publish.is ∙ ap Publish mine),
-      subst (λ f. fabric_refusal f (Publish c.args.router) ≡ None) c.audit.ensures.fabric (done_none _ _ c.in-Ok.ensures.cause),
-      c.in-Ok.ensures.fresh.0,
-      c.in-Ok.ensures.fresh.1,
-    )
-
-pub returns-in-Err-clause-turn : goal.returns-in-Err-clause-turn
-returns-in-Err-clause-turn g c =
-    let before : c.self.inside.fabric ≡ c.args.self.now = c.self.view_is ∙ c.audit.ensures.fabric in
-    let mine : c.in-Publish.router ≡ c.args.router = next_router c.self.inside.fabric.world c.args.router c.in-Publish.router
-    (turn_next c.self.inside.fabric c.args.router (Publish c.in-Publish.router) (sym c.next_step.ensures ∙ c.in-Some.is ∙ ap Some c.in-Publish.is)) in
-    inr (
-      Publish c.args.router,
-      ap (λ (f : Fabric). next_fabric_step f c.args.router) (sym before) ∙ sym c.next_step.ensures ∙ c.in-Some.is ∙ ap Some (c.in-Publish.is ∙ ap Publish mine),
-      inl (refused_as _ (fabric_refusal c.args.self.now (Publish c.args.router)) c.in-Err.refusal
-          (subst (λ f. IsDoneOr (fabric_refusal f (Publish c.args.router)) (Err c.in-Err.refusal)) c.audit.ensures.fabric c.in-Err.ensures.cause)),
-    )
-
-pub step-requires : goal.step-requires
-step-requires g c = inr (
-  c.args.router,
-  turn_next c.audit.new.self c.args.router c.in-Some.step (ap (λ (f : Fabric). next_fabric_step f c.args.router) (sym c.self.view_is) ∙ sym c.next_step.ensures ∙ c.in-Some.is),
-)
-
-pub returns-in-Err-step : goal.returns-in-Err-step
-returns-in-Err-step g c =
-    let before : c.self.inside.fabric ≡ c.args.self.now = c.self.view_is ∙ c.audit.ensures.fabric in
-    let sum = c.in-Err-step.ensures.sum in
+pub returns : goal.returns
+returns g c =
+    let same = c.audit.ensures.fabric in
+    let sum = c.take_turn.ensures.sum in
     let audited = c.audit.ensures.sum in
     record {
       found = c.audit.ensures.found;
-      turn = inr (
-        c.in-Some.step,
-        ap (λ (f : Fabric). next_fabric_step f c.args.router) (sym before) ∙ sym c.next_step.ensures ∙ c.in-Some.is,
-        inl (refused_as _ (fabric_refusal c.args.self.now c.in-Some.step) c.in-Err-step.refusal
-            (subst (λ f. IsDoneOr (fabric_refusal f c.in-Some.step) (Err c.in-Err-step.refusal)) c.audit.ensures.fabric c.in-Err-step.ensures.cause)),
-      );
-      ticket = tt;
-      lent = tt;
+      turn = subst (λ (f : Fabric). IsTurn f c.args.router c.take_turn.result.0) same c.take_turn.ensures.turn;
+      ticket = subst (λ (f : Fabric). IfSome c.take_turn.result.1 (λ t. (c.take_turn.result.0 ≡ Ok (Some (Publish c.args.router))) × (fabric_refusal f (Publish c.args.router) ≡ None) × (t.is_published ≡ false) × (t.before.router ≡ c.args.router))) same c.take_turn.ensures.ticket;
+      lent = c.take_turn.ensures.lent;
       sum = omega (arith, sum, audited);
-      holder = c.in-Err-step.ensures.holder ∙ c.audit.ensures.holder;
-      out = c.in-Err-step.ensures.out ∙ c.audit.ensures.out;
+      holder = c.take_turn.ensures.holder ∙ c.audit.ensures.holder;
+      out = subst (λ n. MatchOption c.take_turn.result.1 (owes c.take_turn.new.share ≡ n) (λ _. owes c.take_turn.new.share ≡ n + 1)) c.audit.ensures.out c.take_turn.ensures.out;
     }
