@@ -142,6 +142,12 @@ impl<A: SmallAllocator> Course<A> {
         self.watch.add(router);
     }
 
+    /// How many turns the hint missed, so that all routers were asked: none, or whoever ended what kept a router from
+    /// its step forgot `look_at`.
+    pub fn missed_turns(&self) -> u64 {
+        self.watch.missed()
+    }
+
     /// Whether nothing is left to do: no item is queued on any link, no notice waits, nothing is due,
     /// and nothing is ripe. Where it is so, all is quiet. It is known without going through the network.
     pub fn is_settled(&self) -> bool

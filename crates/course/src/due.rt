@@ -108,5 +108,7 @@ pub fn first_due<A: SmallAllocator, S: Shut>(
     if found.is_some() {
         return found;
     }
-    first_of_all(world, shut, routers)
+    let found = first_of_all(world, shut, routers);
+    watch.note_missed(found.is_some());
+    found
 }

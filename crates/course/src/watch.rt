@@ -15,6 +15,8 @@ pub struct Watch<A: SmallAllocator = Global> {
     words: Vec<u64, A>,
     // A bit for each of these words that has one, in the same way.
     filled: Vec<u64, A>,
+    // How many routers had something to do and were not in it.
+    missed: u64,
 }
 
 impl<A: SmallAllocator> Watch<A> {
@@ -24,14 +26,32 @@ impl<A: SmallAllocator> Watch<A> {
         words.resize(routers / 64 + 1, 0)?;
         let mut filled = Vec::new(alloc);
         filled.resize(routers / 4096 + 1, 0)?;
-        Ok(Watch { words, filled })
+        Ok(Watch {
+            words,
+            filled,
+            missed: 0,
+        })
     }
 
     /// The same routers, in memory of this allocator.
     pub fn copy(&self, alloc: A) -> Result<Watch<A>, NoMemory> {
         let words = Vec::from_slice(alloc, &self.words)?;
         let filled = Vec::from_slice(alloc, &self.filled)?;
-        Ok(Watch { words, filled })
+        Ok(Watch {
+            words,
+            filled,
+            missed: self.missed,
+        })
+    }
+
+    /// It had no router that has something to do, and this says whether there was one.
+    pub fn note_missed(&mut self, missed: bool) {
+        self.missed = self.missed.saturating_add(u64::from(missed));
+    }
+
+    /// How often there was one.
+    pub fn missed(&self) -> u64 {
+        self.missed
     }
 
     /// The router may have something to do.

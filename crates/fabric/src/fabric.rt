@@ -178,6 +178,11 @@ impl<B: FabricName, A: SmallAllocator> Fabric<B, A> {
         self.course.turn_of(&seats, from)
     }
 
+    /// How many turns the hint missed, so that all routers were asked: none, but that stands in no clause.
+    pub fn missed_turns(&self) -> u64 {
+        self.course.missed_turns()
+    }
+
     /// How many messages of each kind the steps in the journal put on links.
     pub fn sent(&self) -> Sent {
         self.course.sent()

@@ -7,6 +7,7 @@
 //! ```text
 //!   fabrics, controls, outside    steps, turns, threads that serve and settle side by side
 //!   tickets                       what is refused while a writer is out
+//!   turns                         whoever has something to do is found without asking all
 //!   jobs                          what readers answer meanwhile
 //!   traces                        packets along the images in force
 //!   scripts, rooms                want of memory
@@ -49,3 +50,5 @@ mod scripts;
 mod tickets;
 #[cfg(test)]
 mod traces;
+#[cfg(test)]
+mod turns;

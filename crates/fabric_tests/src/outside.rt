@@ -131,5 +131,6 @@ where
     assert!(rt; gate.first.load(Ordering::SeqCst) > 0);
     assert!(rt; gate.second.load(Ordering::SeqCst) > 0);
     equal(rt, gate.missed.load(Ordering::SeqCst), 0);
+    equal(rt, fabric.missed_turns(), 0);
     fabric
 }

@@ -39,7 +39,7 @@ type End = (u16, Prefix, u32, u32, Option<(u8, u16)>);
 
 // The networks: two routers; three in a triangle, of which one link has this cost; three in a line.
 #[derive(Clone, Copy)]
-enum Shape {
+pub(crate) enum Shape {
     Two,
     Triangle(u32),
     Line,
@@ -278,7 +278,7 @@ fn open_and_run<'h, B: FabricName, H: Wait + Abort>(
 // Routers 0, 1 and 2, of which 0 is attached to 10.0.0.0/8 at cost 1; the links 0 1 and 1 2 at cost 1, and
 // in a triangle 0 2 at this one. Router 1 has 0 at its port 0, and 2 has 1 there and 0 at port 1. In a line
 // router 2 is attached to all, at cost 1.
-fn made(rt: &impl Abort, alloc: Global, shape: Shape) -> Network {
+pub(crate) fn made(rt: &impl Abort, alloc: Global, shape: Shape) -> Network {
     let mut links = vec![in alloc;
         link(0, 1, 1).expect(rt, "cost"),
         link(1, 2, 1).expect(rt, "cost"),

@@ -86,6 +86,13 @@ fn ends<B: FabricName>(
     equal(rt, end, wanted);
 }
 
+// From router 1 on, the next turn is this router's, and no turn was missed.
+fn has_turn<B: FabricName>(rt: &impl Abort, fabric: &mut Fabric<B>, router: u16) {
+    let turn = fabric.turn_from(1).map(|turn| turn.0);
+    equal(rt, turn, Some(router));
+    equal(rt, fabric.missed_turns(), 0);
+}
+
 // The writer of router 1 publishes, while the fabric goes on.
 fn goes_on<B: FabricName, H: Wait + Abort>(
     rt: &H,
@@ -97,6 +104,7 @@ fn goes_on<B: FabricName, H: Wait + Abort>(
 {
     steps(rt, fabric, Step::LinkDown { link: 0 }, Ok(()));
     has_steps(rt, fabric, 7);
+    has_turn(rt, fabric, 0);
     ends(rt, alloc, fabric, Ok(Ending::NoRoute));
     assert!(rt; ticket.publish(rt).is_ok());
     has_steps(rt, fabric, 7);
@@ -104,6 +112,7 @@ fn goes_on<B: FabricName, H: Wait + Abort>(
     give_back(rt, fabric, ticket);
     has_steps(rt, fabric, 8);
     has_published(rt, alloc, fabric);
+    has_turn(rt, fabric, 1);
 }
 
 // The publication is the last step, and its link is down.
