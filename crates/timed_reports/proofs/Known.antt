@@ -5,7 +5,7 @@ use Rattle.std.specs.declared.cmp.Ordering.{Ordering}
 use Rattle.std.specs.declared.cmp.Ordering.TheVariants.{Less, Equal, Greater}
 use Rattle.std.specs.FinMap.{find as row_of, put}
 use Rattle.std.specs.FinMap.Entries.{by_order, where_key}
-use Rattle.no_packet_loops.proofs.Common.{false≢true, None_not_Some, slice_get_within, slice_get-map, length-map-range_with_len, prefix_cmp, prefix_eq, Prefix, Machine, Router, Attachments, World, Network, opening, opening_router_of, costs_of, prefixes_of, changed_at, with_attachment, without_attachment, Lawful, next, Runs}
+use Rattle.no_packet_loops.proofs.Common.{false≢true, None_not_Some, slice_get_within, slice_get-map, length-map-range_with_len, prefix_cmp, prefix_eq, Prefix, Machine, Router, Attachments, World, Network, opening, opening_router_of, costs_of, prefixes_of, option_map_or, option_map_or-ind, changed_at, changed_link, with_attachment, without_attachment, with_cost, with_front_taken, with_message, with_notice_taken, with_delivered, with_noticed, with_released, front_at, notice_at, release_at, place_at, End, Link, Place, Lawful, next, Runs}
 use Rattle.no_packet_loops.proofs.Machines.{prefix_same}
 use Rattle.no_packet_loops.proofs.WorldLaws.{Runs-shape}
 use Rattle.network_model.specs.declared.step.Step.{Step}
@@ -16,7 +16,10 @@ use Rattle.machine_laws.specs.Laws.{is_active}
 use Rattle.coming_to_rest.proofs.Known.{Each, IsOf, Known, RouterKnown, each_at, known_run, known_next, opening_known}
 use Rattle.reachability.specs.Ways.{IsCutOff}
 use Rattle.timed_reports.specs.Going.{IsComputing}
-use Rattle.timed_reports.proofs.Alike.{IsAlike, alike_after, costs}
+
+-- the costs of a router's attachments
+abbrev costs : Attachments → List (Prefix × ℕ)
+costs a = a.costs
 
 -- the keys of these rows are among the prefixes
 abbrev AreOf : {X : Type 0} → List Prefix → List (Prefix × X) → Type 0
@@ -59,16 +62,19 @@ changed_known ps i f [] same each = each
 changed_known ps zero f (a ∷ xs) same each = (same a each.0, each.1)
 changed_known ps (suc i) f (a ∷ xs) same each = (each.0, changed_known ps i f xs same each.1)
 
-alike_known : (ps : List Prefix) (w : World) (s : Step) → IsAlike w (next w s) → AreKnown ps (map costs w.attachments) → AreKnown ps (map costs (next w s).attachments)
-alike_known ps w s S each = subst (AreKnown ps) (sym S.attachments) each
+-- a change of the link at a port leaves attachments
+link_known : (ps : List Prefix) (w : World) (i q : ℕ) (f : End → Link → Link) → AreKnown ps (map costs w.attachments) → AreKnown ps (map costs (changed_link i q f w).attachments)
+link_known ps w i q f each = option_map_or-ind (λ (v : World). AreKnown ps (map costs v.attachments)) (λ (x : Place). record w { links = changed_at x.link (f x.end) w.links }) (place_at w i q) w each (λ x is. each)
 
 attached_next : (ps : List Prefix) (w : World) (s : Step) → Known ps w → Lawful w s → AreKnown ps (map costs w.attachments) → AreKnown ps (map costs (next w s).attachments)
 attached_next ps w (LinkUp l) K L each = each
 attached_next ps w (LinkDown l) K L each = each
-attached_next ps w (SetCost i q cost) K L each = alike_known ps w (SetCost i q cost) (alike_after w (SetCost i q cost) refl) each
-attached_next ps w (Deliver i q) K L each = alike_known ps w (Deliver i q) (alike_after w (Deliver i q) refl) each
+attached_next ps w (SetCost i q cost) K L each = link_known ps w i q (with_cost cost) each
+attached_next ps w (Deliver i q) K L each = option_map_or-ind (λ (v : World). AreKnown ps (map costs v.attachments)) (with_delivered i q w) (front_at w i q) (option_map_or (with_noticed i w) (notice_at w i q) w)
+    (option_map_or-ind (λ (v : World). AreKnown ps (map costs v.attachments)) (with_noticed i w) (notice_at w i q) w each (λ n is. changed_known ps i with_notice_taken w.attachments (λ a of. of) each))
+    (λ item is. link_known ps w i q with_front_taken each)
 attached_next ps w (Publish i) K L each = each
-attached_next ps w (Release i) K L each = alike_known ps w (Release i) (alike_after w (Release i) refl) each
+attached_next ps w (Release i) K L each = option_map_or-ind (λ (v : World). AreKnown ps (map costs v.attachments)) (with_released i w) (release_at w i) w each (λ h is. link_known ps w i h.port (with_message h) each)
 attached_next ps w (Attach i p cost) K L each = changed_known ps i (with_attachment p cost) w.attachments (λ a of. put_of ps p cost a.costs (subst (λ xs. list_any (prefix_eq p) xs ≡ true) K.prefixes L.2) of) each
 attached_next ps w (Detach i p) K L each = changed_known ps i (without_attachment p) w.attachments (λ a of. kept_of ps (λ x. not (prefix_eq x p)) a.costs of) each
 

@@ -7,8 +7,9 @@ pub mod Machines
 pub mod Alike
 pub mod Known
 pub mod AtRest
-pub mod Computing
 pub mod Stops
 pub mod Watching
+pub mod Blocks
+pub mod Marking
 pub mod Whole
 pub mod Example

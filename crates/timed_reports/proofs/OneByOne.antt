@@ -1,5 +1,5 @@
 -- Looks at one after another.
-use Rattle.std.proofs.Common.{refl, sym, ap, subst, ◌∙◌, arith, inl, inr, length-set, append-nil, append_assoc, ◌≡◌, ◌≢◌, ◌⊎◌, ◌↔◌, ℕ, zero, suc, ◌+◌, ◌<◌, ◌≤◌, IsTrue, Bool, true, false, List, [], ◌∷◌, ◌++◌, take, length, get_or, set, Option, Some, None, option_map, option_to_list, slice_get}
+use Rattle.std.proofs.Common.{refl, sym, ap, subst, ◌∙◌, arith, inl, inr, length-set, append-nil, append_assoc, ◌≡◌, ◌≢◌, ◌⊎◌, ◌↔◌, ℕ, zero, suc, ◌+◌, ◌-◌, ◌<◌, ◌≤◌, IsTrue, Bool, true, false, List, [], ◌∷◌, ◌++◌, take, length, set, Option, Some, None, option_map, option_to_list, slice_get}
 use Rattle.std.proofs.lemmas.Bool.{cases_lt}
 use Rattle.std.proofs.lemmas.List.{take_more}
 use Rattle.std.proofs.lemmas.Option.{get_or_from_slice_get, slice_get_within}
@@ -8,7 +8,6 @@ use Rattle.no_packet_loops.proofs.Common.{None_not_Some, Some_injective, false�
 use Rattle.timed_reports.specs.declared.spells.Spell.{Spell}
 use Rattle.timed_reports.specs.declared.spells.Watched.{Watched}
 use Rattle.timed_reports.specs.Records.{AreLooked, EndByLooks, HoldsOf, IsListed, IsLooked, IsSeen, Kind, ended_by, seen, spell}
-use Rattle.timed_reports.proofs.Watching.{read_is}
 use Rattle.timed_reports.proofs.Lists.{get_next, get_within, listed_behind, set_other, set_same}
 
 -- ---- what ends by looks
@@ -156,9 +155,30 @@ module _ (K : Kind) (v : World) (now : ℕ) (Aside : Watched → Type 0) (old : 
         by_look (inl (aside, same, none)) = subst (λ (zs : List Watched). Looked (below + 1) zs then) (sym same) (subst (Looked (below + 1) cs) (sym none) (looked_beside aside))
         by_look (inr (holds, rightly, written, ended)) = subst (λ (zs : List Watched). Looked (below + 1) zs then) (sym written) (subst (Looked (below + 1) (set cs below (seen now holds c))) (sym ended) (looked_more holds rightly))
 
+  -- all up to another place are left aside
+  pub looked_over : (many below : ℕ) (cs : List Watched) (after : List Spell) → Looked below cs after → below + many ≤ length cs → ((x : ℕ) (c : Watched) → below ≤ x → x < below + many → slice_get old x ≡ Some c → Aside c) → Looked (below + many) cs after
+  looked_over zero below cs after L fits aside = let same : below ≡ below + 0 = omega arith in subst (λ (n : ℕ). Looked n cs after) same L
+  looked_over (suc many) below cs after L fits aside =
+      let (c, at) = get_within cs below (omega (arith, fits)) in
+      let here : Aside c = aside below c (omega arith) (omega arith) (sym (L.rest below (omega arith)) ∙ at) in
+      let further : (below + 1) + many ≡ below + suc many = omega arith in
+      subst (λ (n : ℕ). Looked n cs after) further
+      (looked_over many (below + 1) cs after (looked_beside below cs after L c at here) (omega (arith, fits)) (λ x d from to is. aside x d (omega (arith, from)) (omega (arith, to)) is))
+
   -- the next one
   pub looked_next : (below : ℕ) (cs : List Watched) (after : List Spell) → Looked below cs after → below < length cs → (ds : List Watched) (then : List Spell) → IsLooked K v now Aside below cs ds after then → Looked (below + 1) ds then
   looked_next below cs after L less ds then one = (let (c, at) = get_within cs below less in looked_one below cs after L c at ds then one)
+
+  -- of so many from a place on one was looked at, and the others are left aside
+  pub looked_among : (from n i : ℕ) (cs ds : List Watched) (after then : List Spell) → i < n → Looked from cs after → from + n ≤ length cs → ((x : ℕ) (c : Watched) → from ≤ x → x < from + n → x ≢ from + i → slice_get old x ≡ Some c → Aside c) → IsLooked K v now Aside (from + i) cs ds after then
+      → Looked (from + n) ds then
+  looked_among from n i cs ds after then below L fits aside one =
+      let up : Looked (from + i) cs after = looked_over i from cs after L (omega (arith, fits, below)) (λ x c least less is. aside x c least (omega (arith, less, below)) (λ (same : x ≡ from + i). omega (arith, less, same)) is) in
+      let here : Looked ((from + i) + 1) ds then = looked_next (from + i) cs after up (omega (arith, fits, below)) ds then one in
+      let many : length ds ≡ length cs = here.as_many ∙ sym L.as_many in
+      let all : ((from + i) + 1) + (n - (i + 1)) ≡ from + n = omega (arith, below) in
+      subst (λ (m : ℕ). Looked m ds then) all
+      (looked_over (n - (i + 1)) ((from + i) + 1) ds then here (omega (arith, fits, below, many)) (λ x c least less is. aside x c (omega (arith, least)) (omega (arith, less, below)) (λ (same : x ≡ from + i). omega (arith, least, same)) is))
 
 -- with more left aside
 pub looked_beside_more : (K : Kind) (v : World) (now : ℕ) (Aside More : Watched → Type 0) → ((c : Watched) → Aside c → More c) → (below : ℕ) (old new : List Watched) (before after : List Spell) → AreLooked K v now Aside below old new before after → AreLooked K v now More below old new before after
@@ -178,12 +198,19 @@ looked_beside_more K v now Aside More more below old new before after L = record
     end_with_more (c ∷ cs) ss (inl (aside, E)) = inl (more c aside, end_with_more cs ss E)
     end_with_more (c ∷ cs) ss (inr (holds, rest, is, all, E)) = inr (holds, rest, is, all, end_with_more cs rest E)
 
--- ---- one look
+-- the same of one look
+pub look_beside_more : (K : Kind) (v : World) (now : ℕ) (Aside More : Watched → Type 0) → ((c : Watched) → Aside c → More c) → (place : ℕ) (old new : List Watched) (before after : List Spell) → IsLooked K v now Aside place old new before after → IsLooked K v now More place old new before after
+look_beside_more K v now Aside More more place old new before after looked c at = by_look (looked c at)
+  where
+    by_look : (Aside c × (new ≡ old) × (after ≡ before)) ⊎ ((holds : Bool) × (IsTrue holds ↔ HoldsOf K v c) × (new ≡ set old place (seen now holds c)) × (after ≡ before ++ option_to_list (ended_by now holds c)))
+        → (More c × (new ≡ old) × (after ≡ before)) ⊎ ((holds : Bool) × (IsTrue holds ↔ HoldsOf K v c) × (new ≡ set old place (seen now holds c)) × (after ≡ before ++ option_to_list (ended_by now holds c)))
+    by_look (inl (aside, same, none)) = inl (more c aside, same, none)
+    by_look (inr look) = inr look
 
-module _ (K : Kind) (v : World) (now : ℕ) (Aside : Watched → Type 0) (place : ℕ) (cs : List Watched) (before : List Spell) (one : Watched) (read : one ≡ get_or cs place one) where
-  pub left_aside : Aside one → IsLooked K v now Aside place cs cs before before
-  left_aside aside c at = inl (subst Aside (read_is cs place one c read at) aside, refl, refl)
-
-  pub looked_at : (b : Bool) → (IsTrue b ↔ HoldsOf K v one) → (ds : List Watched) (after : List Spell) → ((c : Watched) → slice_get cs place ≡ Some c → ds ≡ set cs place (seen now b c))
-      → ((c : Watched) → slice_get cs place ≡ Some c → after ≡ before ++ option_to_list (ended_by now b c)) → IsLooked K v now Aside place cs ds before after
-  looked_at b rightly ds after written ended c at = inr (b, subst (λ (z : Watched). IsTrue b ↔ HoldsOf K v z) (read_is cs place one c read at) rightly, written c at, ended c at)
+-- it leaves as many
+pub look_keeps_many : (K : Kind) (v : World) (now : ℕ) (Aside : Watched → Type 0) (place : ℕ) (old new : List Watched) (before after : List Spell) → IsLooked K v now Aside place old new before after → place < length old → length new ≡ length old
+look_keeps_many K v now Aside place old new before after looked below = (let (c, at) = get_within old place below in by_look c (looked c at))
+  where
+    by_look : (c : Watched) → (Aside c × (new ≡ old) × (after ≡ before)) ⊎ ((holds : Bool) × (IsTrue holds ↔ HoldsOf K v c) × (new ≡ set old place (seen now holds c)) × (after ≡ before ++ option_to_list (ended_by now holds c))) → length new ≡ length old
+    by_look c (inl (aside, same, none)) = ap (λ (xs : List Watched). length xs) same
+    by_look c (inr (holds, rightly, written, ended)) = ap (λ (xs : List Watched). length xs) written ∙ length-set old place (seen now holds c)

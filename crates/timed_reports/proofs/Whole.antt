@@ -1,6 +1,6 @@
 -- What an event leaves of a report, if what it may have moved is looked at.
-use Rattle.std.proofs.Common.{refl, sym, ap, subst, ◌∙◌, arith, append-nil, append_assoc, length-append, ◌≡◌, ℕ, ◌+◌, List, [], ◌∷◌, ◌++◌, length, None, Some, Result, Ok, Err, OnOk, OnErr, slice_get, ◌≤◌}
-use Rattle.no_packet_loops.proofs.Common.{length-map-range_with_len, opening_router_of, Prefix, World, Network, opening, prefixes_of, IsNetwork, Lawful, next, Runs}
+use Rattle.std.proofs.Common.{refl, sym, ap, subst, ◌∙◌, arith, append-nil, append_assoc, length-append, ◌≡◌, ℕ, ◌+◌, List, [], ◌∷◌, ◌++◌, length, Bool, true, Option, None, Some, IfSome, Result, Ok, Err, OnOk, OnErr, slice_get, ◌<◌, ◌≤◌}
+use Rattle.no_packet_loops.proofs.Common.{length-map-range_with_len, option_map_or, option_map_or-ind, slice_get_within, changed_at, changed_link, with_cost, with_front_taken, with_message, with_delivered, with_noticed, with_released, front_at, notice_at, release_at, place_at, opening_router_of, Prefix, End, Link, Place, World, Network, opening, prefixes_of, IsNetwork, Lawful, next, Runs}
 use Rattle.timed_simulation.specs.declared.events.Event.{Event}
 use Rattle.timed_simulation.specs.declared.links.LinkDelays.{LinkDelays}
 use Rattle.timed_simulation.specs.Timed.{Timed, after_event, opening_timed, world_of}
@@ -10,44 +10,74 @@ use Rattle.timed_simulation.proofs.Moments.{next-after}
 use Rattle.timed_simulation.proofs.Runs.{run_more, run_none}
 use Rattle.reachability.specs.Ways.{IsCutOff, IsJoined}
 use Rattle.reachability.proofs.Joined.{joined}
-use Rattle.no_packet_loops.proofs.WorldLaws.{next-shape}
+use Rattle.no_packet_loops.proofs.WorldLaws.{Runs-shape, next-shape}
+use Rattle.network_model.specs.declared.step.Step.{Step}
+use Rattle.network_model.specs.declared.step.Step.TheVariants.{LinkUp, LinkDown, SetCost, Deliver, Publish, Release, Attach, Detach}
 use Rattle.timed_reports.specs.declared.spells.Spell.{Spell}
 use Rattle.timed_reports.specs.declared.spells.Watched.{Watched}
 use Rattle.timed_reports.specs.Going.{IsComputing}
-use Rattle.timed_reports.specs.Records.{AreInOrder, AreLooked, AreWatched, IsElsewhere, IsRecorded, MovesNoWay}
+use Rattle.timed_reports.specs.Records.{AreInOrder, AreLooked, AreWatched, IsElsewhere, IsRecorded, MovesNoWay, moves_ways}
+use Rattle.timed_reports.specs.Looks.{IsPassedBy, IsStill, IsTold, MarksMoved}
 use Rattle.timed_reports.specs.Reports.{HasGrown, IsReport, IsReportOf, IsReportRun, RecordsEvent, Reported, reported_of}
 use Rattle.timed_reports.proofs.Lists.{prefix_further, prefix_same}
 use Rattle.timed_reports.proofs.OneMore.{ascends_all, leads_all, runs_all}
 use Rattle.timed_reports.proofs.Recorded.{order_after, recorded_after, recorded_opening, watched_after}
-use Rattle.timed_reports.proofs.Machines.{computing_too, same_machines}
-use Rattle.timed_reports.proofs.Alike.{alike_after, alike_turned, cut_off_alike}
+use Rattle.timed_reports.proofs.Machines.{computing_too, passed_elsewhere, same_machine}
+use Rattle.timed_reports.proofs.Alike.{alike_after, alike_turned, cut_off_alike, none_moved}
+use Rattle.timed_reports.proofs.OneByOne.{looked_beside_more}
 use Rattle.timed_reports.proofs.Known.{computing_known, cut_off_known}
 use Rattle.timed_reports.proofs.AtRest.{none_computing_yet, none_out_yet}
+
+-- the step moves no way to its prefix
+abbrev Still : World → Step → Watched → Type 0
+Still w s c = MovesNoWay w s c.prefix
 
 module _ (n : Network) (es : List Event) (v : World) (runs : Runs (opening n) (steps_of es) v) (e : Event) (lawful : Lawful v e.step) (past new : List Spell) (cs ds : List Watched) (each : AreWatched n.routers (prefixes_of n.attachments) cs) where
   abbrev after : World
   after = next v e.step
 
-  computations_after : IsRecorded IsComputing (opening n) es v past cs → AreLooked IsComputing after e.moment (IsElsewhere e.step) (length cs) cs ds past new → IsRecorded IsComputing (opening n) (es ++ e ∷ []) after new ds
-  computations_after R L = recorded_after IsComputing (opening n) es v e runs lawful (IsElsewhere e.step)
-      (λ c aside. let same = same_machines v c.router e.step c.prefix c.since aside in (computing_too v after c.prefix c.router same, computing_too after v c.prefix c.router (sym same)))
+  computations_after : IsRecorded IsComputing (opening n) es v past cs → AreLooked IsComputing after e.moment (IsElsewhere v e.step) (length cs) cs ds past new → IsRecorded IsComputing (opening n) (es ++ e ∷ []) after new ds
+  computations_after R L = recorded_after IsComputing (opening n) es v e runs lawful (IsElsewhere v e.step)
+      (λ c aside. let same = same_machine v c.router c.prefix e.step c.since aside in (computing_too v after c.prefix c.router same, computing_too after v c.prefix c.router (sym same)))
       past new cs ds n.routers (prefixes_of n.attachments) each
       (computing_known n (steps_of es) v runs)
       (computing_known n (steps_of (es ++ e ∷ [])) after (runs_all (opening n) es v e runs lawful))
       R L
 
-  outages_after : IsRecorded IsCutOff (opening n) es v past cs → AreLooked IsCutOff after e.moment (MovesNoWay e.step) (length cs) cs ds past new → IsRecorded IsCutOff (opening n) (es ++ e ∷ []) after new ds
-  outages_after R L = recorded_after IsCutOff (opening n) es v e runs lawful (MovesNoWay e.step)
-      (λ c none. let same = alike_after v e.step none in (cut_off_alike v after same c.prefix c.router, cut_off_alike after v (alike_turned v after same) c.prefix c.router))
+  outages_after : IsRecorded IsCutOff (opening n) es v past cs → AreLooked IsCutOff after e.moment (Still v e.step) (length cs) cs ds past new → IsRecorded IsCutOff (opening n) (es ++ e ∷ []) after new ds
+  outages_after R L = recorded_after IsCutOff (opening n) es v e runs lawful (Still v e.step)
+      (λ c still. let same = alike_after c.prefix v e.step still in (cut_off_alike c.prefix v after same c.router, cut_off_alike c.prefix after v (alike_turned c.prefix v after same) c.router))
       past new cs ds n.routers (prefixes_of n.attachments) each
       (cut_off_known n (steps_of es) v runs)
       (cut_off_known n (steps_of (es ++ e ∷ [])) after (runs_all (opening n) es v e runs lawful))
       R L
 
--- what an event leaves of a report
+-- ---- a step keeps the prefixes
+
+link_prefixes : (w : World) (i q : ℕ) (f : End → Link → Link) → (changed_link i q f w).prefixes ≡ w.prefixes
+link_prefixes w i q f = option_map_or-ind (λ (v : World). v.prefixes ≡ w.prefixes) (λ (x : Place). record w { links = changed_at x.link (f x.end) w.links }) (place_at w i q) w refl (λ x is. refl)
+
+prefixes_next : (w : World) (s : Step) → (next w s).prefixes ≡ w.prefixes
+prefixes_next w (LinkUp l) = refl
+prefixes_next w (LinkDown l) = refl
+prefixes_next w (SetCost i q cost) = link_prefixes w i q (with_cost cost)
+prefixes_next w (Deliver i q) = option_map_or-ind (λ (v : World). v.prefixes ≡ w.prefixes) (with_delivered i q w) (front_at w i q) (option_map_or (with_noticed i w) (notice_at w i q) w)
+    (option_map_or-ind (λ (v : World). v.prefixes ≡ w.prefixes) (with_noticed i w) (notice_at w i q) w refl (λ n is. refl))
+    (λ item is. link_prefixes w i q with_front_taken)
+prefixes_next w (Publish i) = refl
+prefixes_next w (Release i) = option_map_or-ind (λ (v : World). v.prefixes ≡ w.prefixes) (with_released i w) (release_at w i) w refl (λ h is. link_prefixes w i h.port (with_message h))
+prefixes_next w (Attach i p cost) = refl
+prefixes_next w (Detach i p) = refl
+
+prefixes_run : (w : World) (ss : List Step) (v : World) → Runs w ss v → v.prefixes ≡ w.prefixes
+prefixes_run w [] v same = ap (λ (u : World). u.prefixes) (sym same)
+prefixes_run w (s ∷ ss) v runs = prefixes_run (next w s) ss v runs.1 ∙ prefixes_next w s
+
+-- ---- what an event leaves of a report
+
 pub report_after : (es : List Event) (old : Reported) (e : Event) (computations : List Spell) (computing : List Watched) (outages : List Spell) (cut_off : List Watched) → IsReportOf es old → IsNext old.timed e
-    → AreLooked IsComputing (next (world_of old.timed) e.step) e.moment (IsElsewhere e.step) (length old.computing) old.computing computing old.computations computations
-    → AreLooked IsCutOff (next (world_of old.timed) e.step) e.moment (MovesNoWay e.step) (length old.cut_off) old.cut_off cut_off old.outages outages
+    → AreLooked IsComputing (next (world_of old.timed) e.step) e.moment (IsElsewhere (world_of old.timed) e.step) (length old.computing) old.computing computing old.computations computations
+    → AreLooked IsCutOff (next (world_of old.timed) e.step) e.moment (Still (world_of old.timed) e.step) (length old.cut_off) old.cut_off cut_off old.outages outages
     → IsReportOf (es ++ e ∷ []) (reported_of (after_event old.timed e) computations computing outages cut_off)
 report_after es old e computations computing outages cut_off R is L M =
     let n : Network = ((old.timed).simulation).network in
@@ -56,28 +86,36 @@ report_after es old e computations computing outages cut_off R is L M =
       ascends = ascends_all 0 es (old.timed).clock e R.ascends (next-after old.timed e is.next);
       runs = runs_all (opening n) es (world_of old.timed) e R.runs is.lawful;
       computations = computations_after n es (world_of old.timed) R.runs e is.lawful old.computations computations old.computing computing R.each_computing R.computations L;
-      each_computing = watched_after IsComputing (next (world_of old.timed) e.step) e.moment (IsElsewhere e.step) old.computations computations old.computing computing n.routers (prefixes_of n.attachments) L R.each_computing;
-      ordered_computing = order_after IsComputing (next (world_of old.timed) e.step) e.moment (IsElsewhere e.step) old.computations computations old.computing computing n.routers (prefixes_of n.attachments) L R.ordered_computing;
+      each_computing = watched_after IsComputing (next (world_of old.timed) e.step) e.moment (IsElsewhere (world_of old.timed) e.step) old.computations computations old.computing computing n.routers (prefixes_of n.attachments) L R.each_computing;
+      ordered_computing = order_after IsComputing (next (world_of old.timed) e.step) e.moment (IsElsewhere (world_of old.timed) e.step) old.computations computations old.computing computing n.routers (prefixes_of n.attachments) L R.ordered_computing;
       outages = outages_after n es (world_of old.timed) R.runs e is.lawful old.outages outages old.cut_off cut_off R.each_cut_off R.outages M;
-      each_cut_off = watched_after IsCutOff (next (world_of old.timed) e.step) e.moment (MovesNoWay e.step) old.outages outages old.cut_off cut_off n.routers (prefixes_of n.attachments) M R.each_cut_off;
-      ordered_cut_off = order_after IsCutOff (next (world_of old.timed) e.step) e.moment (MovesNoWay e.step) old.outages outages old.cut_off cut_off n.routers (prefixes_of n.attachments) M R.ordered_cut_off;
+      each_cut_off = watched_after IsCutOff (next (world_of old.timed) e.step) e.moment (Still (world_of old.timed) e.step) old.outages outages old.cut_off cut_off n.routers (prefixes_of n.attachments) M R.each_cut_off;
+      ordered_cut_off = order_after IsCutOff (next (world_of old.timed) e.step) e.moment (Still (world_of old.timed) e.step) old.outages outages old.cut_off cut_off n.routers (prefixes_of n.attachments) M R.ordered_cut_off;
     }
 
--- the same of what the code has of it
-pub records_event : (old : Reported) (e : Event) (timed : Timed) (w u : World) (past out : List Spell) (computations : List Spell) (computing : List Watched) (outages : List Spell) (cut_off : List Watched) → IsNext old.timed e → timed ≡ after_event old.timed e → w ≡ world_of timed → u ≡ world_of timed → past ≡ old.computations → out ≡ old.outages
-    → AreLooked IsComputing w e.moment (IsElsewhere e.step) (length old.computing) old.computing computing past computations
-    → AreLooked IsCutOff u e.moment (MovesNoWay e.step) (length old.cut_off) old.cut_off cut_off out outages
+-- the same of what the code has of it: what it left aside is what the message that was taken, and the marks, allow
+pub records_event : (old : Reported) (e : Event) (timed : Timed) (told : Option Prefix) (marks : List Bool) (w u : World) (past out : List Spell) (computations : List Spell) (computing : List Watched) (outages : List Spell) (cut_off : List Watched) → IsNext old.timed e → timed ≡ after_event old.timed e → IfSome told (IsTold (world_of old.timed) e.step)
+    → (moves_ways e.step ≡ true → MarksMoved (world_of old.timed) e.step marks) → w ≡ world_of timed → u ≡ world_of timed → past ≡ old.computations → out ≡ old.outages
+    → AreLooked IsComputing w e.moment (IsPassedBy e.step told) (length old.computing) old.computing computing past computations
+    → AreLooked IsCutOff u e.moment (IsStill e.step u.prefixes marks) (length old.cut_off) old.cut_off cut_off out outages
     → RecordsEvent old e (reported_of timed computations computing outages cut_off)
-records_event old e timed w u past out computations computing outages cut_off is made at at_out before before_out L M =
-    let same : w ≡ next (world_of old.timed) e.step = at ∙ ap world_of made in
-    let same_out : u ≡ next (world_of old.timed) e.step = at_out ∙ ap world_of made in
-    let looked : AreLooked IsComputing w e.moment (IsElsewhere e.step) (length old.computing) old.computing computing old.computations computations = subst (λ (xs : List Spell). AreLooked IsComputing w e.moment (IsElsewhere e.step) (length old.computing) old.computing computing xs computations) before L in
-    let looked_out : AreLooked IsCutOff u e.moment (MovesNoWay e.step) (length old.cut_off) old.cut_off cut_off old.outages outages = subst (λ (xs : List Spell). AreLooked IsCutOff u e.moment (MovesNoWay e.step) (length old.cut_off) old.cut_off cut_off xs outages) before_out M in
+records_event old e timed told marks w u past out computations computing outages cut_off is made tells marked at at_out before before_out L M =
+    let before_it : World = world_of old.timed in
+    let then_is : World = next before_it e.step in
+    let same : w ≡ then_is = at ∙ ap world_of made in
+    let same_out : u ≡ then_is = at_out ∙ ap world_of made in
+    let prefixes : u.prefixes ≡ before_it.prefixes = ap (λ (v : World). v.prefixes) same_out ∙ prefixes_next before_it e.step in
+    let looked : AreLooked IsComputing w e.moment (IsElsewhere before_it e.step) (length old.computing) old.computing computing old.computations computations
+    = subst (λ (xs : List Spell). AreLooked IsComputing w e.moment (IsElsewhere before_it e.step) (length old.computing) old.computing computing xs computations) before
+    (looked_beside_more IsComputing w e.moment (IsPassedBy e.step told) (IsElsewhere before_it e.step) (passed_elsewhere before_it e.step told tells) (length old.computing) old.computing computing past computations L) in
+    let looked_out : AreLooked IsCutOff u e.moment (Still before_it e.step) (length old.cut_off) old.cut_off cut_off old.outages outages
+    = subst (λ (xs : List Spell). AreLooked IsCutOff u e.moment (Still before_it e.step) (length old.cut_off) old.cut_off cut_off xs outages) before_out
+    (looked_beside_more IsCutOff u e.moment (IsStill e.step u.prefixes marks) (Still before_it e.step) (λ c still. none_moved before_it e.step marks marked c (subst (λ (ps : List Prefix). IsStill e.step ps marks c) prefixes still)) (length old.cut_off) old.cut_off cut_off out outages M) in
     record {
       exact = λ es R. subst (λ (t : Timed). IsReportOf (es ++ e ∷ []) (reported_of t computations computing outages cut_off)) (sym made)
           (report_after es old e computations computing outages cut_off R is
-          (subst (λ (v : World). AreLooked IsComputing v e.moment (IsElsewhere e.step) (length old.computing) old.computing computing old.computations computations) same looked)
-          (subst (λ (v : World). AreLooked IsCutOff v e.moment (MovesNoWay e.step) (length old.cut_off) old.cut_off cut_off old.outages outages) same_out looked_out));
+          (subst (λ (v : World). AreLooked IsComputing v e.moment (IsElsewhere before_it e.step) (length old.computing) old.computing computing old.computations computations) same looked)
+          (subst (λ (v : World). AreLooked IsCutOff v e.moment (Still before_it e.step) (length old.cut_off) old.cut_off cut_off old.outages outages) same_out looked_out));
       grown = record { computations = ((looked.ended).0, sym (looked.ended).1); outages = ((looked_out.ended).0, sym (looked_out.ended).1) };
     }
 
@@ -91,6 +129,32 @@ joined_after old e timed w K is made at =
 -- and has as many routers
 pub as_many_after : (old new : Timed) (e : Event) → new ≡ after_event old e → length (world_of new).routers ≡ length (world_of old).routers
 as_many_after old new e made = ap (λ (t : Timed). length (world_of t).routers) made ∙ (next-shape (world_of old) e.step).routers
+
+-- and the same prefixes
+pub same_prefixes_after : (old new : Timed) (e : Event) → new ≡ after_event old e → (world_of new).prefixes ≡ (world_of old).prefixes
+same_prefixes_after old new e made = ap (λ (t : Timed). (world_of t).prefixes) made ∙ prefixes_next (world_of old) e.step
+
+-- what is watched stands in the order of its prefixes, and for each in that of its routers
+pub in_order_after : (old : Reported) (e : Event) (timed : Timed) (w : World) → IsReport old → IsNext old.timed e → timed ≡ after_event old.timed e → w ≡ world_of timed → AreInOrder (length w.routers) w.prefixes old.computing × AreInOrder (length w.routers) w.prefixes old.cut_off
+in_order_after old e timed w K is made at =
+    let n : Network = ((old.timed).simulation).network in
+    let R : IsReportOf K.done old = K.exact in
+    let v : World = next (world_of old.timed) e.step in
+    let runs : Runs (opening n) (steps_of (K.done ++ e ∷ [])) v = runs_all (opening n) K.done (world_of old.timed) e R.runs is.lawful in
+    let same : v ≡ w = sym (at ∙ ap world_of made) in
+    let many : n.routers ≡ length v.routers = sym ((Runs-shape (opening n) (steps_of (K.done ++ e ∷ [])) v runs).routers ∙ length-map-range_with_len (opening_router_of n) 0 n.routers) in
+    let prefixes : prefixes_of n.attachments ≡ v.prefixes = sym (prefixes_run (opening n) (steps_of (K.done ++ e ∷ [])) v runs) in
+    let all : (cs : List Watched) → AreInOrder n.routers (prefixes_of n.attachments) cs → AreInOrder (length w.routers) w.prefixes cs
+    = λ cs order. subst (λ (x : World). AreInOrder (length x.routers) x.prefixes cs) same (subst (λ (k : ℕ). AreInOrder k v.prefixes cs) many (subst (λ (ps : List Prefix). AreInOrder n.routers ps cs) prefixes order)) in
+    (all old.computing R.ordered_computing, all old.cut_off R.ordered_cut_off)
+
+-- a router that takes something is one of the world's
+pub taker_within : (old : Reported) (e : Event) (timed : Timed) (w : World) → IsNext old.timed e → timed ≡ after_event old.timed e → w ≡ world_of timed → (i q : ℕ) → e.step ≡ Deliver i q → i < length w.routers
+taker_within old e timed w is made at i q takes =
+    let lawful : Lawful (world_of old.timed) (Deliver i q) = subst (Lawful (world_of old.timed)) takes is.lawful in
+    let there = slice_get_within (world_of old.timed).routers i lawful.0 lawful.1 in
+    let many : length w.routers ≡ length (world_of old.timed).routers = ap (λ (u : World). length u.routers) at ∙ as_many_after old.timed timed e made in
+    omega (arith, there, many)
 
 -- parts that stand for what was before
 pub same_report : (r : Reported) (timed : Timed) (xs ys : List Spell) → timed ≡ r.timed → xs ≡ r.computations → ys ≡ r.outages → reported_of timed xs r.computing ys r.cut_off ≡ r

@@ -2,10 +2,13 @@
 use Rattle.std.specs.Prelude.{ℕ, ◌≡◌, ◌≢◌, ◌<◌, ◌≤◌, ◌⊎◌, ◌↔◌, IsTrue, Bool, true, false, List, [], ◌∷◌, ◌++◌, map, flat_map, length, take, Option, Some, None, option_map, option_to_list, slice_get, slice_set, unwrap_or}
 use Rattle.std.specs.List.{list_any, range_with_len}
 use Rattle.ipv4_prefix.specs.Prefix.{Prefix, prefix_eq}
+use Rattle.network_model.specs.declared.item.Item.{Item}
+use Rattle.network_model.specs.declared.item.Message.{Message}
 use Rattle.network_model.specs.declared.step.Step.{Step}
 use Rattle.network_model.specs.declared.step.Step.TheVariants.{LinkUp, LinkDown, SetCost, Deliver, Publish, Release, Attach, Detach}
-use Rattle.network_model.specs.Step.{next}
+use Rattle.network_model.specs.Step.{front_at, next}
 use Rattle.network_model.specs.World.{World}
+use Rattle.no_packet_loops.specs.Packets.{control_entry, published_entry}
 use Rattle.timed_simulation.specs.declared.events.Event.{Event}
 use Rattle.timed_reports.specs.declared.spells.Spell.{Spell}
 use Rattle.timed_reports.specs.declared.spells.Watched.{Watched}
@@ -106,16 +109,16 @@ IsLooked K v now Aside place old new before after = (c : Watched) → slice_get 
 
 -- ---- which are left aside
 
--- an item that a router takes is met by its own machines alone, and nothing else moves a machine
-abbrev pub IsElsewhere : Step → Watched → Type 0
-IsElsewhere (Deliver i q) c = c.router ≢ i
-IsElsewhere (LinkUp l) c = Unit {0}
-IsElsewhere (LinkDown l) c = Unit {0}
-IsElsewhere (SetCost i q cost) c = Unit {0}
-IsElsewhere (Publish i) c = Unit {0}
-IsElsewhere (Release i) c = Unit {0}
-IsElsewhere (Attach i p cost) c = Unit {0}
-IsElsewhere (Detach i p) c = Unit {0}
+-- a machine meets only what its own router takes, and of messages only those for its prefix; nothing else moves it
+abbrev pub IsElsewhere : World → Step → Watched → Type 0
+IsElsewhere w (Deliver i q) c = (c.router ≢ i) ⊎ ((m : Message) × (front_at w i q ≡ Some (Item.Message m)) × (prefix_eq c.prefix m.prefix ≡ false))
+IsElsewhere w (LinkUp l) c = Unit {0}
+IsElsewhere w (LinkDown l) c = Unit {0}
+IsElsewhere w (SetCost i q cost) c = Unit {0}
+IsElsewhere w (Publish i) c = Unit {0}
+IsElsewhere w (Release i) c = Unit {0}
+IsElsewhere w (Attach i p cost) c = Unit {0}
+IsElsewhere w (Detach i p) c = Unit {0}
 
 -- whether a step may move ways: links, attachments and published rows do
 abbrev pub moves_ways : Step → Bool
@@ -128,6 +131,13 @@ moves_ways (Release i) = false
 moves_ways (Attach i p cost) = true
 moves_ways (Detach i p) = true
 
--- the step moves no way, so whoever is cut off stays so, and nobody else becomes so
-abbrev pub MovesNoWay : Step → Watched → Type 0
-MovesNoWay s c = moves_ways s ≡ false
+-- the step moves no way to the prefix, so whoever is cut off from it stays so, and nobody else becomes so: no link comes up or goes down, no row for the prefix is published that was not, and no attachment to it comes or goes
+abbrev pub MovesNoWay : World → Step → Prefix → Type 0
+MovesNoWay w (LinkUp l) p = ⊥
+MovesNoWay w (LinkDown l) p = ⊥
+MovesNoWay w (SetCost i q cost) p = Unit {0}
+MovesNoWay w (Deliver i q) p = Unit {0}
+MovesNoWay w (Publish i) p = control_entry w i p ≡ published_entry w i p
+MovesNoWay w (Release i) p = Unit {0}
+MovesNoWay w (Attach i q cost) p = prefix_eq p q ≡ false
+MovesNoWay w (Detach i q) p = prefix_eq p q ≡ false

@@ -16,9 +16,9 @@
 //!   |-- router 1 is cut off from the prefix at router 0 --|
 //! ```
 //!
-//! A [`Report`] runs a network event by event. After each it looks at what the event may have changed: the
-//! machines of a router that took an item, or all ways after a step that moves links, attachments or published
-//! rows.
+//! A [`Report`] runs a network event by event. After each it looks at what the event may have changed and at nothing
+//! else: the machine that met a message, or all those of a router that took another item; and the ways to each
+//! prefix whose attachments or published rows moved, or to all where a link came up or went down.
 //!
 //! ```text
 //! let mut report = Report::open(alloc, network, &delays, &publications)?;

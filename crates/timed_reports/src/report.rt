@@ -1,17 +1,19 @@
 //! The report: a network in simulated time, and what goes on in it and went on.
 
-ghost use Rattle.std.specs.Prelude.{Err, [], ◌≡◌, ◌+◌, ◌<◌, ◌≤◌, ◌⊎◌, false, Some, drop, length, slice_get, IfOk, IfErr, IfSome, OnOk, OnErr, MatchOption};
+ghost use Rattle.std.specs.Prelude.{Err, [], ◌≡◌, ◌+◌, ◌<◌, ◌≤◌, ◌⊎◌, false, true, Some, drop, length, slice_get, IfOk, IfErr, IfSome, OnOk, OnErr, MatchOption};
 ghost use Rattle.std.specs.Vec.{vec_capacity, vec_len};
 ghost use Rattle.coming_to_rest.specs.Worlds.{is_own};
-ghost use Rattle.timed_simulation.specs.Timed.{after_event, opening_timed, with_change};
+ghost use Rattle.timed_simulation.specs.Timed.{after_event, opening_timed, with_change, world_of};
 ghost use Rattle.timed_simulation.specs.Events.{next_event};
 ghost use Rattle.timed_simulation.specs.Due.{IsDoneUntil, NothingIsLate};
 ghost use Rattle.timed_simulation.specs.Runs.{IsAtRest, IsGivenOr, IsNext, IsStoppedAt, IsStoppedShort, IsTimed};
+ghost use Rattle.timed_reports.specs.Looks.{HasMarks, IsTold, MarksMoved};
+ghost use Rattle.timed_reports.specs.Records.{moves_ways};
 ghost use Rattle.timed_reports.specs.Reports.{IsReport, IsReportOf, IsReportRun, RecordsEvent};
 
-use crate::looks::{look_for_computations, look_for_outages};
+use crate::looks::{look_for_computations, look_for_outages, mark_moved, told_prefix};
 use crate::spells::{Spell, Watched, watch_all};
-use network_model::{NoMemory, Refusal, SmallAllocator, Step};
+use network_model::{NoMemory, Prefix, Refusal, SmallAllocator, Step};
 use reachability::CutOff;
 use std::alloc::Global;
 use std::marker::Model;
@@ -29,11 +31,13 @@ pub struct Report<A: SmallAllocator = Global> {
     cut_off: Vec<Watched, A>,
     // Where the routers are marked that are cut off from a prefix.
     cut: CutOff<A>,
+    // Where the prefixes are marked to which an event may move ways.
+    marks: Vec<bool, A>,
 }
 
 impl<A: SmallAllocator> Model for Report<A> {
     ghost use Rattle.timed_simulation.specs.Timed.{world_of};
-    ghost use Rattle.timed_reports.specs.Looks.{HasRoomForMarks};
+    ghost use Rattle.timed_reports.specs.Looks.{HasMarks, HasRoomForMarks};
     ghost use Rattle.timed_reports.specs.Reports.{IsReport, Reported, reported_of};
 
     ghost Value = { Reported };
@@ -42,7 +46,8 @@ impl<A: SmallAllocator> Model for Report<A> {
 
     ghost invariant = { λ r. IsReport
         (reported_of r.timed r.computations.items r.computing.items r.outages.items r.cut_off.items)
-        × HasRoomForMarks (world_of r.timed) r.cut };
+        × HasRoomForMarks (world_of r.timed) r.cut
+        × HasMarks (world_of r.timed) r.marks.items };
 }
 
 // Does the next event, or leaves all as it was.
@@ -63,6 +68,30 @@ fn do_one<A: SmallAllocator>(timed: &mut TimedSimulation<A>, event: &Event) -> R
         // The event is due, so it was done if nothing stopped it.
         None => unreachable!(),
     }
+}
+
+// Finds out what a step concerns before it is done: it marks the prefixes to which ways may move, and answers the one of
+// the message that is taken, if one is.
+fn look_ahead<A: SmallAllocator>(
+    timed: &TimedSimulation<A>,
+    step: &Step,
+    marks: &mut Vec<bool, A>,
+) -> Option<Prefix>
+    requires { HasMarks (world_of timed.now) marks.old.items }
+    ensures told { IfSome result (λ p. IsTold (world_of timed.now) step.now p) }
+    ensures marked { moves_ways step.now ≡ true → MarksMoved (world_of timed.now) step.now marks.new.items }
+    ensures many { length marks.new.items ≡ length marks.old.items }
+{
+    let world = timed.simulation().world();
+    mark_moved(world, step, marks);
+    told_prefix(world, step)
+}
+
+// No marks for so many prefixes.
+fn no_marks<A: SmallAllocator>(alloc: A, prefixes: usize) -> Result<Vec<bool, A>, NoMemory>
+    ensures { IfOk result (λ marks. length marks.items ≡ prefixes) }
+{
+    Ok(vec![in alloc; false; prefixes]?)
 }
 
 // Makes room for as many as may end with one event.
@@ -147,6 +176,7 @@ impl<A: SmallAllocator> Report<A> {
         let computing = watch_all(alloc, count, prefixes)?;
         let cut_off = watch_all(alloc, count, prefixes)?;
         let cut = CutOff::new(alloc, count)?;
+        let marks = no_marks(alloc, prefixes.len())?;
         Ok(Report {
             timed,
             computations: Vec::new(alloc),
@@ -154,6 +184,7 @@ impl<A: SmallAllocator> Report<A> {
             outages: Vec::new(alloc),
             cut_off,
             cut,
+            marks,
         })
     }
 
@@ -228,6 +259,7 @@ impl<A: SmallAllocator> Report<A> {
         ensures cause { IfErr result (IsStoppedAt (self.old).timed) }
     {
         let now = event.moment;
+        let told = look_ahead(&self.timed, &event.step, &mut self.marks);
         if let Err(fault) = do_next(
             &mut self.timed,
             &event,
@@ -241,6 +273,7 @@ impl<A: SmallAllocator> Report<A> {
         look_for_computations(
             self.timed.simulation().world(),
             &event.step,
+            told,
             now,
             &mut self.computing,
             &mut self.computations,
@@ -248,6 +281,7 @@ impl<A: SmallAllocator> Report<A> {
         look_for_outages(
             self.timed.simulation().world(),
             &event.step,
+            &self.marks,
             now,
             &mut self.cut,
             &mut self.cut_off,

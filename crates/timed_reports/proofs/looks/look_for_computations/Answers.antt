@@ -1,27 +1,39 @@
-use Rattle.std.proofs.Common.{◌≡◌, ℕ, length, refl, subst, sym}
+use Rattle.std.proofs.Common.{◌≡◌, ◌∙◌, ◌<◌, ℕ, List, Option, length, refl, ap, subst, sym}
+use Rattle.ipv4_prefix.specs.Prefix.{Prefix}
 use Rattle.network_model.specs.declared.step.Step.{Step}
 use Rattle.network_model.specs.declared.step.Step.TheVariants.{LinkUp, LinkDown, SetCost, Deliver, Publish, Release, Attach, Detach}
+use Rattle.network_model.specs.World.{Router}
 use Rattle.timed_reports.specs.declared.spells.Watched.{Watched}
 use Rattle.timed_reports.specs.Going.{IsComputing}
-use Rattle.timed_reports.specs.Records.{AreLooked, IsElsewhere}
+use Rattle.timed_reports.specs.Looks.{IsPassedBy}
+use Rattle.timed_reports.specs.Records.{AreInOrder, AreLooked}
 use Rattle.timed_reports.proofs.OneByOne.{looked_aside}
 use Rattle.timed_reports.proofs.looks.look_for_computations.Goals as goal
 
 -- no machine meets anything but where an item is taken
-elsewhere : (s : Step) → ((i q : ℕ) → s ≡ Deliver i q → ⊥) → (c : Watched) → IsElsewhere s c
-elsewhere (LinkUp l) other c = tt
-elsewhere (LinkDown l) other c = tt
-elsewhere (SetCost i q cost) other c = tt
-elsewhere (Deliver i q) other c = absurd (other i q refl)
-elsewhere (Publish i) other c = tt
-elsewhere (Release i) other c = tt
-elsewhere (Attach i p cost) other c = tt
-elsewhere (Detach i p) other c = tt
+passed : (s : Step) (told : Option Prefix) → ((i q : ℕ) → s ≡ Deliver i q → ⊥) → (c : Watched) → IsPassedBy s told c
+passed (LinkUp l) told other c = tt
+passed (LinkDown l) told other c = tt
+passed (SetCost i q cost) told other c = tt
+passed (Deliver i q) told other c = absurd (other i q refl)
+passed (Publish i) told other c = tt
+passed (Release i) told other c = tt
+passed (Attach i p cost) told other c = tt
+passed (Detach i p) told other c = tt
+
+pub look_at_router-requires-clause-order : goal.look_at_router-requires-clause-order
+look_at_router-requires-clause-order g c =
+    let many : length c.args.world.now.routers ≡ length c.routers-routers.result.now = sym (ap (λ (rs : List Router). length rs) c.routers-routers.ensures.routers) in
+    subst (λ (n : ℕ). AreInOrder n c.prefixes.result.now c.args.all.now.items) many (subst (λ (ps : List Prefix). AreInOrder (length c.args.world.now.routers) ps c.args.all.now.items) (sym c.prefixes.ensures) c.requires.order)
+
+pub look_at_router-requires-clause-known : goal.look_at_router-requires-clause-known
+look_at_router-requires-clause-known g c =
+    subst (λ (n : ℕ). c.in-Deliver.router < n) (sym (ap (λ (rs : List Router). length rs) c.routers-routers.ensures.routers)) (c.requires.known _ _ c.in-Deliver.is)
 
 pub returns-in-Deliver : goal.returns-in-Deliver
 returns-in-Deliver g c =
-    subst (λ (s : Step). AreLooked IsComputing c.args.world.now c.args.now (IsElsewhere s) (length c.args.all.now.items) c.args.all.now.items c.look_at_router.new.all.items c.args.ended.now.items c.look_at_router.new.ended.items) (sym c.in-Deliver.is)
+    subst (λ (s : Step). AreLooked IsComputing c.args.world.now c.args.now (IsPassedBy s c.args.told) (length c.args.all.now.items) c.args.all.now.items c.look_at_router.new.all.items c.args.ended.now.items c.look_at_router.new.ended.items) (sym c.in-Deliver.is)
     c.look_at_router.ensures
 
 pub returns-in_default : goal.returns-in_default
-returns-in_default g c = looked_aside IsComputing c.args.world.now c.args.now (IsElsewhere c.args.step.now) c.args.all.now.items c.args.ended.now.items (elsewhere c.args.step.now c.in_default.not-Deliver)
+returns-in_default g c = looked_aside IsComputing c.args.world.now c.args.now (IsPassedBy c.args.step.now c.args.told) c.args.all.now.items c.args.ended.now.items (passed c.args.step.now c.args.told c.in_default.not-Deliver)

@@ -1,37 +1,65 @@
-use Rattle.std.proofs.Common.{◌≡◌, ◌∙◌, ◌<◌, arith, length, sym, subst, ℕ, List}
+use Rattle.std.proofs.Common.{◌≡◌, ◌∙◌, ◌+◌, ◌*◌, ◌<◌, ℕ, List, arith, inl, inr, length, refl, sym, ap, subst}
+use Rattle.ipv4_prefix.specs.Prefix.{Prefix}
 use Rattle.reachability.specs.Ways.{IsCutOff}
-use Rattle.timed_reports.specs.declared.spells.Watched.{Watched}
-use Rattle.timed_reports.specs.Records.{AreLooked, MovesNoWay}
-use Rattle.timed_reports.proofs.OneByOne.{looked_aside, looked_beside_more, looked_next}
+use Rattle.timed_reports.specs.Looks.{AreLookedFurther, IsStill, IsUnmarked}
+use Rattle.timed_reports.specs.Records.{AreLooked}
+use Rattle.timed_reports.proofs.Blocks.{block_fits, many_watched}
+use Rattle.timed_reports.proofs.OneByOne.{looked_aside, looked_beside_more, looked_none}
 use Rattle.timed_reports.proofs.looks.look_for_outages.Goals as goal
 
-pub loop-place-preserved : goal.loop-place-preserved
-loop-place-preserved g c =
-    let cs : List Watched = c.loop-place.all.items in
-    let as_many = c.loop-place.invariant.looked.as_many in
-    let end = c.len-place-end.ensures in
-    let ok = c.args.all.now.ok.0 in
-    let test = c.loop-place-test.true in
-    let below : c.loop-place.place < length cs = omega (arith, as_many, end, ok, test) in
-    let before = c.loop-place.invariant.room in
-    let room = c.look_for_outage.ensures.room in
-    let capacity = c.look_for_outage.ensures.capacity in
+pub loop-number-init : goal.loop-number-init
+loop-number-init g c =
+    let none : 0 ≡ 0 * length c.args.world.now.routers = omega arith in
+    let room = c.requires.room in
     record {
-      looked = looked_next IsCutOff c.args.world.now c.args.now (λ (d : Watched). ⊥) c.args.all.now.items c.args.ended.now.items c.loop-place.place cs c.loop-place.ended.items c.loop-place.invariant.looked below c.look_for_outage.new.all.items c.look_for_outage.new.ended.items c.look_for_outage.ensures.looked;
+      looked = subst (λ (m : ℕ). AreLooked IsCutOff c.args.world.now c.args.now (IsUnmarked c.args.world.now.prefixes c.args.marks.now) m c.args.all.now.items c.args.all.now.items c.args.ended.now.items c.args.ended.now.items) none
+          (looked_none IsCutOff c.args.world.now c.args.now (IsUnmarked c.args.world.now.prefixes c.args.marks.now) c.args.all.now.items c.args.ended.now.items);
+      room = omega (arith, room);
+      size = refl;
+    }
+
+pub look_at_prefix-requires-clause-within : goal.look_at_prefix-requires-clause-within
+look_at_prefix-requires-clause-within g c =
+    let below : c.loop-number.number < length c.args.world.now.prefixes = subst (λ (ps : List Prefix). c.loop-number.number < length ps) c.prefixes-prefixes.ensures c.loop-number-test.true in
+    let fits = block_fits (length c.args.world.now.routers) c.args.world.now.prefixes c.args.all.now.items c.requires.order c.loop-number.number below in
+    let as_many = c.loop-number.invariant.looked.as_many in
+    omega (arith, fits, as_many)
+
+pub look_at_prefix-requires-clause-room : goal.look_at_prefix-requires-clause-room
+look_at_prefix-requires-clause-room g c =
+    let below : c.loop-number.number < length c.args.world.now.prefixes = subst (λ (ps : List Prefix). c.loop-number.number < length ps) c.prefixes-prefixes.ensures c.loop-number-test.true in
+    let fits = block_fits (length c.args.world.now.routers) c.args.world.now.prefixes c.args.all.now.items c.requires.order c.loop-number.number below in
+    let before = c.loop-number.invariant.room in
+    omega (arith, fits, before)
+
+pub loop-number-preserved : goal.loop-number-preserved
+loop-number-preserved g c =
+    let w = c.args.world.now in
+    let k = c.loop-number.number in
+    let further : AreLookedFurther w c.args.now w.prefixes c.args.marks.now k c.loop-number.all.items c.look_at_prefix.new.all.items c.loop-number.ended.items c.look_at_prefix.new.ended.items
+    = subst (λ (ps : List Prefix). AreLookedFurther w c.args.now ps c.args.marks.now k c.loop-number.all.items c.look_at_prefix.new.all.items c.loop-number.ended.items c.look_at_prefix.new.ended.items) c.prefixes-prefixes.ensures c.look_at_prefix.ensures.looked in
+    let more : k * length w.routers + length w.routers ≡ (k + 1) * length w.routers = omega arith in
+    let before = c.loop-number.invariant.room in
+    let room = c.look_at_prefix.ensures.room in
+    let capacity = c.look_at_prefix.ensures.capacity in
+    record {
+      looked = subst (λ (m : ℕ). AreLooked IsCutOff w c.args.now (IsUnmarked w.prefixes c.args.marks.now) m c.args.all.now.items c.look_at_prefix.new.all.items c.args.ended.now.items c.look_at_prefix.new.ended.items) more
+          (further c.args.all.now.items c.args.ended.now.items c.requires.order c.loop-number.invariant.looked);
       room = omega (arith, before, room, capacity);
-      marked = c.look_for_outage.ensures.marked;
-      size = c.look_for_outage.ensures.size ∙ c.loop-place.invariant.size;
+      size = c.look_at_prefix.ensures.size ∙ c.loop-number.invariant.size;
     }
 
 pub returns-clause-looked : goal.returns-clause-looked
 returns-clause-looked g c =
-    let end = c.len-place-end.ensures in
-    let ok = c.args.all.now.ok.0 in
-    let over = c.loop-place-test.false in
-    let up_to = c.loop-place.auto.place-end in
-    let all : c.loop-place.place ≡ length c.args.all.now.items = omega (arith, end, ok, over, up_to) in
-    looked_beside_more IsCutOff c.args.world.now c.args.now (λ (d : Watched). ⊥) (MovesNoWay c.args.step.now) (λ d never. absurd never) (length c.args.all.now.items) c.args.all.now.items c.loop-place.all.items c.args.ended.now.items c.loop-place.ended.items
-    (subst (λ (k : ℕ). AreLooked IsCutOff c.args.world.now c.args.now (λ (d : Watched). ⊥) k c.args.all.now.items c.loop-place.all.items c.args.ended.now.items c.loop-place.ended.items) all c.loop-place.invariant.looked)
+    let w = c.args.world.now in
+    let ends = ap (λ (ps : List Prefix). length ps) c.prefixes-prefixes.ensures in
+    let over = c.loop-number-test.false in
+    let up_to = c.loop-number.auto.number-end in
+    let last : c.loop-number.number ≡ length w.prefixes = omega (arith, over, up_to, ends) in
+    let all : c.loop-number.number * length w.routers ≡ length c.args.all.now.items = ap (λ (m : ℕ). m * length w.routers) last ∙ sym (many_watched (length w.routers) w.prefixes c.args.all.now.items c.requires.order) in
+    looked_beside_more IsCutOff w c.args.now (IsUnmarked w.prefixes c.args.marks.now) (IsStill c.args.step.now w.prefixes c.args.marks.now) (λ d unmarked. inr unmarked) (length c.args.all.now.items) c.args.all.now.items c.loop-number.all.items c.args.ended.now.items c.loop-number.ended.items
+    (subst (λ (m : ℕ). AreLooked IsCutOff w c.args.now (IsUnmarked w.prefixes c.args.marks.now) m c.args.all.now.items c.loop-number.all.items c.args.ended.now.items c.loop-number.ended.items) all c.loop-number.invariant.looked)
 
 pub returns-then-not-moves_ways-clause-looked : goal.returns-then-not-moves_ways-clause-looked
-returns-then-not-moves_ways-clause-looked g c = looked_aside IsCutOff c.args.world.now c.args.now (MovesNoWay c.args.step.now) c.args.all.now.items c.args.ended.now.items (λ d. sym c.moves_ways.ensures ∙ c.if-not-moves_ways.true)
+returns-then-not-moves_ways-clause-looked g c =
+    looked_aside IsCutOff c.args.world.now c.args.now (IsStill c.args.step.now c.args.world.now.prefixes c.args.marks.now) c.args.all.now.items c.args.ended.now.items (λ d. inl (sym c.moves_ways.ensures ∙ c.if-not-moves_ways.true))

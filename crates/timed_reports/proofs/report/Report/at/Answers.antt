@@ -14,6 +14,7 @@ invariant_of-self g c =
     let same = timed_either c.at.result c.self.inside.timed c.at.new.self changed c.at.ensures.ok c.at.ensures.err refl refl in (
       report_kept old c.at.new.self same c.self.invariant.0,
       subst (λ (s : Simulation). size c.self.inside.cut ≡ length (s.world).routers) (sym same.0) c.self.invariant.1,
+      subst (λ (s : Simulation). length c.self.inside.marks.items ≡ length (s.world).prefixes) (sym same.0) c.self.invariant.2,
     )
 
 pub returns-clause-ok : goal.returns-clause-ok

@@ -1,5 +1,5 @@
-use Rattle.std.proofs.Common.{◌≡◌, ◌∙◌, ◌≤◌, [], length, ℕ, ap, sym, subst}
-use Rattle.no_packet_loops.proofs.Common.{World}
+use Rattle.std.proofs.Common.{◌≡◌, ◌∙◌, ◌≤◌, List, [], length, ℕ, ap, sym, subst}
+use Rattle.no_packet_loops.proofs.Common.{Prefix, World}
 use Rattle.simulation.specs.Simulation.{Simulation}
 use Rattle.timed_simulation.specs.Timed.{world_of}
 use Rattle.timed_reports.proofs.Whole.{few_at, report_opens}
@@ -25,6 +25,7 @@ invariant_of-result g c =
             c.in_ok-computing.ensures.each c.in_ok-computing.ensures.none c.in_ok-cut_off.ensures.each c.in_ok-cut_off.ensures.none c.in_ok-computing.ensures.order c.in_ok-cut_off.ensures.order c.new-2.result.items c.new-3.result.items c.new-2.ensures.items c.new-3.ensures.items;
       },
       c.in_ok-cut.ensures.size ∙ count,
+      c.in_ok-marks.ensures ∙ ap (λ (ps : List Prefix). length ps) prefixes,
     )
 
 pub returns-clause-fresh : goal.returns-clause-fresh

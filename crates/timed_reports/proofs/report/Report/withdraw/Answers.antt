@@ -12,6 +12,7 @@ invariant_of-self g c =
     let simulation : (c.withdraw.new.self).simulation ≡ (c.self.inside.timed).simulation = ap (λ (t : Timed). t.simulation) c.withdraw.ensures.rest in (
       report_kept old c.withdraw.new.self (simulation, ap (λ (t : Timed). t.clock) c.withdraw.ensures.rest) c.self.invariant.0,
       subst (λ (s : Simulation). size c.self.inside.cut ≡ length (s.world).routers) (sym simulation) c.self.invariant.1,
+      subst (λ (s : Simulation). length c.self.inside.marks.items ≡ length (s.world).prefixes) (sym simulation) c.self.invariant.2,
     )
 
 pub returns-clause-change : goal.returns-clause-change
