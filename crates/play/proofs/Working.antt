@@ -1,8 +1,7 @@
 -- What is done on the network of the plan of a text is done on the network of the text.
 use Rattle.std.specs.Prelude.{⊤}
-use Rattle.std.proofs.Common.{Result, Ok, Err, OnOk, ◌≡◌, ◌≤◌, ◌++◌, [], Bool, true, false, Some, unwrap_or, append-nil, inl, inr, List, length, ap, subst, ◌∙◌}
+use Rattle.std.proofs.Common.{Result, Ok, Err, IfErr, OnOk, ◌≡◌, ◌≤◌, ◌++◌, [], Bool, true, false, Some, unwrap_or, append-nil, inl, inr, List, length, ap, subst, ◌∙◌}
 use Rattle.network_model.specs.World.{Network}
-use Rattle.either.specs.declared.Either.TheVariants.{Left, Right}
 use Rattle.fabric.specs.Fabric.{Fabric, opening_fabric}
 use Rattle.texts.specs.Words.{Text}
 use Rattle.script.specs.Directories.{Directory}
@@ -12,13 +11,12 @@ use Rattle.plans.specs.declared.plan.Plan.{Plan}
 use Rattle.plans.specs.Faults.{most_bytes}
 use Rattle.plans.specs.Scenarios.{network_read}
 use Rattle.plans.proofs.Planned.{IsPlanned}
-use Rattle.sessions.specs.Nets.{Net}
 use Rattle.journal.specs.Journal.{journal_text}
 use Rattle.play.specs.Ends.{KeepsJournal}
-use Rattle.play.specs.Works.{IsWorked, StopsOn, StopsWork, Works, is_kept, kept}
+use Rattle.play.specs.Works.{IsOfNothing, IsWorked, StopsOn, StopsWork, Works, none_kept}
 
-module _ (opened : Network → Net) (text : Text) (plan : Plan) (short : length text ≤ most_bytes) (planned : IsPlanned text plan) where
-  pub worked : (Comes : List Command → Net → Net → Type 0) (Keeps : Directory → Net → Type 0) → Works opened Comes Keeps plan → IsWorked opened Comes Keeps text
+module _ {S : Type 0} (opened : Network → S) (text : Text) (plan : Plan) (short : length text ≤ most_bytes) (planned : IsPlanned text plan) where
+  pub worked : (Comes : List Command → S → S → Type 0) (Keeps : Directory → S → Type 0) → Works opened Comes Keeps plan → IsWorked opened Comes Keeps text
   worked Comes Keeps works = record {
     short = short;
     parts = planned.0;
@@ -28,7 +26,7 @@ module _ (opened : Network → Net) (text : Text) (plan : Plan) (short : length 
     keeps = subst (λ d. Keeps d works.0) planned.2.directory works.2;
   }
 
-  pub stopped : (Early : Fault → Type 0) (Stops : List Command → Net → Net → Fault → Type 0) (fault : Fault) → StopsWork opened Early Stops plan fault → StopsOn opened Early Stops text fault
+  pub stopped : (Early : Fault → Type 0) (Stops : List Command → S → S → Fault → Type 0) (fault : Fault) → StopsWork opened Early Stops plan fault → StopsOn opened Early Stops text fault
   stopped Early Stops fault (inl memory) = inl (inr (inl memory))
   stopped Early Stops fault (inr (inl early)) = inr (inl early)
   stopped Early Stops fault (inr (inr there)) = inr (inr (record {
@@ -39,14 +37,27 @@ module _ (opened : Network → Net) (text : Text) (plan : Plan) (short : length 
     stops = subst (λ cs. Stops cs (opened (network_read planned.0)) there.0 fault) planned.2.commands (subst (λ n. Stops plan.commands.items (opened n) there.0 fault) planned.2.network there.1);
   }))
 
+-- what came of the commands on a simulation, of which nothing is kept
+pub works_there : {S : Type 0} (opened : Network → S) (Done : List Command → S → S → Type 0) (plan : Plan) (m n : S) (cs : List Command) (r : Result ⊤ Fault)
+    → m ≡ opened plan.network → cs ≡ plan.commands.items → OnOk r (Done cs m n) → OnOk r (Works opened Done none_kept plan)
+works_there opened Done plan m n cs (Err e) opens commands done = tt
+works_there opened Done plan m n cs (Ok x) opens commands done =
+    (n, subst (λ h. Done plan.commands.items h n) opens (subst (λ (xs : List Command). Done xs m n) commands done), tt)
+
+pub stops_there : {S : Type 0} (opened : Network → S) (Stops : List Command → S → S → Fault → Type 0) (plan : Plan) (m n : S) (cs : List Command) (r : Result ⊤ Fault)
+    → m ≡ opened plan.network → cs ≡ plan.commands.items → IfErr r (Stops cs m n) → IfErr r (StopsWork opened IsOfNothing Stops plan)
+stops_there opened Stops plan m n cs (Ok x) opens commands stops = tt
+stops_there opened Stops plan m n cs (Err e) opens commands stops =
+    inr (inr (n, subst (λ h. Stops plan.commands.items h n e) opens (subst (λ (xs : List Command). Stops xs m n e) commands stops)))
+
 -- what came of the commands on a fabric, and of what was to be kept of it
-pub works_kept : (Done : List Command → Net → Net → Type 0) (Keeps : Directory → Fabric → Type 0) (plan : Plan) (d : Directory) (f g : Fabric) (done r : Result ⊤ Fault) (cs : List Command) → d ≡ plan.directory
-    → f ≡ opening_fabric plan.network → cs ≡ plan.commands.items → OnOk done (Done cs (Left f) (Left g)) → OnOk r ((done ≡ Ok tt) × Keeps d g) → OnOk r (Works kept Done (is_kept Keeps) plan)
+pub works_kept : (Done : List Command → Fabric → Fabric → Type 0) (Keeps : Directory → Fabric → Type 0) (plan : Plan) (d : Directory) (f g : Fabric) (done r : Result ⊤ Fault) (cs : List Command) → d ≡ plan.directory
+    → f ≡ opening_fabric plan.network → cs ≡ plan.commands.items → OnOk done (Done cs f g) → OnOk r ((done ≡ Ok tt) × Keeps d g) → OnOk r (Works opening_fabric Done Keeps plan)
 works_kept Done Keeps plan d f g done (Err e) cs names opens commands comes keeps = tt
 works_kept Done Keeps plan d f g done (Ok x) cs names opens commands comes keeps = (
-  Left g,
-  subst (λ (h : Fabric). Done plan.commands.items (Left h) (Left g)) opens
-      (subst (λ (xs : List Command). Done xs (Left f) (Left g)) commands (subst (λ q. OnOk q (Done cs (Left f) (Left g))) keeps.0 comes)),
+  g,
+  subst (λ (h : Fabric). Done plan.commands.items h g) opens
+      (subst (λ (xs : List Command). Done xs f g) commands (subst (λ q. OnOk q (Done cs f g)) keeps.0 comes)),
   subst (λ (e : Directory). Keeps e g) names keeps.1,
 )
 
@@ -56,7 +67,6 @@ journal_added true d f old none made new empty added (report, appends) = (report
 journal_added false d f old none made new empty added same =
     ap Some (added ∙ ap (λ bytes. old ++ bytes) (ap (λ o. unwrap_or o []) same ∙ empty) ∙ append-nil old)
 
-pub works_added : (wanted : Bool) (Done : List Command → Net → Net → Type 0) (plan : Plan) (old none made new : Text) → none ≡ [] → new ≡ old ++ made
-    → Works kept Done (is_kept (λ d f. KeepsJournal wanted d f (Some none) (Some made))) plan → Works kept Done (is_kept (λ d f. KeepsJournal wanted d f (Some old) (Some new))) plan
-works_added wanted Done plan old none made new empty added (Left f, done, keeps) = (Left f, done, journal_added wanted plan.directory f old none made new empty added keeps)
-works_added wanted Done plan old none made new empty added (Right c, done, keeps) = absurd keeps
+pub works_added : (wanted : Bool) (Done : List Command → Fabric → Fabric → Type 0) (plan : Plan) (old none made new : Text) → none ≡ [] → new ≡ old ++ made
+    → Works opening_fabric Done (λ d f. KeepsJournal wanted d f (Some none) (Some made)) plan → Works opening_fabric Done (λ d f. KeepsJournal wanted d f (Some old) (Some new)) plan
+works_added wanted Done plan old none made new empty added (f, done, keeps) = (f, done, journal_added wanted plan.directory f old none made new empty added keeps)

@@ -1,5 +1,6 @@
 -- How the program ends, whatever it is asked for.
 use Rattle.std.specs.Prelude.{◌≡◌, ◌⊎◌, ℕ, Bool, true, false, Option, Some}
+use Rattle.fabric.specs.Fabric.{opening_fabric}
 use Rattle.texts.specs.Words.{Text}
 use Rattle.command_line.specs.declared.words.Words.{Words}
 use Rattle.command_line.specs.declared.words.Words.TheVariants.{Check, Run, Replay, Time, Explain, Shell}
@@ -8,32 +9,33 @@ use Rattle.plans.specs.declared.outcome.Outcome.{Outcome}
 use Rattle.plans.specs.declared.outcome.Outcome.TheVariants.{Done}
 use Rattle.plans.specs.Faults.{OfBytes, status_at, status_of}
 use Rattle.plans.specs.Scenarios.{StopsReading}
+use Rattle.sessions.specs.Nets.{counted_meaning, kept_meaning, opening_counted}
 use Rattle.play.specs.Ends.{IsChecked, KeepsJournal}
 use Rattle.timing.specs.Ends.{IsTimedToEnd, StopsTime}
 use Rattle.play.specs.Replays.{Replays, StopsReplay}
-use Rattle.play.specs.Works.{Comes, IsOfNothing, IsOfWorkers, IsWorked, Stops, StopsOn, counted, is_kept, kept, none_kept}
+use Rattle.play.specs.Works.{Comes, IsOfNothing, IsOfWorkers, IsWorked, Stops, StopsOn, none_kept}
 
 -- how a command ends that has met no fault, where the text of a journal is wanted or not
 abbrev pub Ends : Bool → Words → Option Text → Option Text → Text → Text → Outcome → Type 0
 Ends wanted (Check _ _) scenario journal old new end = (end ≡ Done) × (new ≡ old) × OfBytes scenario IsChecked
-Ends wanted (Run _ _ _ _ false _ _ _) scenario journal old new end = (end ≡ Done) × OfBytes scenario (IsWorked kept (Comes false) (is_kept (λ d f. KeepsJournal wanted d f (Some old) (Some new))))
-Ends wanted (Run _ _ _ _ true _ _ _) scenario journal old new end = (end ≡ Done) × (new ≡ old) × OfBytes scenario (IsWorked counted (Comes false) none_kept)
+Ends wanted (Run _ _ _ _ false _ _ _) scenario journal old new end = (end ≡ Done) × OfBytes scenario (IsWorked opening_fabric (Comes kept_meaning false) (λ d f. KeepsJournal wanted d f (Some old) (Some new)))
+Ends wanted (Run _ _ _ _ true _ _ _) scenario journal old new end = (end ≡ Done) × (new ≡ old) × OfBytes scenario (IsWorked opening_counted (Comes counted_meaning false) none_kept)
 Ends wanted (Replay _ _ _ _ _) scenario journal old new end = (new ≡ old) × OfBytes scenario (λ bytes. OfBytes journal (λ lines. Replays bytes lines end))
 Ends wanted (Time _ _ _ _ _) scenario journal old new end = (end ≡ Done) × (new ≡ old) × OfBytes scenario (λ bytes. OfBytes journal (IsTimedToEnd bytes))
 Ends wanted (Explain _) scenario journal old new end = (end ≡ Done) × (new ≡ old)
-Ends wanted (Shell _ _ false _ _) scenario journal old new end = (end ≡ Done) × OfBytes scenario (IsWorked kept (Comes true) (is_kept (λ d f. KeepsJournal wanted d f (Some old) (Some new))))
-Ends wanted (Shell _ _ true _ _) scenario journal old new end = (end ≡ Done) × (new ≡ old) × OfBytes scenario (IsWorked counted (Comes true) none_kept)
+Ends wanted (Shell _ _ false _ _) scenario journal old new end = (end ≡ Done) × OfBytes scenario (IsWorked opening_fabric (Comes kept_meaning true) (λ d f. KeepsJournal wanted d f (Some old) (Some new)))
+Ends wanted (Shell _ _ true _ _) scenario journal old new end = (end ≡ Done) × (new ≡ old) × OfBytes scenario (IsWorked opening_counted (Comes counted_meaning true) none_kept)
 
 -- why a command stops
 abbrev pub StopsWords : Words → Option Text → Option Text → Fault → Type 0
 StopsWords (Check _ _) scenario journal fault = OfBytes scenario (λ bytes. StopsReading bytes fault)
-StopsWords (Run _ _ _ _ false _ _ _) scenario journal fault = OfBytes scenario (λ bytes. StopsOn kept IsOfWorkers (Stops false) bytes fault)
-StopsWords (Run _ _ _ _ true _ _ _) scenario journal fault = OfBytes scenario (λ bytes. StopsOn counted IsOfNothing (Stops false) bytes fault)
+StopsWords (Run _ _ _ _ false _ _ _) scenario journal fault = OfBytes scenario (λ bytes. StopsOn opening_fabric IsOfWorkers (Stops kept_meaning false) bytes fault)
+StopsWords (Run _ _ _ _ true _ _ _) scenario journal fault = OfBytes scenario (λ bytes. StopsOn opening_counted IsOfNothing (Stops counted_meaning false) bytes fault)
 StopsWords (Replay _ _ _ _ _) scenario journal fault = OfBytes scenario (λ bytes. StopsReplay bytes journal fault)
 StopsWords (Time _ _ _ _ _) scenario journal fault = OfBytes scenario (λ bytes. StopsTime bytes journal fault)
 StopsWords (Explain _) scenario journal fault = ⊥
-StopsWords (Shell _ _ false _ _) scenario journal fault = OfBytes scenario (λ bytes. StopsOn kept IsOfWorkers (Stops true) bytes fault)
-StopsWords (Shell _ _ true _ _) scenario journal fault = OfBytes scenario (λ bytes. StopsOn counted IsOfNothing (Stops true) bytes fault)
+StopsWords (Shell _ _ false _ _) scenario journal fault = OfBytes scenario (λ bytes. StopsOn opening_fabric IsOfWorkers (Stops kept_meaning true) bytes fault)
+StopsWords (Shell _ _ true _ _) scenario journal fault = OfBytes scenario (λ bytes. StopsOn opening_counted IsOfNothing (Stops counted_meaning true) bytes fault)
 
 -- the program comes to an end, whose status it answers; or it stops for a fault, whose status it answers, and which alone its caller is handed: nothing is added to what is kept
 abbrev pub IsPlayed : Bool → Words → Option Text → Option Text → Text → Text → Option Fault → Option Fault → ℕ → Type 0

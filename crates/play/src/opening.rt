@@ -1,22 +1,20 @@
 //! Opens a network, has a script or a shell done on it, and closes it.
 
-ghost use Rattle.std.specs.Prelude.{◌≡◌, ◌⊎◌, true, Ok, Err, IfOk, IfErr, OnOk, is_some, vec_len};
+ghost use Rattle.std.specs.Prelude.{◌≡◌, ◌⊎◌, Ok, Err, IfErr, OnOk, is_some, vec_len};
+ghost use Rattle.fabric.specs.Fabric.{opening_fabric};
 ghost use Rattle.fabric.specs.Writers.{opening_tables};
-ghost use Rattle.either.specs.Either.{is_left};
-ghost use Rattle.either.specs.declared.Either.TheVariants.{Left as KeptNet, Right as CountedNet};
 ghost use Rattle.plans.specs.Faults.{IsUnanswered, IsWantOfMemory};
-ghost use Rattle.play.specs.Works.{Comes, IsOfNothing, IsOfWorkers, Stops, StopsWork, Works, counted as counted_net, is_kept, kept as kept_net, none_kept};
+ghost use Rattle.sessions.specs.Nets.{counted_meaning, kept_meaning, opening_counted};
+ghost use Rattle.play.specs.Works.{Comes, IsOfNothing, IsOfWorkers, Stops, StopsWork, Works, none_kept};
 
 use crate::keeping::Keeper;
 use crate::shell::do_lines;
-use either::Either;
 use fabric::{Fabric, FabricName, Unnamed};
-use faults::FaultKind;
 use lines::{Ended, Line};
 use plans::{Cause, Fault, Plan};
 use script::{Command, Directory};
 use sessions::{
-    Counted, Crew, Host, Kept, Live, PrintStyle, Session, TurnGate, do_commands, end_line, steps,
+    Counted, Crew, Host, Kept, Live, PrintStyle, Session, TurnGate, do_commands, end_line,
 };
 use std::alloc::Global;
 use std::io::{Read, Write};
@@ -54,10 +52,10 @@ where
     E: Write,
     K: Keeper,
     V: Write,
-    ensures ok { OnOk result (Works kept_net (Comes (is_some typed))
-        (is_kept (λ d f. K.keeps keeper.old d f (V.contents kept.old) (V.contents kept.new) keeper.new)) plan) }
-    ensures fault { IfErr result (StopsWork kept_net IsOfWorkers
-        (Stops (is_some typed)) plan) }
+    ensures ok { OnOk result (Works opening_fabric (Comes kept_meaning (is_some typed))
+        (λ d f. K.keeps keeper.old d f (V.contents kept.old) (V.contents kept.new) keeper.new) plan) }
+    ensures fault { IfErr result (StopsWork opening_fabric IsOfWorkers
+        (Stops kept_meaning (is_some typed)) plan) }
 {
     let unnamed = Unnamed::many(alloc, plan.network.routers())?;
     with_named::<Brand, H, G, J, W, E, K, V>(
@@ -92,10 +90,10 @@ where
     requires books { unnamed.items ≡ B.books }
     requires each { vec_len unnamed ≡ plan.network.routers }
     requires openings { opening_tables plan.network ≡ B.openings }
-    ensures ok { OnOk result (Works kept_net (Comes (is_some typed))
-        (is_kept (λ d f. K.keeps keeper.old d f (V.contents kept.old) (V.contents kept.new) keeper.new)) plan) }
-    ensures fault { IfErr result (StopsWork kept_net IsOfWorkers
-        (Stops (is_some typed)) plan) }
+    ensures ok { OnOk result (Works opening_fabric (Comes kept_meaning (is_some typed))
+        (λ d f. K.keeps keeper.old d f (V.contents kept.old) (V.contents kept.new) keeper.new) plan) }
+    ensures fault { IfErr result (StopsWork opening_fabric IsOfWorkers
+        (Stops kept_meaning (is_some typed)) plan) }
 {
     let Plan {
         network,
@@ -111,8 +109,8 @@ where
         style,
     };
     match Kept::new(*rt, alloc, hands.crew, fabric, readers) {
-        Ok(live) => {
-            let (fabric, done) = finish_kept(&session, live, typed, &commands, out, err);
+        Ok(net) => {
+            let (fabric, done) = finish_kept(&session, net, typed, &commands, out, err);
             let ended = keep(done, &fabric, &directory, keeper, kept);
             fabric.close(rt);
             ended
@@ -128,7 +126,7 @@ where
 // running, whatever came of it.
 fn finish_kept<B, H, G, J, W, E>(
     session: &Session<'_, G>,
-    kept: Kept<B, H>,
+    mut net: Kept<B, H>,
     typed: Option<J>,
     commands: &[Command],
     out: &mut W,
@@ -141,31 +139,15 @@ where
     J: Read + Drop,
     W: Write,
     E: Write,
-    ensures ok { OnOk result.1 (Comes (is_some typed) commands.now (KeptNet kept) (KeptNet result.0)) }
-    ensures fault { IfErr result.1 (λ e. Stops (is_some typed) commands.now (KeptNet kept)
-        (KeptNet result.0) e ⊎ IsUnanswered e) }
+    ensures ok { OnOk result.1 (Comes kept_meaning (is_some typed) commands.now net result.0) }
+    ensures fault { IfErr result.1 (λ e. Stops kept_meaning (is_some typed) commands.now net result.0 e
+        ⊎ IsUnanswered e) }
 {
-    let mut live: Live<B, H> = Either::Left(kept);
-    let done = do_all(session, &mut live, typed, commands, out, err);
-    let (fabric, answered) = close_kept(live);
+    let done = do_all(session, &mut net, typed, commands, out, err);
+    let (fabric, answered) = net.close();
     match (done, answered) {
         (Ok(()), Err(fault)) => (fabric, Err(Fault::from(Cause::Workers(fault)))),
         (done, _) => (fabric, done),
-    }
-}
-
-// Waits for the workers of a network whose steps are kept, and hands its fabric back, and why they did not answer the
-// last jobs, if they did not.
-fn close_kept<B, H>(live: Live<B, H>) -> (Fabric<B>, Result<(), FaultKind>)
-where
-    B: FabricName + Send + Sync + 'static,
-    H: Host,
-    requires { is_left live ≡ true }
-    ensures { KeptNet result.0 ≡ live }
-{
-    match live {
-        Either::Left(kept) => kept.close(),
-        Either::Right(_) => unreachable!(),
     }
 }
 
@@ -190,7 +172,7 @@ fn keep<B: FabricName, K: Keeper, V: Write>(
 
 /// Opens a plan's network as a simulation, and does its script, or the lines that are typed. Nothing is kept of its
 /// steps. The gate is not called.
-pub fn with_simulation<H, G, J, W, E>(
+pub fn with_simulation<G, J, W, E>(
     alloc: Global,
     plan: Plan,
     gate: &G,
@@ -200,87 +182,56 @@ pub fn with_simulation<H, G, J, W, E>(
     err: &mut E,
 ) -> Result<(), Fault>
 where
-    H: Host,
     G: TurnGate + Sync,
     J: Read + Drop,
     W: Write,
     E: Write,
-    ensures ok { OnOk result (Works counted_net (Comes (is_some typed)) none_kept plan) }
-    ensures fault { IfErr result (StopsWork counted_net IsOfNothing
-        (Stops (is_some typed)) plan) }
+    ensures ok { OnOk result (Works opening_counted (Comes counted_meaning (is_some typed)) none_kept plan) }
+    ensures fault { IfErr result (StopsWork opening_counted IsOfNothing
+        (Stops counted_meaning (is_some typed)) plan) }
 {
     let Plan {
         network,
         directory,
         commands,
     } = plan;
-    let counted = Counted::open(alloc, network)?;
+    let mut net = Counted::open(alloc, network)?;
     let session = Session {
         alloc,
         gate,
         directory: &directory,
         style,
     };
-    count_named::<Brand, H, G, J, W, E>(&session, counted, typed, &commands, out, err)
-}
-
-// The same, where the fabric that there is not has a name.
-fn count_named<B, H, G, J, W, E>(
-    session: &Session<'_, G>,
-    counted: Counted,
-    typed: Option<J>,
-    commands: &[Command],
-    out: &mut W,
-    err: &mut E,
-) -> Result<(), Fault>
-where
-    B: FabricName + Send + Sync + 'static,
-    H: Host,
-    G: TurnGate + Sync,
-    J: Read + Drop,
-    W: Write,
-    E: Write,
-    ensures ok { OnOk result ((n : _) × Comes (is_some typed) commands.now (CountedNet counted) n) }
-    ensures fault { IfErr result (λ e. (n : _) × Stops (is_some typed) commands.now (CountedNet counted) n e) }
-{
-    let mut live: Live<B, H> = Either::Right(counted);
-    let done = do_all(session, &mut live, typed, commands, out, err);
-    match live {
-        Either::Right(_) => done,
-        // Nothing makes of a network that counts its steps one that keeps them.
-        Either::Left(_) => unreachable!(),
-    }
+    do_all(&session, &mut net, typed, &commands, out, err)
 }
 
 // Does the script, or the lines that are typed, and says how many steps were done.
-fn do_all<B, H, G, J, W, E>(
+fn do_all<N, G, J, W, E>(
     session: &Session<'_, G>,
-    live: &mut Live<B, H>,
+    net: &mut N,
     typed: Option<J>,
     commands: &[Command],
     out: &mut W,
     err: &mut E,
 ) -> Result<(), Fault>
 where
-    B: FabricName + Send + Sync + 'static,
-    H: Host,
+    N: Live,
     G: TurnGate + Sync,
     J: Read + Drop,
     W: Write,
     E: Write,
-    ensures ok { OnOk result (Comes (is_some typed) commands.now live.old live.new) }
-    ensures fault { IfErr result (Stops (is_some typed) commands.now live.old live.new) }
-    ensures side { is_left live.new ≡ is_left live.old }
+    ensures ok { OnOk result (Comes N.meaning (is_some typed) commands.now net.old net.new) }
+    ensures fault { IfErr result (Stops N.meaning (is_some typed) commands.now net.old net.new) }
 {
     match typed {
-        Some(input) => do_lines(session, live, input, out, err)?,
+        Some(input) => do_lines(session, net, input, out, err)?,
         None => {
-            let done = do_commands(session, live, commands, out, err);
+            let done = do_commands(session, net, commands, out, err);
             end_line(session.style.progress, err);
             done?;
         }
     }
-    let done = Ended::Done { steps: steps(live) };
+    let done = Ended::Done { steps: net.steps() };
     let _ = session.printer().print(&Line::Ended(done), out);
     Ok(())
 }

@@ -1,9 +1,11 @@
 //! What the program does, over any readers and writers.
 
 ghost use Rattle.std.specs.Prelude.{◌≡◌, ◌++◌, true, false, Some, IfOk, IfErr, OnErr, OnOk, is_some};
+ghost use Rattle.fabric.specs.Fabric.{opening_fabric};
 ghost use Rattle.plans.specs.Faults.{OfBytes};
+ghost use Rattle.sessions.specs.Nets.{counted_meaning, kept_meaning, opening_counted};
 ghost use Rattle.play.specs.Ends.{KeepsJournal};
-ghost use Rattle.play.specs.Works.{Comes, IsOfNothing, IsOfWorkers, IsWorked, Stops, StopsOn, StopsWork, Works, counted as counted_net, is_kept, kept as kept_net, none_kept};
+ghost use Rattle.play.specs.Works.{Comes, IsOfNothing, IsOfWorkers, IsWorked, Stops, StopsOn, StopsWork, Works, none_kept};
 ghost use Rattle.play.specs.Outcomes.{Ends, IsPlayed, StopsWords};
 
 use crate::checking::check;
@@ -136,7 +138,7 @@ where
                 progress,
             };
             if no_journal {
-                return count(by, scenario, style, None::<J>, out, err);
+                return count(alloc, gate, scenario, style, None::<J>, out, err);
             }
             let crew = Crew {
                 threads,
@@ -190,7 +192,7 @@ where
                 progress: false,
             };
             if no_journal {
-                return count(by, scenario, style, Some(journal), out, err);
+                return count(alloc, gate, scenario, style, Some(journal), out, err);
             }
             let crew = Crew {
                 threads: 1,
@@ -224,10 +226,10 @@ where
     W: Write,
     E: Write,
     ensures ok { IfOk result (λ end. (end ≡ Outcome.Done) × OfBytes (R.remaining scenario)
-        (IsWorked kept_net (Comes (is_some typed))
-        (is_kept (λ d f. KeepsJournal wanted d f (Some kept.old.items) (Some kept.new.items))))) }
+        (IsWorked opening_fabric (Comes kept_meaning (is_some typed))
+        (λ d f. KeepsJournal wanted d f (Some kept.old.items) (Some kept.new.items)))) }
     ensures fault { IfErr result (λ e. OfBytes (R.remaining scenario) (λ bytes.
-        StopsOn kept_net IsOfWorkers (Stops (is_some typed)) bytes e)) }
+        StopsOn opening_fabric IsOfWorkers (Stops kept_meaning (is_some typed)) bytes e)) }
     ensures kept { OnErr result (kept.new.items ≡ kept.old.items) }
 {
     let (rt, alloc, gate) = by;
@@ -266,8 +268,9 @@ fn add(kept: &mut Vec<u8>, mut made: Vec<u8>) -> Result<(), NoMemory>
 }
 
 // The same on a network whose steps are counted. Nothing is kept.
-fn count<H, G, R, J, W, E>(
-    by: (&H, Global, &G),
+fn count<G, R, J, W, E>(
+    alloc: Global,
+    gate: &G,
     scenario: R,
     style: PrintStyle,
     typed: Option<J>,
@@ -275,21 +278,19 @@ fn count<H, G, R, J, W, E>(
     err: &mut E,
 ) -> Result<Outcome, Fault>
 where
-    H: Host,
     G: TurnGate + Sync,
     R: Read + Drop,
     J: Read + Drop,
     W: Write,
     E: Write,
     ensures ok { IfOk result (λ end. (end ≡ Outcome.Done) × OfBytes (R.remaining scenario)
-        (IsWorked counted_net (Comes (is_some typed)) none_kept)) }
+        (IsWorked opening_counted (Comes counted_meaning (is_some typed)) none_kept)) }
     ensures fault { IfErr result (λ e. OfBytes (R.remaining scenario) (λ bytes.
-        StopsOn counted_net IsOfNothing (Stops (is_some typed)) bytes e)) }
+        StopsOn opening_counted IsOfNothing (Stops counted_meaning (is_some typed)) bytes e)) }
 {
-    let (_, alloc, gate) = by;
     let text = read_text(alloc, scenario)?;
     let plan = read_plan(alloc, text.as_str())?;
-    with_simulation::<H, G, J, W, E>(alloc, plan, gate, style, typed, out, err)?;
+    with_simulation(alloc, plan, gate, style, typed, out, err)?;
     Ok(Outcome::Done)
 }
 
@@ -306,10 +307,10 @@ where
     H: Host,
     K: Keeper,
     V: Write,
-    ensures ok { OnOk result (Works kept_net (Comes false)
-        (is_kept (λ d f. K.keeps keeper.old d f (V.contents kept.old) (V.contents kept.new) keeper.new)) plan) }
+    ensures ok { OnOk result (Works opening_fabric (Comes kept_meaning false)
+        (λ d f. K.keeps keeper.old d f (V.contents kept.old) (V.contents kept.new) keeper.new) plan) }
     ensures fault { IfErr result
-        (StopsWork kept_net IsOfWorkers (Stops false) plan) }
+        (StopsWork opening_fabric IsOfWorkers (Stops kept_meaning false) plan) }
 {
     let crew = Crew {
         threads: 1,

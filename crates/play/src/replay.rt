@@ -17,7 +17,7 @@ use lines::{Ended, Line, Printer, print_report};
 use network_model::{LinkSpec, NoMemory, Refusal, Step};
 use plans::{Cause, Fault, Outcome, read_bytes, read_plan, read_text};
 use script::Directory;
-use sessions::{Counted, NoGate, PrintStyle, Session, end_line, show_steps_done};
+use sessions::{Counted, Live, NoGate, PrintStyle, Session, end_line, show_steps_done};
 use std::alloc::Global;
 use std::io;
 use std::io::{Read, Write};
@@ -91,7 +91,7 @@ fn do_journal<W: Write, E: Write>(
         let _ = printer.print(&Line::Ended(refused), out);
         if session.style.explain {
             let _ = out.flush();
-            let links = live.simulation().network().links();
+            let links = live.network().links();
             let _ = explain_refusal(session.directory, links, journal, ran.done, refusal, err);
         }
         return Ok(Outcome::Refused);
@@ -102,7 +102,7 @@ fn do_journal<W: Write, E: Write>(
             let _ = printer.print(&Line::Ended(done), out);
             Ok(Outcome::Done)
         }
-        Version::Two => compare(session, live.simulation().world(), journal, out, err),
+        Version::Two => compare(session, live.world(), journal, out, err),
     }
 }
 

@@ -1,37 +1,33 @@
 //! Does commands as they come, a line each.
 
-ghost use Rattle.std.specs.Prelude.{◌≡◌, IfErr};
-ghost use Rattle.either.specs.Either.{is_left};
+ghost use Rattle.std.specs.Prelude.{IfErr};
 ghost use Rattle.play.specs.Works.{CannotReadOn, WereTried};
 
 use crate::answers::{Listed, TypedLine, begin_answer, end_answer, print_fault, print_text};
 use command_line::{Format, SHELL_COMMANDS};
-use fabric::FabricName;
 use plans::{Cause, Fault, read_failure};
 use script::read_command;
-use sessions::{Host, Live, Session, TurnGate, do_command, network, steps};
+use sessions::{Live, Session, TurnGate, do_command};
 use std::io::{BufRead, BufReader, ErrorKind, Read, Write};
 
 /// Does the commands that the lines of an input say, each answered at once, to the end of the input or to `quit`, or
 /// to the first answer that nobody reads any more. A line that cannot be read or whose command is refused ends nothing: it
 /// is told on `err`, and as JSON in its answer.
-pub fn do_lines<B, H, G, J, W, E>(
+pub fn do_lines<N, G, J, W, E>(
     session: &Session<'_, G>,
-    live: &mut Live<B, H>,
+    net: &mut N,
     input: J,
     out: &mut W,
     err: &mut E,
 ) -> Result<(), Fault>
 where
-    B: FabricName + Send + Sync + 'static,
-    H: Host,
+    N: Live,
     G: TurnGate + Sync,
     J: Read + Drop,
     W: Write,
     E: Write,
-    ensures tried { WereTried live.old live.new }
+    ensures tried { WereTried N.meaning net.old net.new }
     ensures fault { IfErr result CannotReadOn }
-    ensures side { is_left live.new ≡ is_left live.old }
 {
     let alloc = session.alloc;
     let reader = match BufReader::new(alloc, input) {
@@ -43,7 +39,7 @@ where
         number = number.saturating_add(1);
         match line {
             Ok(line) => {
-                if !do_line(session, live, number, &line, out, err) {
+                if !do_line(session, net, number, &line, out, err) {
                     return Ok(());
                 }
             }
@@ -55,25 +51,23 @@ where
 
 // Does what the line of this number says, tells of it where it cannot be read or is refused, and answers
 // whether the shell goes on.
-fn do_line<B, H, G, W, E>(
+fn do_line<N, G, W, E>(
     session: &Session<'_, G>,
-    live: &mut Live<B, H>,
+    net: &mut N,
     number: usize,
     line: &[u8],
     out: &mut W,
     err: &mut E,
 ) -> bool
 where
-    B: FabricName + Send + Sync + 'static,
-    H: Host,
+    N: Live,
     G: TurnGate + Sync,
     W: Write,
     E: Write,
-    ensures tried { WereTried live.old live.new }
-    ensures side { is_left live.new ≡ is_left live.old }
+    ensures { WereTried N.meaning net.old net.new }
 {
     let line = line.strip_suffix(b"\r").unwrap_or(line);
-    let done = answer_line(session, live, number, line, out);
+    let done = answer_line(session, net, number, line, out);
     let (goes_on, fault) = match done {
         Ok(goes_on) => (goes_on, None),
         Err(cause) => (true, Some(Fault::from(cause))),
@@ -81,7 +75,7 @@ where
     let typed = TypedLine {
         alloc: session.alloc,
         names: session.directory.names(),
-        links: network(live).links(),
+        links: net.network().links(),
         explain: session.style.explain,
         number,
         line,
@@ -90,7 +84,7 @@ where
         (Format::Text, Some(fault)) => print_fault(&typed, fault, out, err),
         (Format::Text, None) => {}
         (Format::Json, fault) => {
-            let _ = end_answer(&typed, fault, steps(live), out);
+            let _ = end_answer(&typed, fault, net.steps(), out);
         }
     }
     match out.flush() {
@@ -101,44 +95,40 @@ where
 
 // Does what the line of this number says, and answers whether the shell goes on. As JSON, what it prints
 // is the list of an answer that has begun.
-fn answer_line<B, H, G, W>(
+fn answer_line<N, G, W>(
     session: &Session<'_, G>,
-    live: &mut Live<B, H>,
+    net: &mut N,
     number: usize,
     line: &[u8],
     out: &mut W,
 ) -> Result<bool, Cause>
 where
-    B: FabricName + Send + Sync + 'static,
-    H: Host,
+    N: Live,
     G: TurnGate + Sync,
     W: Write,
-    ensures tried { WereTried live.old live.new }
-    ensures side { is_left live.new ≡ is_left live.old }
+    ensures { WereTried N.meaning net.old net.new }
 {
     match session.style.format {
-        Format::Text => answer(session, live, line, out),
+        Format::Text => answer(session, net, line, out),
         Format::Json => {
             let _ = begin_answer(number, out);
-            answer(session, live, line, &mut Listed::new(out))
+            answer(session, net, line, &mut Listed::new(out))
         }
     }
 }
 
 // Does what a line says, and answers whether the shell goes on. An empty line says nothing.
-fn answer<B, H, G, W>(
+fn answer<N, G, W>(
     session: &Session<'_, G>,
-    live: &mut Live<B, H>,
+    net: &mut N,
     line: &[u8],
     out: &mut W,
 ) -> Result<bool, Cause>
 where
-    B: FabricName + Send + Sync + 'static,
-    H: Host,
+    N: Live,
     G: TurnGate + Sync,
     W: Write,
-    ensures tried { WereTried live.old live.new }
-    ensures side { is_left live.new ≡ is_left live.old }
+    ensures { WereTried N.meaning net.old net.new }
 {
     let Ok(line) = str::from_utf8(line) else {
         return Err(Cause::Lines(script::LineFault::BadCommand));
@@ -155,27 +145,25 @@ where
                 let _ = print_text(session.style.format, "said", text, out);
                 Ok(true)
             }
-            None => do_typed(session, live, line, out),
+            None => do_typed(session, net, line, out),
         },
     }
 }
 
 // Does the command that a line says; the shell goes on.
-fn do_typed<B, H, G, W>(
+fn do_typed<N, G, W>(
     session: &Session<'_, G>,
-    live: &mut Live<B, H>,
+    net: &mut N,
     line: &str,
     out: &mut W,
 ) -> Result<bool, Cause>
 where
-    B: FabricName + Send + Sync + 'static,
-    H: Host,
+    N: Live,
     G: TurnGate + Sync,
     W: Write,
-    ensures tried { WereTried live.old live.new }
-    ensures side { is_left live.new ≡ is_left live.old }
+    ensures { WereTried N.meaning net.old net.new }
 {
-    let opened = network(live);
+    let opened = net.network();
     match read_command(
         session.directory.names(),
         opened.links(),
@@ -183,7 +171,7 @@ where
         line,
     ) {
         Ok(command) => {
-            let done = do_command(session, live, command, out, &mut ());
+            let done = do_command(session, net, command, out, &mut ());
             match done {
                 Ok(()) => Ok(true),
                 Err(cause) => Err(cause),

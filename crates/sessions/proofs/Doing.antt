@@ -8,15 +8,16 @@ use Rattle.script.specs.declared.command.Command.{Command}
 use Rattle.plans.specs.declared.fault.Cause.{Cause}
 use Rattle.plans.specs.declared.fault.Cause.TheVariants.{Refused}
 use Rattle.sessions.specs.Commands.{IsDone, AreDone}
-use Rattle.sessions.specs.Nets.{Net}
+use Rattle.sessions.specs.Nets.{Meaning}
 
--- one command more
-pub one_done : (cs : List Command) (c : Command) (f g h : Net) → AreDone cs f g → IsDone c g h → AreDone (cs ++ c ∷ []) f h
-one_done [] c f g h same is = (h, subst (λ k. IsDone c k h) same is, refl)
-one_done (d ∷ cs) c f g h done is = (done.0, done.1, one_done cs c done.0 g h done.2 is)
+module _ {S : Type 0} (k : Meaning S) where
+  -- one command more
+  pub one_done : (cs : List Command) (c : Command) (f g h : S) → AreDone k cs f g → IsDone k c g h → AreDone k (cs ++ c ∷ []) f h
+  one_done [] c f g h same is = (h, subst (λ m. IsDone k c m h) same is, refl)
+  one_done (d ∷ cs) c f g h done is = (done.0, done.1, one_done cs c done.0 g h done.2 is)
 
 -- what is refused leaves all as it was
-pub step_refused : (cause : Option Refusal) (r : Result ⊤ Refusal) (f g : Net) → IsDoneOr cause r → OnErr r (g ≡ f) → IfErr r (λ e. CanBeRefused cause e × (g ≡ f))
+pub step_refused : {S : Type 0} (cause : Option Refusal) (r : Result ⊤ Refusal) (f g : S) → IsDoneOr cause r → OnErr r (g ≡ f) → IfErr r (λ e. CanBeRefused cause e × (g ≡ f))
 step_refused cause (Ok x) f g done same = tt
 step_refused cause (Err e) f g done same = (refused_as _ cause e done, same)
 
@@ -25,8 +26,3 @@ pub caused_by : (done : Result ⊤ Refusal) (r : Result ⊤ Cause) (P : Cause �
 caused_by (Ok x) (Ok y) P is why = tt
 caused_by (Ok x) (Err c) P is why = absurd (true≢false (sym is))
 caused_by (Err e) r P is why = subst (λ q. IfErr q P) (sym is) why
-
--- a refusal that holds, and that changed nothing
-pub kept_so : (r : Result ⊤ Refusal) (P : Refusal → Type 0) (f g : Net) → IfErr r P → g ≡ f → IfErr r (λ e. P e × (g ≡ f))
-kept_so (Ok x) P f g why same = tt
-kept_so (Err e) P f g why same = (why, same)

@@ -13,7 +13,7 @@ use Rattle.plans.specs.declared.fault.Cause.{Cause}
 use Rattle.plans.specs.declared.fault.Fault.{Fault}
 use Rattle.plans.specs.Faults.{at_line, OfRefusal}
 use Rattle.lines.specs.Report.{unknown_router}
-use Rattle.sessions.specs.Nets.{CannotDrain, CannotInject, CannotLookUp, CannotRestore, CannotSave, CannotTrace, IsRestored, IsSaved, IsSettled, IsStepDone, IsStepRefused, IsUnsettled, Net, network_of, refusal_of, world_of}
+use Rattle.sessions.specs.Nets.{IsStepDone, IsStepRefused, Meaning}
 
 -- ---- links of a router
 
@@ -32,105 +32,105 @@ put true l = LinkUp l
 put false l = LinkDown l
 
 -- a link was put so, or it was so
-abbrev pub IsPutWhere : Bool → Bool → ℕ → Net → Net → Type 0
-IsPutWhere true up l f g = IsStepDone (put up l) f g
-IsPutWhere false up l f g = g ≡ f
+abbrev pub IsPutWhere : {S : Type 0} → Meaning S → Bool → Bool → ℕ → S → S → Type 0
+IsPutWhere k true up l f g = IsStepDone k (put up l) f g
+IsPutWhere k false up l f g = g ≡ f
 
 -- of the first links, so many, those of the router were put so in ascending order
-abbrev pub ArePut : Bool → ℕ → ℕ → Net → Net → Type 0
-ArePut up router zero f g = g ≡ f
-ArePut up router (suc l) f g = (h : Net) × ArePut up router l f h × IsPutWhere (is_amiss_at (world_of h) up router l) up l h g
+abbrev pub ArePut : {S : Type 0} → Meaning S → Bool → ℕ → ℕ → S → S → Type 0
+ArePut k up router zero f g = g ≡ f
+ArePut {S} k up router (suc l) f g = (h : S) × ArePut k up router l f h × IsPutWhere k (is_amiss_at (k.world h) up router l) up l h g
 
 -- all links of the router were put so
-abbrev pub IsPut : Bool → ℕ → Net → Net → Type 0
-IsPut up router f g = ArePut up router (length (network_of f).links) f g
+abbrev pub IsPut : {S : Type 0} → Meaning S → Bool → ℕ → S → S → Type 0
+IsPut k up router f g = ArePut k up router (length (k.network f).links) f g
 
 -- no link of the router is other than it was to be
-abbrev pub NoneAmiss : Bool → ℕ → Net → Net → Type 0
-NoneAmiss up router f g = (l : ℕ) → l < length (network_of f).links → is_amiss_at (world_of g) up router l ≡ false
+abbrev pub NoneAmiss : {S : Type 0} → Meaning S → Bool → ℕ → S → S → Type 0
+NoneAmiss k up router f g = (l : ℕ) → l < length (k.network f).links → is_amiss_at (k.world g) up router l ≡ false
 
 -- why they were not: there is no such router; or those before a link were put so, and its step is refused
-pub record StopsPutting (up : Bool) (router : ℕ) (f g : Net) (e : Refusal) : Type 0 where
+pub record StopsPutting {S : Type 0} (k : Meaning S) (up : Bool) (router : ℕ) (f g : S) (e : Refusal) : Type 0 where
   pub link : ℕ
-  pub is_link : link < length (network_of f).links
-  pub before : ArePut up router link f g
-  pub amiss : is_amiss_at (world_of g) up router link ≡ true
-  pub refused : CanBeRefused (refusal_of g (put up link)) e
+  pub is_link : link < length (k.network f).links
+  pub before : ArePut k up router link f g
+  pub amiss : is_amiss_at (k.world g) up router link ≡ true
+  pub refused : CanBeRefused (k.refusal g (put up link)) e
 
 -- `up A` or `down A` is refused: the router is unknown, and nothing was done, or one of its links could not be put so, and
 -- those before it were
-abbrev pub CannotPut : Bool → ℕ → Net → Net → Refusal → Type 0
-CannotPut up router f g e = ((unknown_router (world_of f) router ≡ Some e) × (g ≡ f)) ⊎ StopsPutting up router f g e
+abbrev pub CannotPut : {S : Type 0} → Meaning S → Bool → ℕ → S → S → Refusal → Type 0
+CannotPut k up router f g e = ((unknown_router (k.world f) router ≡ Some e) × (g ≡ f)) ⊎ StopsPutting k up router f g e
 
 -- ---- commands
 
 -- a command that was done: a step was lawful, a step that is tried was lawful or refused, a network was let settle, all links of a router were put up or down, a network was saved or restored, and all else leaves it as it was
-abbrev pub IsDone : Command → Net → Net → Type 0
-IsDone (Step s) f g = IsStepDone s f g
-IsDone (Try s) f g = IsStepDone s f g ⊎ IsStepRefused s f g
-IsDone Settle f g = IsSettled f g
-IsDone (SettleDrawn seed) f g = IsSettled f g
-IsDone (RouterUp router) f g = IsPut true router f g
-IsDone (RouterDown router) f g = IsPut false router f g
-IsDone Save f g = IsSaved f g
-IsDone Restore f g = IsRestored f g
-IsDone (State router prefix) f g = g ≡ f
-IsDone (Table router) f g = g ≡ f
-IsDone (Next router) f g = g ≡ f
-IsDone (Queue router port) f g = g ≡ f
-IsDone (Held router) f g = g ≡ f
-IsDone (Lookup router addr) f g = g ≡ f
-IsDone (Inject router addr) f g = g ≡ f
-IsDone (Trace router addr) f g = g ≡ f
-IsDone (TraceThrough router addr) f g = g ≡ f
-IsDone Count f g = g ≡ f
-IsDone Drain f g = g ≡ f
-IsDone Report f g = g ≡ f
+abbrev pub IsDone : {S : Type 0} → Meaning S → Command → S → S → Type 0
+IsDone k (Step s) f g = IsStepDone k s f g
+IsDone k (Try s) f g = IsStepDone k s f g ⊎ IsStepRefused k s f g
+IsDone k Settle f g = k.settled f g
+IsDone k (SettleDrawn seed) f g = k.settled f g
+IsDone k (RouterUp router) f g = IsPut k true router f g
+IsDone k (RouterDown router) f g = IsPut k false router f g
+IsDone k Save f g = k.saved f g
+IsDone k Restore f g = k.restored f g
+IsDone k (State router prefix) f g = g ≡ f
+IsDone k (Table router) f g = g ≡ f
+IsDone k (Next router) f g = g ≡ f
+IsDone k (Queue router port) f g = g ≡ f
+IsDone k (Held router) f g = g ≡ f
+IsDone k (Lookup router addr) f g = g ≡ f
+IsDone k (Inject router addr) f g = g ≡ f
+IsDone k (Trace router addr) f g = g ≡ f
+IsDone k (TraceThrough router addr) f g = g ≡ f
+IsDone k Count f g = g ≡ f
+IsDone k Drain f g = g ≡ f
+IsDone k Report f g = g ≡ f
 
 -- a command that is refused: a step for its cause, in a network that settles the step that comes next, of the links of a router the first that cannot be put so, and a command on a router where there is no such router; all else as the network refuses it
-abbrev pub IsRefused : Command → Net → Net → Cause → Type 0
-IsRefused (Step s) f g cause = OfRefusal (CanBeRefused (refusal_of f s)) cause × (g ≡ f)
-IsRefused (Try s) f g cause = ⊥
-IsRefused Settle f g cause = OfRefusal (IsUnsettled f g) cause
-IsRefused (SettleDrawn seed) f g cause = OfRefusal (IsUnsettled f g) cause
-IsRefused (RouterUp router) f g cause = OfRefusal (CannotPut true router f g) cause
-IsRefused (RouterDown router) f g cause = OfRefusal (CannotPut false router f g) cause
-IsRefused Save f g cause = CannotSave f cause × (g ≡ f)
-IsRefused Restore f g cause = CannotRestore f cause × (g ≡ f)
-IsRefused (State router prefix) f g cause = OfRefusal (CanBeRefused (unknown_router (world_of f) router)) cause × (g ≡ f)
-IsRefused (Table router) f g cause = OfRefusal (CanBeRefused (unknown_router (world_of f) router)) cause × (g ≡ f)
-IsRefused (Next router) f g cause = OfRefusal (CanBeRefused (unknown_router (world_of f) router)) cause × (g ≡ f)
-IsRefused (Queue router port) f g cause = OfRefusal (CanBeRefused (unknown_router (world_of f) router)) cause × (g ≡ f)
-IsRefused (Held router) f g cause = OfRefusal (CanBeRefused (unknown_router (world_of f) router)) cause × (g ≡ f)
-IsRefused (Lookup router addr) f g cause = OfRefusal (CannotLookUp f router addr) cause × (g ≡ f)
-IsRefused (Inject router addr) f g cause = CannotInject f router cause × (g ≡ f)
-IsRefused (Trace router addr) f g cause = OfRefusal (CannotTrace f router) cause × (g ≡ f)
-IsRefused (TraceThrough router addr) f g cause = OfRefusal (CannotTrace f router) cause × (g ≡ f)
-IsRefused Count f g cause = ⊥
-IsRefused Drain f g cause = CannotDrain f cause × (g ≡ f)
-IsRefused Report f g cause = ⊥
+abbrev pub IsRefused : {S : Type 0} → Meaning S → Command → S → S → Cause → Type 0
+IsRefused k (Step s) f g cause = OfRefusal (CanBeRefused (k.refusal f s)) cause × (g ≡ f)
+IsRefused k (Try s) f g cause = ⊥
+IsRefused k Settle f g cause = OfRefusal (k.unsettled f g) cause
+IsRefused k (SettleDrawn seed) f g cause = OfRefusal (k.unsettled f g) cause
+IsRefused k (RouterUp router) f g cause = OfRefusal (CannotPut k true router f g) cause
+IsRefused k (RouterDown router) f g cause = OfRefusal (CannotPut k false router f g) cause
+IsRefused k Save f g cause = k.not_saved f cause × (g ≡ f)
+IsRefused k Restore f g cause = k.not_restored f cause × (g ≡ f)
+IsRefused k (State router prefix) f g cause = OfRefusal (CanBeRefused (unknown_router (k.world f) router)) cause × (g ≡ f)
+IsRefused k (Table router) f g cause = OfRefusal (CanBeRefused (unknown_router (k.world f) router)) cause × (g ≡ f)
+IsRefused k (Next router) f g cause = OfRefusal (CanBeRefused (unknown_router (k.world f) router)) cause × (g ≡ f)
+IsRefused k (Queue router port) f g cause = OfRefusal (CanBeRefused (unknown_router (k.world f) router)) cause × (g ≡ f)
+IsRefused k (Held router) f g cause = OfRefusal (CanBeRefused (unknown_router (k.world f) router)) cause × (g ≡ f)
+IsRefused k (Lookup router addr) f g cause = OfRefusal (k.not_looked_up f router addr) cause × (g ≡ f)
+IsRefused k (Inject router addr) f g cause = k.not_given f router cause × (g ≡ f)
+IsRefused k (Trace router addr) f g cause = OfRefusal (k.not_traced f router) cause × (g ≡ f)
+IsRefused k (TraceThrough router addr) f g cause = OfRefusal (k.not_traced f router) cause × (g ≡ f)
+IsRefused k Count f g cause = ⊥
+IsRefused k Drain f g cause = k.not_answered f cause × (g ≡ f)
+IsRefused k Report f g cause = ⊥
 
 -- the commands, done one after another, lead from one network to the other
-abbrev pub AreDone : List Command → Net → Net → Type 0
-AreDone [] f g = g ≡ f
-AreDone (c ∷ cs) f g = (h : Net) × IsDone c f h × AreDone cs h g
+abbrev pub AreDone : {S : Type 0} → Meaning S → List Command → S → S → Type 0
+AreDone k [] f g = g ≡ f
+AreDone {S} k (c ∷ cs) f g = (h : S) × IsDone k c f h × AreDone k cs h g
 
 -- of the commands those before a place were done, and the one there is refused
-pub record StopsAtCommand (commands : List Command) (f g : Net) (fault : Fault) : Type 0 where
+pub record StopsAtCommand {S : Type 0} (k : Meaning S) (commands : List Command) (f g : S) (fault : Fault) : Type 0 where
   pub position : ℕ
   pub command : Command
-  pub before : Net
+  pub before : S
   pub cause : Cause
   pub is_command : slice_get commands position ≡ Some command
-  pub done : AreDone (take position commands) f before
-  pub refused : IsRefused command before g cause
+  pub done : AreDone k (take position commands) f before
+  pub refused : IsRefused k command before g cause
   pub named : fault ≡ at_line cause Script position
 
 -- a command was done, or it was refused for its cause
-abbrev pub IsTried : Command → Net → Net → Type 0
-IsTried c f g = IsDone c f g ⊎ ((cause : Cause) × IsRefused c f g cause)
+abbrev pub IsTried : {S : Type 0} → Meaning S → Command → S → S → Type 0
+IsTried k c f g = IsDone k c f g ⊎ ((cause : Cause) × IsRefused k c f g cause)
 
 -- the commands, tried one after another, lead from one network to the other
-abbrev pub AreTried : List Command → Net → Net → Type 0
-AreTried [] f g = g ≡ f
-AreTried (c ∷ cs) f g = (h : Net) × IsTried c f h × AreTried cs h g
+abbrev pub AreTried : {S : Type 0} → Meaning S → List Command → S → S → Type 0
+AreTried k [] f g = g ≡ f
+AreTried {S} k (c ∷ cs) f g = (h : S) × IsTried k c f h × AreTried k cs h g

@@ -1,7 +1,5 @@
--- The two ways in which a network runs under a session: its steps are kept, or they are counted alone.
-use Rattle.std.specs.Prelude.{◌≡◌, ℕ, ◌⊎◌, ⊤, Option, Some, None, MatchOption, slice_get}
-use Rattle.either.specs.declared.Either.{Either}
-use Rattle.either.specs.declared.Either.TheVariants.{Left, Right}
+-- What commands mean on a network that runs: one whose steps are kept, or one that counts them alone.
+use Rattle.std.specs.Prelude.{◌≡◌, ℕ, ◌⊎◌, ⊤, Option, Some, None, MatchOption, refl, slice_get}
 use Rattle.ipv4_prefix.specs.LongestMatch.{longest_match}
 use Rattle.ipv4_prefix.specs.Prefix.{Prefix}
 use Rattle.network_model.specs.declared.route.Entry.{Entry}
@@ -9,7 +7,7 @@ use Rattle.network_model.specs.declared.step.Step.{Step}
 use Rattle.network_model.specs.declared.step.Refusal.{Refusal}
 use Rattle.network_model.specs.declared.step.Refusal.TheVariants.{UnknownRouter, NoMemory, Stale, NoImage}
 use Rattle.network_model.specs.World.{Network, Router, World}
-use Rattle.network_model.specs.Step.{Lawful}
+use Rattle.network_model.specs.Step.{Lawful, next}
 use Rattle.world.specs.Steps.{CanBeRefused}
 use Rattle.fabric.specs.Fabric.{Fabric, after_step, fabric_refusal}
 use Rattle.fabric.specs.Images.{answer_at}
@@ -19,10 +17,10 @@ use Rattle.plans.specs.declared.fault.Cause.{Cause}
 use Rattle.plans.specs.declared.fault.Cause.TheVariants.{JournalKept, NothingSaved}
 use Rattle.plans.specs.Faults.{OfRefusal, OfWorkers}
 use Rattle.lines.specs.Report.{unknown_router}
-use Rattle.sessions.specs.Dispatching.{CannotInject as CannotGive}
+use Rattle.sessions.specs.Dispatching.{CannotInject}
 use Rattle.sessions.specs.Settling.{Settles, SettlesThere, StopsSettling, StopsThere}
 
--- ---- networks that run
+-- ---- a network that counts its steps
 
 -- steps are counted: a simulation, and what was saved of it
 pub record Counted : Type 0 where
@@ -37,102 +35,87 @@ counted_of simulation saved = record { simulation = simulation; saved = saved }
 abbrev pub opening_counted : Network → Counted
 opening_counted n = counted_of (opening_simulation n) None
 
--- steps are kept, by a fabric, or counted
-abbrev pub Net : Type 0
-Net = Either Fabric Counted
-
--- the network that was opened
-abbrev pub network_of : Net → Network
-network_of (Left f) = f.network
-network_of (Right c) = c.simulation.network
-
--- its world
-abbrev pub world_of : Net → World
-world_of (Left f) = f.world
-world_of (Right c) = c.simulation.world
-
--- ---- steps
-
 -- with one more step done
 abbrev pub counted_after : Counted → Step → Counted
 counted_after c s = counted_of (after_step_there c.simulation s) c.saved
 
--- a network after a step, of either kind
-abbrev pub after : Net → Step → Net
-after (Left f) s = Left (after_step f s)
-after (Right c) s = Right (counted_after c s)
+-- ---- what commands mean
 
--- why a step is refused
-abbrev pub refusal_of : Net → Step → Option Refusal
-refusal_of (Left f) s = fabric_refusal f s
-refusal_of (Right c) s = simulation_refusal c.simulation s
+-- for networks of some kind: the network that was opened, its world, one with a step more, and why a step is refused
+pub record Meaning (S : Type 0) : Type 1 where
+  pub network : S → Network
+  pub world : S → World
+  pub after : S → Step → S
+  -- a step is a step of the world
+  pub next_world : (m : S) (s : Step) → world (after m s) ≡ next (world m) s
+  pub refusal : S → Step → Option Refusal
+  -- the network was let settle, or it did not settle, for this reason
+  pub settled : S → S → Type 0
+  pub unsettled : S → S → Refusal → Type 0
+  -- why an address is not looked up at a router, and a packet not traced from one
+  pub not_looked_up : S → ℕ → ℕ → Refusal → Type 0
+  pub not_traced : S → ℕ → Refusal → Type 0
+  -- why a job is not given at a router, and jobs are not answered
+  pub not_given : S → ℕ → Cause → Type 0
+  pub not_answered : S → Cause → Type 0
+  -- the network was saved, and again what it was when it was; or why not
+  pub saved : S → S → Type 0
+  pub not_saved : S → Cause → Type 0
+  pub restored : S → S → Type 0
+  pub not_restored : S → Cause → Type 0
+
+-- where steps are kept. An address is not looked up if there is no such router, or its reader shows a later image, or none. No job is given for want of a worker, and only workers can leave jobs unanswered. Nothing is saved, because a journal is kept
+abbrev pub kept_meaning : Meaning Fabric
+kept_meaning = record {
+  network = λ f. f.network;
+  world = λ f. f.world;
+  after = after_step;
+  next_world = λ f s. refl;
+  refusal = fabric_refusal;
+  settled = Settles;
+  unsettled = StopsSettling;
+  not_looked_up = λ f router addr e. MatchOption (answer_at f.world router addr) (e ≡ UnknownRouter) (λ _. (e ≡ Stale) ⊎ (e ≡ NoImage));
+  not_traced = λ f router e. MatchOption (unknown_router f.world router) ((e ≡ NoMemory) ⊎ (e ≡ Stale) ⊎ (e ≡ NoImage)) (λ cause. e ≡ cause);
+  not_given = λ f router cause. CannotInject (unknown_router f.world router) cause;
+  not_answered = λ f cause. OfWorkers (λ e. ⊤) cause;
+  saved = λ f g. ⊥;
+  not_saved = λ f cause. cause ≡ JournalKept;
+  restored = λ f g. ⊥;
+  not_restored = λ f cause. cause ≡ JournalKept;
+}
+
+-- where they are counted. Jobs are answered at once, so each is. What is saved is the simulation as it is, in place of what was saved before, and what was restored stays saved
+abbrev pub counted_meaning : Meaning Counted
+counted_meaning = record {
+  network = λ c. c.simulation.network;
+  world = λ c. c.simulation.world;
+  after = counted_after;
+  next_world = λ c s. refl;
+  refusal = λ c s. simulation_refusal c.simulation s;
+  settled = λ c d. SettlesThere c.simulation d.simulation × (d.saved ≡ c.saved);
+  unsettled = λ c d e. StopsThere c.simulation d.simulation e × (d.saved ≡ c.saved);
+  not_looked_up = λ c router addr e. unknown_router c.simulation.world router ≡ Some e;
+  not_traced = λ c router e. CanBeRefused (unknown_router c.simulation.world router) e;
+  not_given = λ c router cause. OfRefusal (CanBeRefused (unknown_router c.simulation.world router)) cause;
+  not_answered = λ c cause. ⊥;
+  saved = λ c d. d ≡ counted_of c.simulation (Some c.simulation);
+  not_saved = λ c cause. OfRefusal (λ e. e ≡ NoMemory) cause;
+  restored = λ c d. (s : Simulation) × (c.saved ≡ Some s) × (d ≡ counted_of s (Some s));
+  not_restored = λ c cause. ((c.saved ≡ None) × (cause ≡ NothingSaved)) ⊎ OfRefusal (λ e. e ≡ NoMemory) cause;
+}
+
+-- ---- steps
 
 -- the step was done
-abbrev pub IsStepDone : Step → Net → Net → Type 0
-IsStepDone s m n = Lawful (world_of m) s × (n ≡ after m s)
+abbrev pub IsStepDone : {S : Type 0} → Meaning S → Step → S → S → Type 0
+IsStepDone k s m n = Lawful (k.world m) s × (n ≡ k.after m s)
 
 -- the step was refused, for its cause or for want of memory, and changed nothing
-abbrev pub IsStepRefused : Step → Net → Net → Type 0
-IsStepRefused s m n = (e : Refusal) × CanBeRefused (refusal_of m s) e × (n ≡ m)
-
--- the network was let settle
-abbrev pub IsSettled : Net → Net → Type 0
-IsSettled (Left f) (Left g) = Settles f g
-IsSettled (Right c) (Right d) = SettlesThere c.simulation d.simulation × (d.saved ≡ c.saved)
-IsSettled (Left f) (Right d) = ⊥
-IsSettled (Right c) (Left g) = ⊥
-
--- it did not settle, for this reason
-abbrev pub IsUnsettled : Net → Net → Refusal → Type 0
-IsUnsettled (Left f) (Left g) e = StopsSettling f g e
-IsUnsettled (Right c) (Right d) e = StopsThere c.simulation d.simulation e × (d.saved ≡ c.saved)
-IsUnsettled (Left f) (Right d) e = ⊥
-IsUnsettled (Right c) (Left g) e = ⊥
+abbrev pub IsStepRefused : {S : Type 0} → Meaning S → Step → S → S → Type 0
+IsStepRefused k s m n = (e : Refusal) × CanBeRefused (k.refusal m s) e × (n ≡ m)
 
 -- ---- questions
 
 -- what a router answers for an address: the row with the longest match, of the rows that it published
 abbrev pub IsAnswer : World → ℕ → ℕ → Option (Prefix × Entry) → Type 0
 IsAnswer w router addr found = (r : Router) × (slice_get w.routers router ≡ Some r) × (longest_match addr (r.table).published ≡ found)
-
--- why an address is not looked up: there is no such router, or its reader shows a later image, or none
-abbrev pub CannotLookUp : Net → ℕ → ℕ → Refusal → Type 0
-CannotLookUp (Left f) router addr e = MatchOption (answer_at f.world router addr) (e ≡ UnknownRouter) (λ _. (e ≡ Stale) ⊎ (e ≡ NoImage))
-CannotLookUp (Right c) router addr e = unknown_router c.simulation.world router ≡ Some e
-
--- why a packet is not traced: there is no such router; or want of memory, or a reader that shows a later image, or none
-abbrev pub CannotTrace : Net → ℕ → Refusal → Type 0
-CannotTrace (Left f) router e = MatchOption (unknown_router f.world router) ((e ≡ NoMemory) ⊎ (e ≡ Stale) ⊎ (e ≡ NoImage)) (λ cause. e ≡ cause)
-CannotTrace (Right c) router e = CanBeRefused (unknown_router c.simulation.world router) e
-
--- why a job is not given, and why jobs are not answered
-abbrev pub CannotInject : Net → ℕ → Cause → Type 0
-CannotInject (Left f) router cause = CannotGive (unknown_router f.world router) cause
-CannotInject (Right c) router cause = OfRefusal (CanBeRefused (unknown_router c.simulation.world router)) cause
-
--- why a drain is refused: only workers can be the cause
-abbrev pub CannotDrain : Net → Cause → Type 0
-CannotDrain (Left f) cause = OfWorkers (λ e. ⊤) cause
-CannotDrain (Right c) cause = ⊥
-
--- ---- what is saved
-
--- the simulation as it is was saved, in place of what was saved before; of a fabric nothing is
-abbrev pub IsSaved : Net → Net → Type 0
-IsSaved (Left f) n = ⊥
-IsSaved (Right c) n = n ≡ Right (counted_of c.simulation (Some c.simulation))
-
--- why nothing is saved: a journal is kept, or memory was refused
-abbrev pub CannotSave : Net → Cause → Type 0
-CannotSave (Left f) cause = cause ≡ JournalKept
-CannotSave (Right c) cause = OfRefusal (λ e. e ≡ NoMemory) cause
-
--- the simulation is again what it was when it was saved, and that stays saved
-abbrev pub IsRestored : Net → Net → Type 0
-IsRestored (Left f) n = ⊥
-IsRestored (Right c) n = (s : Simulation) × (c.saved ≡ Some s) × (n ≡ Right (counted_of s (Some s)))
-
--- why nothing is restored: a journal is kept, nothing was saved, or memory was refused
-abbrev pub CannotRestore : Net → Cause → Type 0
-CannotRestore (Left f) cause = cause ≡ JournalKept
-CannotRestore (Right c) cause = ((c.saved ≡ None) × (cause ≡ NothingSaved)) ⊎ OfRefusal (λ e. e ≡ NoMemory) cause

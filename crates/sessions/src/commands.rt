@@ -2,40 +2,32 @@
 
 ghost use Rattle.std.specs.Prelude.{◌≡◌, ◌⊎◌, IfErr, OnErr, OnOk};
 ghost use Rattle.world.specs.Steps.{IsDoneOr};
-ghost use Rattle.either.specs.Either.{is_left};
-ghost use Rattle.sessions.specs.Nets.{CannotLookUp, CannotTrace, IsStepDone, IsStepRefused, refusal_of};
+ghost use Rattle.sessions.specs.Nets.{IsStepDone, IsStepRefused};
 
-use crate::host::Host;
-use crate::live::{Live, count, lookup, step as do_one, trace, world};
-use fabric::FabricName;
+use crate::live::Live;
 use faults::FaultKind;
 use lines::{Answer, Asked, Line, Printer, moved_by};
 use network_model::{Refusal, Step};
 use std::io::Write;
 
 /// Does a step, and prints what it moved, if more is to be told. What it prints may be lost.
-pub fn do_step<B, H, W>(
-    live: &mut Live<B, H>,
+pub fn do_step<N: Live, W: Write>(
+    net: &mut N,
     printer: &Printer<'_>,
     moves: bool,
     step: Step,
     out: &mut W,
 ) -> Result<(), Refusal>
-where
-    B: FabricName + Send + Sync + 'static,
-    H: Host,
-    W: Write,
-    ensures ok { OnOk result (IsStepDone step live.old live.new) }
-    ensures err { OnErr result (live.new ≡ live.old) }
-    ensures cause { IsDoneOr (refusal_of live.old step) result }
-    ensures side { is_left live.new ≡ is_left live.old }
+    ensures ok { OnOk result (IsStepDone N.meaning step net.old net.new) }
+    ensures err { OnErr result (net.new ≡ net.old) }
+    ensures cause { IsDoneOr (N.meaning.refusal net.old step) result }
 {
     let moved = if moves {
-        moved_by(world(live), &step)
+        moved_by(net.world(), &step)
     } else {
         None
     };
-    do_one(live, step)?;
+    net.step(step)?;
     if let Some(moved) = moved {
         let _ = printer.print(&Line::Moved(moved), out);
     }
@@ -43,36 +35,28 @@ where
 }
 
 /// Does a step, and says whether it was refused. What it prints may be lost.
-pub fn try_step<B, H, W>(live: &mut Live<B, H>, printer: &Printer<'_>, step: Step, out: &mut W)
-where
-    B: FabricName + Send + Sync + 'static,
-    H: Host,
-    W: Write,
-    ensures tried { IsStepDone step live.old live.new ⊎ IsStepRefused step live.old live.new }
-    ensures side { is_left live.new ≡ is_left live.old }
+pub fn try_step<N: Live, W: Write>(net: &mut N, printer: &Printer<'_>, step: Step, out: &mut W)
+    ensures { IsStepDone N.meaning step net.old net.new
+        ⊎ IsStepRefused N.meaning step net.old net.new }
 {
-    let _ = match do_one(live, step) {
+    let _ = match net.step(step) {
         Ok(()) => printer.print(&Line::Tried(None), out),
         Err(refusal) => printer.print(&Line::Tried(Some(FaultKind::from(refusal))), out),
     };
 }
 
 /// Asks a router's image in force, and prints what it answers. What it prints may be lost.
-pub fn look_up<B, H, W>(
-    live: &mut Live<B, H>,
+pub fn look_up<N: Live, W: Write>(
+    net: &mut N,
     printer: &Printer<'_>,
     router: u16,
     addr: u32,
     out: &mut W,
 ) -> Result<(), Refusal>
-where
-    B: FabricName + Send + Sync + 'static,
-    H: Host,
-    W: Write,
-    ensures same { live.new ≡ live.old }
-    ensures err { IfErr result (CannotLookUp live.old router addr) }
+    ensures same { net.new ≡ net.old }
+    ensures err { IfErr result (N.meaning.not_looked_up net.old router addr) }
 {
-    let found = lookup(live, router, addr)?;
+    let found = net.lookup(router, addr)?;
     let answer = Answer {
         router,
         addr,
@@ -84,22 +68,18 @@ where
 
 /// Traces a packet along the images in force, while one prefix matches it or through, and prints its way.
 /// What it prints may be lost.
-pub fn show_trace<B, H, W>(
-    live: &mut Live<B, H>,
+pub fn show_trace<N: Live, W: Write>(
+    net: &mut N,
     printer: &Printer<'_>,
     router: u16,
     addr: u32,
     through: bool,
     out: &mut W,
 ) -> Result<(), Refusal>
-where
-    B: FabricName + Send + Sync + 'static,
-    H: Host,
-    W: Write,
-    ensures same { live.new ≡ live.old }
-    ensures err { IfErr result (CannotTrace live.old router) }
+    ensures same { net.new ≡ net.old }
+    ensures err { IfErr result (N.meaning.not_traced net.old router) }
 {
-    let traced = trace(live, router, addr, through)?;
+    let traced = net.trace(router, addr, through)?;
     let line = Line::Traced {
         router,
         addr,
@@ -112,13 +92,9 @@ where
 }
 
 /// Counts what was done since the last time, and prints it. What it prints may be lost.
-pub fn show_count<B, H, W>(live: &mut Live<B, H>, printer: &Printer<'_>, out: &mut W)
-where
-    B: FabricName + Send + Sync + 'static,
-    H: Host,
-    W: Write,
-    ensures { live.new ≡ live.old }
+pub fn show_count<N: Live, W: Write>(net: &mut N, printer: &Printer<'_>, out: &mut W)
+    ensures { net.new ≡ net.old }
 {
-    let counts = count(live);
+    let counts = net.count();
     let _ = printer.print(&Line::Counted(counts), out);
 }

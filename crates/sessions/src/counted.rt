@@ -1,18 +1,17 @@
 //! A network whose steps are counted: a simulation, and what was saved of it.
 
-ghost use Rattle.std.specs.Prelude.{◌≡◌, ◌<◌, not, true, length, Some, IfOk, IfErr, IfSome, OnOk, OnErr};
+ghost use Rattle.std.specs.Prelude.{◌≡◌, ◌<◌, not, true, length, Some, IfOk, IfErr, IfSome, OnOk};
 ghost use Rattle.std.specs.List.{position_from};
 ghost use Rattle.ipv4_prefix.specs.Prefix.{prefix_eq};
-ghost use Rattle.network_model.specs.Step.{Lawful};
-ghost use Rattle.world.specs.Steps.{CanBeRefused, IsDoneOr};
-ghost use Rattle.simulation.specs.Simulation.{simulation_refusal};
+ghost use Rattle.world.specs.Steps.{CanBeRefused};
 ghost use Rattle.lines.specs.Report.{unknown_router};
-ghost use Rattle.either.specs.declared.Either.TheVariants as Nets;
-ghost use Rattle.sessions.specs.Nets.{CannotInject, CannotRestore, CannotSave, CannotTrace, IsAnswer, IsRestored, IsSaved, counted_after, opening_counted};
+ghost use Rattle.sessions.specs.Nets.{IsAnswer, opening_counted};
 ghost use Rattle.sessions.specs.Settling.{SettlesThere, StopsThere};
 ghost use Rattle.sessions.specs.Traces.{IsTrace, crossing_on, matched_at, matches_other};
 
+use crate::live::Live;
 use crate::totals::{counts_of, counts_since, no_counts};
+use control::{Progress, TurnGate};
 use lines::{Answer, Asked, Counts, Line, Printer};
 use network_model::{Ending, Entry, NoMemory, Prefix, Refusal, Step, Trace};
 use plans::Cause;
@@ -20,7 +19,7 @@ use simulation::{Order, Simulation};
 use std::alloc::Global;
 use std::io::Write;
 use std::marker::Model;
-use world::Network;
+use world::{Network, World};
 
 /// A simulation, and what was saved of it. Contracts see both.
 #[derive(Drop)]
@@ -68,12 +67,45 @@ impl Counted {
         })
     }
 
+    // Lets routers take turns until nothing is left to do: in ascending cyclic order, or in an order that a seed draws.
+    fn take_turns(&mut self, seed: Option<u32>) -> Result<(), Refusal>
+        ensures ok { OnOk result (SettlesThere (self.old).simulation (self.new).simulation) }
+        ensures err { IfErr result (StopsThere (self.old).simulation (self.new).simulation) }
+        ensures saved { (self.new).saved ≡ (self.old).saved }
+    {
+        let order = match seed {
+            Some(seed) => Order::Seeded(u64::from(seed)),
+            None => Order::Cyclic,
+        };
+        let ran = self.simulation.settle(order, usize::MAX);
+        if let Some(refusal) = ran.refusal {
+            return Err(refusal);
+        }
+        // So many steps are more than can be counted.
+        if !self.simulation.is_settled() {
+            return Err(Refusal::JournalFull);
+        }
+        Ok(())
+    }
+
+    // The row by which the image in force at a router answers an address, if one covers it.
+    fn look_up(&self, router: u16, addr: u32) -> Result<Option<(Prefix, Entry)>, Refusal>
+        ensures answer { IfOk result (IsAnswer (self.now).simulation.world router addr) }
+        ensures err { IfErr result (λ e. unknown_router (self.now).simulation.world router ≡ Some e) }
+    {
+        self.simulation.holds();
+        match self.simulation.lookup(router, addr) {
+            Some(answer) => Ok(answer.matched),
+            None => Err(Refusal::UnknownRouter),
+        }
+    }
+
     // Looks the address up for the next job.
     fn answer(&mut self, router: u16, addr: u32) -> Result<(), Refusal>
         ensures same { self.new ≡ self.old }
         ensures err { IfErr result (CanBeRefused (unknown_router (self.old).simulation.world router)) }
     {
-        let found = self.lookup(router, addr)?;
+        let found = self.look_up(router, addr)?;
         let number = self.last.saturating_add(1);
         let answer = JobAnswer {
             number,
@@ -84,18 +116,6 @@ impl Counted {
         self.answers.push(answer).map_err(|_| Refusal::NoMemory)?;
         self.last = number;
         Ok(())
-    }
-
-    /// The row by which the image in force at a router answers an address, if one covers it.
-    pub fn lookup(&self, router: u16, addr: u32) -> Result<Option<(Prefix, Entry)>, Refusal>
-        ensures answer { IfOk result (IsAnswer (self.now).simulation.world router addr) }
-        ensures err { IfErr result (λ e. unknown_router (self.now).simulation.world router ≡ Some e) }
-    {
-        self.simulation.holds();
-        match self.simulation.lookup(router, addr) {
-            Some(answer) => Ok(answer.matched),
-            None => Err(Refusal::UnknownRouter),
-        }
     }
 
     // The way of a packet, whichever prefixes match it.
@@ -153,58 +173,50 @@ impl Counted {
     fn matched(&self, router: u16, addr: u32) -> Option<Prefix>
         ensures { result ≡ matched_at (self.now).simulation.world addr router }
     {
-        match self.lookup(router, addr) {
+        match self.look_up(router, addr) {
             Ok(Some((prefix, _))) => Some(prefix),
             Ok(None) => None,
             Err(_) => None,
         }
     }
+}
 
-    /// The simulation.
-    pub fn simulation(&self) -> &Simulation
-        ensures { result.now ≡ (self.now).simulation }
-    {
-        &self.simulation
+impl Live for Counted {
+    ghost use Rattle.sessions.specs.Nets.{counted_meaning};
+
+    ghost meaning = { counted_meaning };
+
+    fn network(&self) -> &Network {
+        self.simulation.network()
     }
 
-    /// Does a step. Refused, it leaves all as it was.
-    pub fn step(&mut self, step: Step) -> Result<(), Refusal>
-        ensures ok { OnOk result (Lawful (self.old).simulation.world step
-            × (self.new ≡ counted_after self.old step)) }
-        ensures err { OnErr result (self.new ≡ self.old) }
-        ensures cause { IsDoneOr (simulation_refusal (self.old).simulation step) result }
-    {
+    fn world(&self) -> &World {
+        self.simulation.world()
+    }
+
+    fn steps(&self) -> u64 {
+        self.simulation.steps()
+    }
+
+    fn step(&mut self, step: Step) -> Result<(), Refusal> {
         self.simulation.step(step)
     }
 
-    /// Lets routers take turns until nothing is left to do: in ascending cyclic order, or in an order that a seed
-    /// draws.
-    pub fn settle(&mut self, seed: Option<u32>) -> Result<(), Refusal>
-        ensures ok { OnOk result (SettlesThere (self.old).simulation (self.new).simulation) }
-        ensures err { IfErr result (StopsThere (self.old).simulation (self.new).simulation) }
-        ensures saved { (self.new).saved ≡ (self.old).saved }
-    {
-        let order = match seed {
-            Some(seed) => Order::Seeded(u64::from(seed)),
-            None => Order::Cyclic,
-        };
-        let ran = self.simulation.settle(order, usize::MAX);
-        if let Some(refusal) = ran.refusal {
-            return Err(refusal);
-        }
-        // So many steps are more than can be counted.
-        if !self.simulation.is_settled() {
-            return Err(Refusal::JournalFull);
-        }
-        Ok(())
+    // One thread takes all turns, and calls no gate.
+    fn settle<G: TurnGate + Sync, P: Progress>(
+        &mut self,
+        _gate: &G,
+        seed: Option<u32>,
+        _progress: &mut P,
+    ) -> Result<(), Refusal> {
+        self.take_turns(seed)
     }
 
-    /// The way of a packet along the images in force, while one prefix matches it, or through.
-    pub fn trace(&self, router: u16, addr: u32, through: bool) -> Result<Trace, Refusal>
-        ensures ok { IfOk result (IsTrace (self.now).simulation.world router addr through) }
-        ensures known { OnOk result (router < length (self.now).simulation.world.routers) }
-        ensures err { IfErr result (CannotTrace (Nets.Right self.now) router) }
-    {
+    fn lookup(&mut self, router: u16, addr: u32) -> Result<Option<(Prefix, Entry)>, Refusal> {
+        self.look_up(router, addr)
+    }
+
+    fn trace(&mut self, router: u16, addr: u32, through: bool) -> Result<Trace, Refusal> {
         let mut traced = self.follow(router, addr)?;
         if through {
             return Ok(traced);
@@ -217,22 +229,15 @@ impl Counted {
         Ok(traced)
     }
 
-    /// Answers the next job: looks the address up at the router. Jobs are numbered from 1. Refused, it takes no
-    /// number.
-    pub fn inject(&mut self, router: u16, addr: u32) -> Result<(), Cause>
-        ensures err { IfErr result (CannotInject (Nets.Right self.old) router) }
-        ensures same { self.new ≡ self.old }
-    {
+    // The job is answered at once.
+    fn inject(&mut self, router: u16, addr: u32) -> Result<(), Cause> {
         match self.answer(router, addr) {
             Ok(()) => Ok(()),
             Err(refusal) => Err(Cause::Refused(refusal)),
         }
     }
 
-    /// Prints the answers of all jobs since the last time, by number. What it prints may be lost.
-    pub fn drain<W: Write>(&mut self, printer: &Printer<'_>, out: &mut W)
-        ensures { self.new ≡ self.old }
-    {
+    fn drain<W: Write>(&mut self, printer: &Printer<'_>, out: &mut W) -> Result<(), Cause> {
         for job in &self.answers {
             let answer = Answer {
                 router: job.router,
@@ -243,24 +248,17 @@ impl Counted {
             let _ = printer.print(&Line::Asked(packet), out);
         }
         self.answers.clear();
+        Ok(())
     }
 
-    /// What was done since the last time, or since the opening.
-    pub fn count(&mut self) -> Counts
-        ensures { self.new ≡ self.old }
-    {
+    fn count(&mut self) -> Counts {
         let totals = counts_of(self.simulation.steps(), self.simulation.sent());
         let since = counts_since(totals, self.counted);
         self.counted = totals;
         since
     }
 
-    /// Saves the simulation as it is, in place of what was saved before. Refused with `NoMemory`.
-    pub fn save(&mut self) -> Result<(), Cause>
-        ensures ok { OnOk result (IsSaved (Nets.Right self.old) (Nets.Right self.new)) }
-        ensures same { OnErr result (self.new ≡ self.old) }
-        ensures err { IfErr result (CannotSave (Nets.Right self.old)) }
-    {
+    fn save(&mut self) -> Result<(), Cause> {
         match self.simulation.copy(self.alloc) {
             Ok(copy) => {
                 self.saved = Some(copy);
@@ -270,12 +268,8 @@ impl Counted {
         }
     }
 
-    /// Makes the simulation what it was when it was saved. Refused with `NothingSaved` and `NoMemory`.
-    pub fn restore(&mut self) -> Result<(), Cause>
-        ensures ok { OnOk result (IsRestored (Nets.Right self.old) (Nets.Right self.new)) }
-        ensures same { OnErr result (self.new ≡ self.old) }
-        ensures err { IfErr result (CannotRestore (Nets.Right self.old)) }
-    {
+    // Refused with `NothingSaved` and `NoMemory`.
+    fn restore(&mut self) -> Result<(), Cause> {
         let Some(saved) = &self.saved else {
             return Err(Cause::NothingSaved);
         };
@@ -283,7 +277,10 @@ impl Counted {
             return Err(Cause::Refused(Refusal::NoMemory));
         };
         // What was done and not yet counted is counted later, too.
-        let since = counts_since(counts_of(self.simulation.steps(), self.simulation.sent()), self.counted);
+        let since = counts_since(
+            counts_of(self.simulation.steps(), self.simulation.sent()),
+            self.counted,
+        );
         self.counted = counts_since(counts_of(copy.steps(), copy.sent()), since);
         self.simulation = copy;
         Ok(())

@@ -1,18 +1,12 @@
 //! A network whose steps are kept: a fabric, with the workers that look up in its images.
 
-ghost use Rattle.std.specs.Prelude.{◌≡◌, ◌<◌, ◌≤◌, All, IfOk, IfErr, MatchResult, OnOk, OnErr, length, vec_len};
+ghost use Rattle.std.specs.Prelude.{◌≡◌, ◌≤◌, All, MatchResult, length, vec_len};
 ghost use Rattle.network_model.specs.Network.{most_workers};
-ghost use Rattle.network_model.specs.Step.{Lawful};
-ghost use Rattle.world.specs.Steps.{IsDoneOr};
-ghost use Rattle.fabric.specs.Fabric.{after_step, fabric_refusal};
 ghost use Rattle.fabric.specs.Writers.{IsReaderPort};
-ghost use Rattle.either.specs.declared.Either.TheVariants as Nets;
-ghost use Rattle.sessions.specs.Nets.{CannotDrain, CannotInject, CannotLookUp, CannotTrace, IsAnswer};
-ghost use Rattle.sessions.specs.Settling.{Settles, StopsSettling};
-ghost use Rattle.sessions.specs.Traces.{IsTrace};
 
 use crate::dispatcher::{Dispatcher, ports_of, print_replies};
 use crate::host::Host;
+use crate::live::Live;
 use crate::totals::{counts_of, counts_since, no_counts};
 use control::{Crew, Order, Progress, TurnGate, settle, settle_in_order};
 use fabric::{Fabric, FabricName};
@@ -25,6 +19,7 @@ use std::alloc::Global;
 use std::io::Write;
 use std::marker::Model;
 use tracer::{trace, trace_through};
+use world::{Network, World};
 
 /// A fabric with its workers. Contracts see the fabric. It is not `Drop`: end it by `close`, so that no worker is
 /// left running.
@@ -94,35 +89,40 @@ where
             Err(fault) => (fabric, Err(FaultKind::from(fault))),
         }
     }
+}
 
-    /// The fabric.
-    pub fn fabric(&self) -> &Fabric<B>
-        ensures { result.now ≡ self.now }
-    {
-        &self.fabric
+impl<B, H> Live for Kept<B, H>
+where
+    B: FabricName + Send + Sync + 'static,
+    H: Host,
+{
+    ghost use Rattle.sessions.specs.Nets.{kept_meaning};
+
+    ghost meaning = { kept_meaning };
+
+    fn network(&self) -> &Network {
+        self.fabric.network()
     }
 
-    /// Does a step. Refused, it leaves all as it was.
-    pub fn step(&mut self, step: Step) -> Result<(), Refusal>
-        ensures ok { OnOk result (Lawful (self.old).world step
-            × (self.new ≡ after_step self.old step)) }
-        ensures err { OnErr result (self.new ≡ self.old) }
-        ensures cause { IsDoneOr (fabric_refusal self.old step) result }
-    {
+    fn world(&self) -> &World {
+        self.fabric.world()
+    }
+
+    fn steps(&self) -> u64 {
+        self.fabric.journal().len() as u64
+    }
+
+    fn step(&mut self, step: Step) -> Result<(), Refusal> {
         self.fabric.step(&self.rt, step)
     }
 
-    /// Lets routers take turns until nothing is left to do: by the crew, in ascending cyclic order while one thread
-    /// does it, or by one thread in the order that a seed draws. A crew calls the gate.
-    pub fn settle<G: TurnGate + Sync, P: Progress>(
+    // By the crew, or by one thread in the order that a seed draws.
+    fn settle<G: TurnGate + Sync, P: Progress>(
         &mut self,
         gate: &G,
         seed: Option<u32>,
         progress: &mut P,
-    ) -> Result<(), Refusal>
-        ensures ok { OnOk result (Settles self.old self.new) }
-        ensures err { IfErr result (StopsSettling self.old self.new) }
-    {
+    ) -> Result<(), Refusal> {
         match seed {
             Some(seed) => {
                 let order = Order::Seeded(u64::from(seed));
@@ -139,25 +139,14 @@ where
         }
     }
 
-    /// The row by which the image in force at a router answers an address, if one covers it.
-    pub fn lookup(&mut self, router: u16, addr: u32) -> Result<Option<(Prefix, Entry)>, Refusal>
-        ensures answer { IfOk result (IsAnswer (self.old).world router addr) }
-        ensures err { IfErr result (CannotLookUp (Nets.Left self.old) router addr) }
-        ensures same { self.new ≡ self.old }
-    {
+    fn lookup(&mut self, router: u16, addr: u32) -> Result<Option<(Prefix, Entry)>, Refusal> {
         match self.fabric.lookup(router, addr) {
             Ok(answer) => Ok(answer.matched),
             Err(refusal) => Err(refusal),
         }
     }
 
-    /// The way of a packet along the images in force, while one prefix matches it, or through.
-    pub fn trace(&mut self, router: u16, addr: u32, through: bool) -> Result<Trace, Refusal>
-        ensures ok { IfOk result (IsTrace (self.old).world router addr through) }
-        ensures known { OnOk result (router < length (self.old).world.routers) }
-        ensures err { IfErr result (CannotTrace (Nets.Left self.old) router) }
-        ensures same { self.new ≡ self.old }
-    {
+    fn trace(&mut self, router: u16, addr: u32, through: bool) -> Result<Trace, Refusal> {
         if usize::from(router) >= self.fabric.world().routers().len() {
             return Err(Refusal::UnknownRouter);
         }
@@ -172,21 +161,12 @@ where
         }
     }
 
-    /// Gives the workers the next job: to look the address up at the router. Jobs are numbered from 1. Refused, it
-    /// takes no number.
-    pub fn inject(&mut self, router: u16, addr: u32) -> Result<(), Cause>
-        ensures err { IfErr result (CannotInject (Nets.Left self.old) router) }
-        ensures same { self.new ≡ self.old }
-    {
+    fn inject(&mut self, router: u16, addr: u32) -> Result<(), Cause> {
         self.dispatcher
             .inject(self.rt, self.alloc, &self.fabric, router, addr)
     }
 
-    /// Waits until the workers have answered all jobs, and prints the answers by number. What it prints may be lost.
-    pub fn drain<W: Write>(&mut self, printer: &Printer<'_>, out: &mut W) -> Result<(), Cause>
-        ensures err { IfErr result (CannotDrain (Nets.Left self.old)) }
-        ensures same { self.new ≡ self.old }
-    {
+    fn drain<W: Write>(&mut self, printer: &Printer<'_>, out: &mut W) -> Result<(), Cause> {
         match self.dispatcher.drain(&self.rt, self.alloc) {
             Ok(replies) => {
                 let _ = print_replies(printer, &replies, out);
@@ -196,13 +176,18 @@ where
         }
     }
 
-    /// What was done since the last time, or since the opening.
-    pub fn count(&mut self) -> Counts
-        ensures { self.new ≡ self.old }
-    {
+    fn count(&mut self) -> Counts {
         let totals = counts_of(self.fabric.journal().len() as u64, self.fabric.sent());
         let since = counts_since(totals, self.counted);
         self.counted = totals;
         since
+    }
+
+    fn save(&mut self) -> Result<(), Cause> {
+        Err(Cause::JournalKept)
+    }
+
+    fn restore(&mut self) -> Result<(), Cause> {
+        Err(Cause::JournalKept)
     }
 }

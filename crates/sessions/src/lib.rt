@@ -2,7 +2,7 @@
 //!
 //! A run keeps its journal, so that it can be replayed, and so it takes memory by its steps and ends after a
 //! million. Who lets a network run for days wants neither, but the same commands should do the same in both.
-//! So the commands are done here alone, on a network that is [`Live`], which is one of two:
+//! So the commands are done here alone, on any [`Live`], of which there are two:
 //!
 //! ```text
 //!   Kept      a fabric: the steps are kept; routers settle on threads, workers look up
@@ -11,7 +11,7 @@
 //!
 //! ```text
 //! let session = Session { alloc, gate: &NoGate, directory: &directory, style };
-//! do_command(&session, &mut live, Command::Settle, &mut out, &mut ())?;
+//! do_command(&session, &mut net, Command::Settle, &mut out, &mut ())?;
 //! ```
 //!
 //! A step is `Fabric::step` or `Simulation::step`. `settle` is `settle` of `control`, which may start threads, or
@@ -27,12 +27,13 @@
 //!
 //! What always holds: a command is done as its definition says, or refused for a cause that holds, and then the
 //! network is as before, or as it was brought to before the step that is refused (`IsDone` and `IsRefused` in
-//! `specs/Commands.antt`). `specs/Nets.antt` says what a step, a settling or a copy is of either. A look-up answers
-//! with the longest match of the rows that the router published (`answer` of [`lookup`]).
+//! `specs/Commands.antt`). What a step, a settling or a copy is of either, it says itself (`Meaning` in
+//! `specs/Nets.antt`), so commands are proved once for both. A look-up answers with the longest match of the rows that
+//! the router published (`answer` of [`Live::lookup`]).
 //!
 //! What is tricky: with a seed both settle in the same order, so a script ends with the same lines. No clause says
-//! so, and cases test it. A job of [`Counted`] is answered as soon as it is given, and told by the next `drain`. That is lawful, because the answer
-//! of a worker may be that of any table from then on.
+//! so, and cases test it. A job of [`Counted`] is answered as soon as it is given, and told by the next `drain`.
+//! That is lawful, because the answer of a worker may be that of any table from then on.
 //!
 //! Where there was a choice:
 //!
@@ -58,6 +59,6 @@ pub use control::{Crew, NO_THRESHOLDS, NoGate, Progress, THRESHOLDS, Thresholds,
 pub use counted::Counted;
 pub use host::Host;
 pub use kept::Kept;
-pub use live::{Live, lookup, network, step, steps, world};
+pub use live::Live;
 pub use progress::{end_line, show_steps_done};
 pub use session::{PrintStyle, Session, do_command, do_commands};

@@ -1,35 +1,27 @@
 //! Puts all links of a router up, or takes them down.
 
 ghost use Rattle.std.specs.Prelude.{◌≡◌, ◌<◌, length, IfErr, OnOk};
-ghost use Rattle.either.specs.Either.{is_left};
 ghost use Rattle.sessions.specs.Commands.{CannotPut, IsPut, NoneAmiss, is_amiss_at, put as put_model};
-ghost use Rattle.sessions.specs.Nets.{world_of};
 
-use crate::host::Host;
-use crate::live::{Live, network, step, world};
-use fabric::FabricName;
+use crate::live::Live;
 use network_model::{End, Refusal, Step};
 use world::World;
 
 /// Puts each link of a router up that is down, or takes down each that is up, in ascending order of the links, to
 /// the first that is refused. Refused with `UnknownRouter` before any.
-pub fn put_links<B, H>(live: &mut Live<B, H>, up: bool, router: u16) -> Result<(), Refusal>
-where
-    B: FabricName + Send + Sync + 'static,
-    H: Host,
-    ensures ok { OnOk result (IsPut up router live.old live.new) }
-    ensures known { OnOk result (router < length (world_of live.old).routers) }
-    ensures all { OnOk result (NoneAmiss up router live.old live.new) }
-    ensures err { IfErr result (CannotPut up router live.old live.new) }
-    ensures side { is_left live.new ≡ is_left live.old }
+pub fn put_links<N: Live>(net: &mut N, up: bool, router: u16) -> Result<(), Refusal>
+    ensures ok { OnOk result (IsPut N.meaning up router net.old net.new) }
+    ensures known { OnOk result (router < length (N.meaning.world net.old).routers) }
+    ensures all { OnOk result (NoneAmiss N.meaning up router net.old net.new) }
+    ensures err { IfErr result (CannotPut N.meaning up router net.old net.new) }
 {
-    if usize::from(router) >= world(live).routers().len() {
+    if usize::from(router) >= net.world().routers().len() {
         return Err(Refusal::UnknownRouter);
     }
-    for place in 0..network(live).links().len() {
+    for place in 0..net.network().links().len() {
         let link = place as u16;
-        if is_amiss(world(live), up, router, link) {
-            match step(live, put(up, link)) {
+        if is_amiss(net.world(), up, router, link) {
+            match net.step(put(up, link)) {
                 Ok(()) => {}
                 Err(refusal) => return Err(refusal),
             }

@@ -2,17 +2,14 @@
 
 ghost use Rattle.std.specs.Prelude.{◌≡◌, IfErr, IsOk, MatchResult, OnOk, Err};
 ghost use Rattle.plans.specs.declared.fault.Cause.TheVariants as Causes;
-ghost use Rattle.either.specs.Either.{is_left};
 ghost use Rattle.sessions.specs.Commands.{AreDone, IsDone, IsRefused, StopsAtCommand};
 
 use crate::commands::{do_step, look_up, show_count, show_trace, try_step};
-use crate::host::Host;
-use crate::live::{Live, drain, inject, network, restore, save, settle, steps, world};
+use crate::live::Live;
 use crate::progress::show_commands_done;
 use crate::putting::put_links;
 use command_line::Format;
 use control::{Progress, TurnGate};
-use fabric::FabricName;
 use lines::{Printer, print_report, print_state, show_held, show_next, show_queue, show_table};
 use network_model::Refusal;
 use plans::{Cause, Fault};
@@ -56,22 +53,20 @@ impl<'a, G> Session<'a, G> {
 
 /// Does the commands in order, up to the first that is refused. Their steps make a run of lawful steps. After each,
 /// and while one goes on, it is told on `err` how far the run is, where that is asked for.
-pub fn do_commands<B, H, G, W, E>(
+pub fn do_commands<N, G, W, E>(
     session: &Session<'_, G>,
-    live: &mut Live<B, H>,
+    net: &mut N,
     commands: &[Command],
     out: &mut W,
     err: &mut E,
 ) -> Result<(), Fault>
 where
-    B: FabricName + Send + Sync + 'static,
-    H: Host,
+    N: Live,
     G: TurnGate + Sync,
     W: Write,
     E: Write,
-    ensures all { OnOk result (AreDone commands.now live.old live.new) }
-    ensures stop { IfErr result (StopsAtCommand commands.now live.old live.new) }
-    ensures side { is_left live.new ≡ is_left live.old }
+    ensures all { OnOk result (AreDone N.meaning commands.now net.old net.new) }
+    ensures stop { IfErr result (StopsAtCommand N.meaning commands.now net.old net.new) }
 {
     let mut progress = ScriptProgress {
         asked: session.style.progress,
@@ -81,10 +76,10 @@ where
     };
     progress.steps(0);
     for (position, &command) in commands.iter().enumerate() {
-        match do_command(session, live, command, out, &mut progress) {
+        match do_command(session, net, command, out, &mut progress) {
             Ok(()) => {
                 progress.done = position.saturating_add(1);
-                progress.steps(steps(live) as usize);
+                progress.steps(net.steps() as usize);
             }
             Err(cause) => {
                 let key = Key::Script;
@@ -114,81 +109,72 @@ impl<'a, E: Write> Progress for ScriptProgress<'a, E> {
 }
 
 /// Does one command, and tells `progress` how far it is. What it prints may be lost.
-pub fn do_command<B, H, G, W, P>(
+pub fn do_command<N, G, W, P>(
     session: &Session<'_, G>,
-    live: &mut Live<B, H>,
+    net: &mut N,
     command: Command,
     out: &mut W,
     progress: &mut P,
 ) -> Result<(), Cause>
 where
-    B: FabricName + Send + Sync + 'static,
-    H: Host,
+    N: Live,
     G: TurnGate + Sync,
     W: Write,
     P: Progress,
-    ensures ok { OnOk result (IsDone command live.old live.new) }
-    ensures err { IfErr result (IsRefused command live.old live.new) }
-    ensures side { is_left live.new ≡ is_left live.old }
+    ensures ok { OnOk result (IsDone N.meaning command net.old net.new) }
+    ensures err { IfErr result (IsRefused N.meaning command net.old net.new) }
 {
     let printer = session.printer();
     let alloc = session.alloc;
     match command {
         Command::Step(step) => {
-            let done = do_step(live, &printer, session.style.moves, step, out);
+            let done = do_step(net, &printer, session.style.moves, step, out);
             into_cause(done)
         }
         Command::Try(step) => {
-            try_step(live, &printer, step, out);
+            try_step(net, &printer, step, out);
             Ok(())
         }
-        Command::Settle => into_cause(settle(live, session.gate, None, progress)),
-        Command::SettleDrawn { seed } => into_cause(settle(
-            live,
-            session.gate,
-            Some(seed),
-            progress,
-        )),
-        Command::RouterUp { router } => into_cause(put_links(live, true, router)),
-        Command::RouterDown { router } => into_cause(put_links(live, false, router)),
+        Command::Settle => into_cause(net.settle(session.gate, None, progress)),
+        Command::SettleDrawn { seed } => into_cause(net.settle(session.gate, Some(seed), progress)),
+        Command::RouterUp { router } => into_cause(put_links(net, true, router)),
+        Command::RouterDown { router } => into_cause(put_links(net, false, router)),
         Command::State { router, prefix } => {
             let explain = session.style.explain;
-            let done = print_state(world(live), &printer, router, prefix, explain, out);
+            let done = print_state(net.world(), &printer, router, prefix, explain, out);
             into_cause(done)
         }
-        Command::Table { router } => into_cause(show_table(world(live), &printer, router, out)),
+        Command::Table { router } => into_cause(show_table(net.world(), &printer, router, out)),
         Command::Next { router } => {
-            let links = network(live).links();
-            let done = show_next(world(live), links, &printer, router, out);
+            let links = net.network().links();
+            let done = show_next(net.world(), links, &printer, router, out);
             into_cause(done)
         }
         Command::Queue { router, port } => {
-            let done = show_queue(alloc, world(live), &printer, router, port, out);
+            let done = show_queue(alloc, net.world(), &printer, router, port, out);
             into_cause(done)
         }
         Command::Held { router } => {
-            let done = show_held(alloc, world(live), &printer, router, out);
+            let done = show_held(alloc, net.world(), &printer, router, out);
             into_cause(done)
         }
-        Command::Lookup { router, addr } => {
-            into_cause(look_up(live, &printer, router, addr, out))
-        }
+        Command::Lookup { router, addr } => into_cause(look_up(net, &printer, router, addr, out)),
         Command::Trace { router, addr } => {
-            into_cause(show_trace(live, &printer, router, addr, false, out))
+            into_cause(show_trace(net, &printer, router, addr, false, out))
         }
         Command::TraceThrough { router, addr } => {
-            into_cause(show_trace(live, &printer, router, addr, true, out))
+            into_cause(show_trace(net, &printer, router, addr, true, out))
         }
-        Command::Inject { router, addr } => inject(live, router, addr),
-        Command::Drain => drain(live, &printer, out),
+        Command::Inject { router, addr } => net.inject(router, addr),
+        Command::Drain => net.drain(&printer, out),
         Command::Count => {
-            show_count(live, &printer, out);
+            show_count(net, &printer, out);
             Ok(())
         }
-        Command::Save => save(live),
-        Command::Restore => restore(live),
+        Command::Save => net.save(),
+        Command::Restore => net.restore(),
         Command::Report => {
-            let _ = print_report(world(live), &printer, out);
+            let _ = print_report(net.world(), &printer, out);
             Ok(())
         }
     }

@@ -2,7 +2,8 @@ use Rattle.std.proofs.Common.{string_bytes, refl, is_some}
 use Rattle.script.proofs.Exits.{at_err}
 use Rattle.plans.specs.Faults.{OfBytes}
 use Rattle.plans.proofs.Planned.{IsPlanned}
-use Rattle.play.specs.Works.{Comes, IsOfNothing, Stops, StopsOn, counted, none_kept}
+use Rattle.sessions.specs.Nets.{counted_meaning, opening_counted}
+use Rattle.play.specs.Works.{Comes, IsOfNothing, Stops, StopsOn, none_kept}
 use Rattle.play.proofs.Working.{stopped, worked}
 use Rattle.play.proofs.program.count.Goals as goal
 
@@ -11,13 +12,13 @@ returns-clause-ok g c =
     let text = string_bytes c.in_ok-text.text in
     let plan = c.in_ok-plan.plan in
     let planned : IsPlanned text plan = rw (← c.as_str.ensures.value) c.in_ok-plan.ensures.ok in
-    (refl, (text, c.in_ok-text.ensures.whole, worked counted text plan c.in_ok-text.ensures.short planned (Comes (is_some c.args.typed)) none_kept c.in_ok-with_simulation.ensures.ok))
+    (refl, (text, c.in_ok-text.ensures.whole, worked opening_counted text plan c.in_ok-text.ensures.short planned (Comes counted_meaning (is_some c.args.typed)) none_kept c.in_ok-with_simulation.ensures.ok))
 
 pub returns-in_err-with_simulation-clause-fault : goal.returns-in_err-with_simulation-clause-fault
 returns-in_err-with_simulation-clause-fault g c =
     let text = string_bytes c.in_ok-text.text in
     let plan = c.in_ok-plan.plan in
     let planned : IsPlanned text plan = rw (← c.as_str.ensures.value) c.in_ok-plan.ensures.ok in
-    at_err c.from_residual-in_err-with_simulation.result (λ e. OfBytes (g.R.Read.remaining c.args.scenario) (λ bytes. StopsOn counted IsOfNothing (Stops (is_some c.args.typed)) bytes e)) c.in_err-with_simulation.field-0.0
+    at_err c.from_residual-in_err-with_simulation.result (λ e. OfBytes (g.R.Read.remaining c.args.scenario) (λ bytes. StopsOn opening_counted IsOfNothing (Stops counted_meaning (is_some c.args.typed)) bytes e)) c.in_err-with_simulation.field-0.0
     c.from_residual-in_err-with_simulation.ensures.1
-    (text, c.in_ok-text.ensures.whole, stopped counted text plan c.in_ok-text.ensures.short planned IsOfNothing (Stops (is_some c.args.typed)) c.in_err-with_simulation.field-0.0 c.in_err-with_simulation.ensures.fault)
+    (text, c.in_ok-text.ensures.whole, stopped opening_counted text plan c.in_ok-text.ensures.short planned IsOfNothing (Stops counted_meaning (is_some c.args.typed)) c.in_err-with_simulation.field-0.0 c.in_err-with_simulation.ensures.fault)

@@ -1,10 +1,12 @@
 use Rattle.std.proofs.Common.{string_bytes, refl, is_some, Some, inl, inr}
+use Rattle.fabric.specs.Fabric.{opening_fabric}
 use Rattle.script.proofs.Exits.{at_err}
 use Rattle.plans.specs.declared.fault.Cause.TheVariants.{Memory as OfMemory}
 use Rattle.plans.specs.Faults.{OfBytes, unplaced}
 use Rattle.plans.proofs.Planned.{IsPlanned}
+use Rattle.sessions.specs.Nets.{kept_meaning}
 use Rattle.play.specs.Ends.{KeepsJournal}
-use Rattle.play.specs.Works.{Comes, IsOfWorkers, Stops, StopsOn, is_kept, kept}
+use Rattle.play.specs.Works.{Comes, IsOfWorkers, Stops, StopsOn}
 use Rattle.play.proofs.Working.{stopped, worked, works_added}
 use Rattle.play.proofs.program.keep.Goals as goal
 
@@ -17,8 +19,8 @@ returns-clause-ok g c =
       (
         text,
         c.in_ok-text.ensures.whole,
-        worked kept text plan c.in_ok-text.ensures.short planned (Comes (is_some c.args.typed)) (is_kept (λ d f. KeepsJournal c.args.wanted d f (Some c.args.kept.now.items) (Some c.add.new.kept.items)))
-            (works_added c.args.wanted (Comes (is_some c.args.typed)) plan c.args.kept.now.items c.new-made.result.items c.with_fabric.new.kept.items c.add.new.kept.items c.new-made.ensures.items c.in_ok-add.ensures.ok c.in_ok-with_fabric.ensures.ok),
+        worked opening_fabric text plan c.in_ok-text.ensures.short planned (Comes kept_meaning (is_some c.args.typed)) (λ d f. KeepsJournal c.args.wanted d f (Some c.args.kept.now.items) (Some c.add.new.kept.items))
+            (works_added c.args.wanted (Comes kept_meaning (is_some c.args.typed)) plan c.args.kept.now.items c.new-made.result.items c.with_fabric.new.kept.items c.add.new.kept.items c.new-made.ensures.items c.in_ok-add.ensures.ok c.in_ok-with_fabric.ensures.ok),
       ),
     )
 
@@ -27,12 +29,12 @@ returns-in_err-with_fabric-clause-fault g c =
     let text = string_bytes c.in_ok-text.text in
     let plan = c.in_ok-plan.plan in
     let planned : IsPlanned text plan = rw (← c.as_str.ensures.value) c.in_ok-plan.ensures.ok in
-    at_err c.from_residual-in_err-with_fabric.result (λ e. OfBytes (g.R.Read.remaining c.args.scenario) (λ bytes. StopsOn kept IsOfWorkers (Stops (is_some c.args.typed)) bytes e)) c.in_err-with_fabric.field-0.0
+    at_err c.from_residual-in_err-with_fabric.result (λ e. OfBytes (g.R.Read.remaining c.args.scenario) (λ bytes. StopsOn opening_fabric IsOfWorkers (Stops kept_meaning (is_some c.args.typed)) bytes e)) c.in_err-with_fabric.field-0.0
     c.from_residual-in_err-with_fabric.ensures.1
-    (text, c.in_ok-text.ensures.whole, stopped kept text plan c.in_ok-text.ensures.short planned IsOfWorkers (Stops (is_some c.args.typed)) c.in_err-with_fabric.field-0.0 c.in_err-with_fabric.ensures.fault)
+    (text, c.in_ok-text.ensures.whole, stopped opening_fabric text plan c.in_ok-text.ensures.short planned IsOfWorkers (Stops kept_meaning (is_some c.args.typed)) c.in_err-with_fabric.field-0.0 c.in_err-with_fabric.ensures.fault)
 
 pub returns-in_err-add-clause-fault : goal.returns-in_err-add-clause-fault
 returns-in_err-add-clause-fault g c =
-    at_err c.from_residual-in_err-add.result (λ e. OfBytes (g.R.Read.remaining c.args.scenario) (λ bytes. StopsOn kept IsOfWorkers (Stops (is_some c.args.typed)) bytes e)) (unplaced (OfMemory c.in_err-add.field-0.0))
+    at_err c.from_residual-in_err-add.result (λ e. OfBytes (g.R.Read.remaining c.args.scenario) (λ bytes. StopsOn opening_fabric IsOfWorkers (Stops kept_meaning (is_some c.args.typed)) bytes e)) (unplaced (OfMemory c.in_err-add.field-0.0))
     c.from_residual-in_err-add.ensures.1
     (string_bytes c.in_ok-text.text, c.in_ok-text.ensures.whole, inl (inr (inl (record { memory = refl; unplaced = refl }))))

@@ -3,25 +3,25 @@ use Rattle.network_model.specs.World.{Network}
 use Rattle.world.specs.Steps.{CanBeRefused}
 use Rattle.course.proofs.Courses.{refused_as}
 use Rattle.sessions.specs.Commands.{is_amiss_at}
-use Rattle.sessions.specs.Nets.{refusal_of}
 use Rattle.sessions.proofs.Links.{none_below}
 use Rattle.sessions.proofs.putting.put_links.Goals as goal
 
 -- the first that is refused
 pub returns-in-Err-clause-err : goal.returns-in-Err-clause-err
 returns-in-Err-clause-err g c =
-    let before = c.loop-place.live in
+    let k = g.N.Live.meaning in
+    let before = c.loop-place.net in
     let e = c.in-Err.refusal in
     rw c.in-Err.ensures.err (inr (record {
       link = c.loop-place.place;
       is_link = subst (λ n. c.loop-place.place < n) (ap length (c.links-place-end.ensures.links ∙ ap (λ (n : Network). n.links) c.network.ensures)) c.loop-place-test.true;
-      before = c.loop-place.invariant.put;
+      before = c.loop-place.invariant;
       amiss = ap (λ w. is_amiss_at w c.args.up c.args.router c.loop-place.place) (sym c.world-in-loop-place.ensures) ∙ sym c.if-is_amiss.ensures;
-      refused = subst (λ s. CanBeRefused (refusal_of before s) e) c.put.ensures (refused_as _ (refusal_of before c.put.result) e c.in-Err.ensures.cause);
+      refused = subst (λ s. CanBeRefused (k.refusal before s) e) c.put.ensures (refused_as _ (k.refusal before c.put.result) e c.in-Err.ensures.cause);
     }))
 
 pub returns-clause-all : goal.returns-clause-all
 returns-clause-all g c l within =
     let all = ap length (c.links-place-end.ensures.links ∙ ap (λ (n : Network). n.links) c.network.ensures) in
     let last = c.loop-place-test.false in
-    none_below c.args.up c.args.router c.loop-place.place c.args.live.now c.loop-place.live c.loop-place.invariant.put l (omega (arith, within, all, last))
+    none_below g.N.Live.meaning c.args.up c.args.router c.loop-place.place c.args.net.now c.loop-place.net c.loop-place.invariant l (omega (arith, within, all, last))

@@ -1,15 +1,15 @@
 use Rattle.std.proofs.Common.{IfErr, sym, subst}
 use Rattle.script.specs.declared.command.Command.TheVariants as Command
 use Rattle.sessions.specs.Commands.{IsRefused}
-use Rattle.sessions.specs.Nets.{refusal_of}
 use Rattle.sessions.proofs.Doing.{caused_by, step_refused}
 use Rattle.sessions.proofs.session.do_command.Goals as goal
 
 pub returns-in-Step-clause-err : goal.returns-in-Step-clause-err
 returns-in-Step-clause-err g c =
-    let f = c.args.live.now in
-    let after = c.do_step-done.new.live in
+    let k = g.N.Live.meaning in
+    let f = c.args.net.now in
+    let after = c.do_step-done.new.net in
     let done = c.do_step-done.result in
-    subst (λ command. IfErr c.into_cause.result (IsRefused command f after)) (sym c.in-Step.is)
-    (caused_by done c.into_cause.result (IsRefused (Command.Step c.in-Step.step) f after) c.into_cause.ensures
-    (step_refused (refusal_of f c.in-Step.step) done f after c.do_step-done.ensures.cause c.do_step-done.ensures.err))
+    subst (λ command. IfErr c.into_cause.result (IsRefused k command f after)) (sym c.in-Step.is)
+    (caused_by done c.into_cause.result (IsRefused k (Command.Step c.in-Step.step) f after) c.into_cause.ensures
+    (step_refused (k.refusal f c.in-Step.step) done f after c.do_step-done.ensures.cause c.do_step-done.ensures.err))

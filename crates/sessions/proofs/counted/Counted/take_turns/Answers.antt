@@ -3,7 +3,7 @@ use Rattle.network_model.specs.Turns.{is_settled}
 use Rattle.simulation.specs.Settling.{IsStopped}
 use Rattle.sessions.specs.Nets.{Counted}
 use Rattle.sessions.proofs.Settling.{all_done, stop_none, stopped_there}
-use Rattle.sessions.proofs.counted.Counted.settle.Goals as goal
+use Rattle.sessions.proofs.counted.Counted.take_turns.Goals as goal
 
 -- it is not settled after as many steps as can be counted
 pub returns-then-not-is_settled-clause-err : goal.returns-then-not-is_settled-clause-err

@@ -1,5 +1,5 @@
 use Rattle.sessions.proofs.Settling.{stops_drawn, stops_here}
-use Rattle.sessions.proofs.kept.Kept.settle.Goals as goal
+use Rattle.sessions.proofs.kept.KeptLive.settle.Goals as goal
 
 pub returns-in-Some-clause-err : goal.returns-in-Some-clause-err
 returns-in-Some-clause-err g c =

@@ -1,7 +1,7 @@
 use Rattle.std.proofs.Common.{◌∙◌, ap, sym}
 use Rattle.sessions.specs.Nets.{Counted}
 use Rattle.sessions.proofs.Answering.{answered_there, unanswered}
-use Rattle.sessions.proofs.counted.Counted.lookup.Goals as goal
+use Rattle.sessions.proofs.counted.Counted.look_up.Goals as goal
 
 pub returns-in-Some-clause-answer : goal.returns-in-Some-clause-answer
 returns-in-Some-clause-answer c =

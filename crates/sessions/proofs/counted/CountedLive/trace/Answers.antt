@@ -3,7 +3,7 @@ use Rattle.network_model.specs.declared.trace.Trace.{Trace as Traced}
 use Rattle.network_model.specs.declared.trace.Ending.TheVariants.{Crossed}
 use Rattle.sessions.specs.Traces.{IsTrace, crossing_on}
 use Rattle.sessions.proofs.Crossings.{cut_short, uncrossed}
-use Rattle.sessions.proofs.counted.Counted.trace.Goals as goal
+use Rattle.sessions.proofs.counted.CountedLive.trace.Goals as goal
 
 pub returns-in_default-clause-ok : goal.returns-in_default-clause-ok
 returns-in_default-clause-ok c =
