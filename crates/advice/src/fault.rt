@@ -13,8 +13,7 @@ use crate::shown::shown;
 use crate::times::explain_times;
 use command_line::Words;
 use faults::{Brief, FaultKind};
-use journal::JournalFault;
-use plans::{Cause, Fault};
+use plans::{Fault, Where};
 use scenario::{Lines, read_scenario};
 use script::{Key, Place, read_script};
 use std::alloc::Global;
@@ -47,25 +46,31 @@ pub fn explain<W: Write>(
     let Some(file) = file_to_explain(words) else {
         return Ok(());
     };
-    match (*words, fault.cause) {
-        (Words::Time { times, .. }, Cause::Times(fault)) => {
-            return explain_times(alloc, times, beside, fault, out);
+    let place = match (*words, fault.place) {
+        (Words::Time { times, .. }, Some(Where::Times)) => {
+            return explain_times(alloc, times, beside, fault.kind, None, out);
         }
-        (Words::Replay { journal, .. }, Cause::Journal(JournalFault::BadLine { line })) => {
+        (Words::Time { times, .. }, Some(Where::TimesLine { key, position })) => {
+            let line = Some((key, position));
+            return explain_times(alloc, times, beside, fault.kind, line, out);
+        }
+        (Words::Replay { journal, .. }, Some(Where::Journal { line })) => {
             let text = str::from_utf8(beside).unwrap_or("");
             explain_journal(journal, text, line, out)?;
+            None
         }
-        _ => {}
-    }
+        (_, Some(Where::Scenario(place))) => Some(place),
+        _ => None,
+    };
     // A file that is too large was not read to its end, which may be half a character.
-    if fault.kind() != FaultKind::TooLarge {
+    if fault.kind != FaultKind::TooLarge {
         explain_bytes(file, scenario, out)?;
     }
     let faulty = Faulty {
         file,
         text: str::from_utf8(scenario).unwrap_or(""),
-        kind: fault.kind(),
-        place: fault.place,
+        kind: fault.kind,
+        place,
     };
     match faulty.kind {
         FaultKind::BadToml => explain_document(alloc, file, faulty.text, out)?,

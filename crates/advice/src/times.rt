@@ -5,31 +5,30 @@ use crate::document::explain_document;
 use crate::position::string_at;
 use crate::shown::shown;
 use faults::{Brief, FaultKind};
-use plans::{TimesFault, TimesKey};
+use plans::TimesKey;
 use std::alloc::Global;
 use std::io;
 use std::io::Write;
 
-/// Tells where a document of times is at fault, when the fault comes, and what to do.
+/// Tells where a document of times is at fault, in which of its strings if it is one, when the fault comes, and what
+/// to do.
 pub(crate) fn explain_times<W: Write>(
     alloc: Global,
     file: &str,
     bytes: &[u8],
-    fault: TimesFault,
+    kind: FaultKind,
+    line: Option<(TimesKey, usize)>,
     out: &mut W,
 ) -> io::Result<()> {
     let text = str::from_utf8(bytes).unwrap_or("");
-    let kind = FaultKind::from(fault);
     // A file that is too large was not read to its end, which may be half a character.
     if kind != FaultKind::TooLarge {
         explain_bytes(file, bytes, out)?;
     }
-    match fault {
-        TimesFault::Line { key, position, .. } => {
-            explain_string(alloc, file, text, key, position, out)?;
-        }
-        _ if kind == FaultKind::BadToml => explain_document(alloc, file, text, out)?,
-        _ => {}
+    match line {
+        Some((key, position)) => explain_string(alloc, file, text, key, position, out)?,
+        None if kind == FaultKind::BadToml => explain_document(alloc, file, text, out)?,
+        None => {}
     }
     write!(out, "{}", Brief(kind))
 }

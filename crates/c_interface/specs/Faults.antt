@@ -1,27 +1,29 @@
 -- The numbers of the faults.
 use Rattle.std.specs.Prelude.{◌≡◌, ℕ, ◌⊎◌, Option, None, Some}
+use Rattle.faults.specs.declared.kind.FaultKind.{FaultKind}
+use Rattle.faults.specs.Numbers.{kind_number}
 use Rattle.c_interface.specs.declared.fault.CallFault.{CallFault}
 use Rattle.c_interface.specs.declared.fault.CallFault.TheVariants.{BadLength, HostBits, BadCost, BadKind, Empty, BadCount, Shared, UnknownPort, AlreadyUp, IsDown, NothingDue, NothingRipe, NoMemory, TooManyPorts, TooManyPrefixes, UnknownPrefix, NotAttached, OtherSession, GenerationsSpent, Unasked, AskedTwice, StillUsed}
 
 -- the number by which C knows a fault
 abbrev pub fault_number : CallFault → ℕ
-fault_number BadLength = 3
-fault_number HostBits = 4
-fault_number BadCost = 5
+fault_number BadLength = kind_number FaultKind.BadLength
+fault_number HostBits = kind_number FaultKind.HostBits
+fault_number BadCost = kind_number FaultKind.BadCost
 fault_number BadKind = 6
 fault_number Empty = 7
 fault_number BadCount = 8
 fault_number Shared = 9
 fault_number UnknownPort = 11
-fault_number AlreadyUp = 13
-fault_number IsDown = 14
-fault_number NothingDue = 17
-fault_number NothingRipe = 18
-fault_number NoMemory = 20
+fault_number AlreadyUp = kind_number FaultKind.AlreadyUp
+fault_number IsDown = kind_number FaultKind.IsDown
+fault_number NothingDue = kind_number FaultKind.NothingDue
+fault_number NothingRipe = kind_number FaultKind.NothingRipe
+fault_number NoMemory = kind_number FaultKind.NoMemory
 fault_number TooManyPorts = 26
 fault_number TooManyPrefixes = 27
-fault_number UnknownPrefix = 28
-fault_number NotAttached = 29
+fault_number UnknownPrefix = kind_number FaultKind.UnknownPrefix
+fault_number NotAttached = kind_number FaultKind.NotAttached
 fault_number OtherSession = 36
 fault_number GenerationsSpent = 37
 fault_number Unasked = 38

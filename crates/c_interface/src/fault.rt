@@ -1,9 +1,11 @@
 //! Why a call is refused.
 
 ghost use Rattle.std.specs.Prelude.{◌≡◌, ◌<◌, OnOk, IfErr};
+ghost use Rattle.faults.specs.Numbers.{kind_number};
 ghost use Rattle.c_interface.specs.Faults.{fault_number};
 ghost use Rattle.c_interface.specs.declared.fault.CallFault.TheVariants.{NoMemory as OutOfMemory, BadCost as CostFault};
 
+use faults::FaultKind;
 use network_model::{BadCost, NoMemory};
 use std::alloc::{AllocError, AllocFailed};
 
@@ -63,23 +65,23 @@ impl CallFault {
         ensures { result ≡ fault_number self }
     {
         match self {
-            CallFault::BadLength => 3,
-            CallFault::HostBits => 4,
-            CallFault::BadCost => 5,
+            CallFault::BadLength => number_of(FaultKind::BadLength),
+            CallFault::HostBits => number_of(FaultKind::HostBits),
+            CallFault::BadCost => number_of(FaultKind::BadCost),
             CallFault::BadKind => 6,
             CallFault::Empty => 7,
             CallFault::BadCount => 8,
             CallFault::Shared => 9,
             CallFault::UnknownPort => 11,
-            CallFault::AlreadyUp => 13,
-            CallFault::IsDown => 14,
-            CallFault::NothingDue => 17,
-            CallFault::NothingRipe => 18,
-            CallFault::NoMemory => 20,
+            CallFault::AlreadyUp => number_of(FaultKind::AlreadyUp),
+            CallFault::IsDown => number_of(FaultKind::IsDown),
+            CallFault::NothingDue => number_of(FaultKind::NothingDue),
+            CallFault::NothingRipe => number_of(FaultKind::NothingRipe),
+            CallFault::NoMemory => number_of(FaultKind::NoMemory),
             CallFault::TooManyPorts => 26,
             CallFault::TooManyPrefixes => 27,
-            CallFault::UnknownPrefix => 28,
-            CallFault::NotAttached => 29,
+            CallFault::UnknownPrefix => number_of(FaultKind::UnknownPrefix),
+            CallFault::NotAttached => number_of(FaultKind::NotAttached),
             CallFault::OtherSession => 36,
             CallFault::GenerationsSpent => 37,
             CallFault::Unasked => 38,
@@ -87,6 +89,13 @@ impl CallFault {
             CallFault::StillUsed => 44,
         }
     }
+}
+
+// The number of a fault that others have too.
+fn number_of(kind: FaultKind) -> u32
+    ensures { result ≡ kind_number kind }
+{
+    u32::from(kind.number())
 }
 
 impl From<BadCost> for CallFault {

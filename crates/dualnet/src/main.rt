@@ -35,7 +35,7 @@ mod pages;
 
 use advice::{explain, file_to_explain};
 use command_line::{Words, read_words};
-use play::{Cause, Fault, Host, NoGate, Source, THRESHOLDS, play_by, refuse};
+use play::{Fault, FaultKind, Host, NoGate, Source, THRESHOLDS, play_by, refuse};
 use program_files::{
     Input, exit_code, explain_unreadable, given_words, is_input, is_one_file, kept_path, open_file,
     print_error, replayed_path, scenario_path, times_path,
@@ -132,7 +132,7 @@ fn explain_fault(
     scenario: &[u8],
     second: &[u8],
 ) {
-    if fault.cause == Cause::Unreadable && file_to_explain(words).is_some() {
+    if fault.kind == FaultKind::Unreadable && file_to_explain(words).is_some() {
         explain_files(rt, words);
     }
     let _ = explain(rt.alloc(), words, fault, scenario, second, &mut rt.stderr());
@@ -221,7 +221,7 @@ fn refuse_journal<D: fmt::Display + Drop>(
     path: &str,
     why: D,
 ) -> u8 {
-    let fault = Fault::from(Cause::Unwritable);
+    let fault = Fault::from(FaultKind::Unwritable);
     let status = refuse(fault, &mut rt.stderr());
     if file_to_explain(words).is_some() {
         let _ = writeln!(rt.stderr(), "  {path}: {why}");

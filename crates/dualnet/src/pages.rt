@@ -12,7 +12,7 @@
 //! If a step of the journal is refused, the states before it are written nevertheless, and the status is 2.
 
 use command_line::{ViewWords, read_view_words};
-use play::{Cause, Fault, Host, Source, refuse};
+use play::{Fault, FaultKind, Host, Source, refuse};
 use program_files::{is_input, is_read, open_file, print_error};
 use std::io::{BufWriter, Write};
 use std::{fs, io};
@@ -103,5 +103,5 @@ fn reads_input(words: &ViewWords<'_>) -> bool {
 
 // Says that the output could not be written, and answers the exit status.
 fn unwritable(rt: &HostRuntime) -> u8 {
-    refuse(Fault::from(Cause::Unwritable), &mut rt.stderr())
+    refuse(Fault::from(FaultKind::Unwritable), &mut rt.stderr())
 }

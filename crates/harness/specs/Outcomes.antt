@@ -4,13 +4,12 @@ use Rattle.texts.specs.Words.{Text}
 use Rattle.command_line.specs.declared.words.Words.{Words}
 use Rattle.plans.specs.declared.outcome.Outcome.{Outcome}
 use Rattle.plans.specs.declared.fault.Fault.{Fault}
-use Rattle.plans.specs.Faults.{status_at}
+use Rattle.plans.specs.Faults.{status_at, status_of}
 use Rattle.play.specs.Outcomes.{Ends, StopsWords}
-use Rattle.plans.specs.Faults.{status_of}
 
 -- a command came to an end, and a journal was kept or not; or it stopped for a fault, and nothing was kept; the
 -- status says which
 abbrev pub Gave : Words → Option Text → Option Text → ℕ → Text → Type 0
 Gave words scenario journal status kept =
     ((end : Outcome) × (status ≡ status_at end) × Ends true words scenario journal [] kept end)
-    ⊎ ((fault : Fault) × (status ≡ status_of fault.cause) × StopsWords words scenario journal fault × (kept ≡ []))
+    ⊎ ((fault : Fault) × (status ≡ status_of fault.kind) × StopsWords words scenario journal fault × (kept ≡ []))

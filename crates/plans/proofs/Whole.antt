@@ -1,8 +1,7 @@
 -- A text that a limit does not cut.
-use Rattle.std.proofs.Common.{◌≡◌, ℕ, ◌<◌, List, [], ◌∷◌, ◌++◌, length, take, zero, suc, Option, Some, None, IfSome, option_map, refl, ap, ◌∙◌, arith, length-take}
-use Rattle.plans.specs.declared.fault.Cause.{Cause}
-use Rattle.plans.specs.declared.fault.Cause.TheVariants.{Memory, Unreadable, TooLarge, Document, Lines, Network, Refused, Journal, Times, TimeSpent, Unwritable, Workers, JournalKept, NothingSaved}
-use Rattle.plans.specs.Faults.{Gives, CannotRead, IsUnreadFrom}
+use Rattle.std.proofs.Common.{◌≡◌, ℕ, ◌<◌, List, [], ◌∷◌, ◌++◌, length, take, zero, suc, Option, Some, None, IfSome, inl, option_map, refl, ap, ◌∙◌, arith, length-take}
+use Rattle.faults.specs.declared.kind.FaultKind.{FaultKind}
+use Rattle.plans.specs.Faults.{Gives, IsUnreadFrom}
 
 -- what a limit does not reach is whole
 take_short : (n : ℕ) (xs : List ℕ) → length (take n xs) < n → take n xs ≡ xs
@@ -24,26 +23,10 @@ any_bytes (Some xs) P holds = (xs, refl, holds xs)
 
 -- a reader that gives more than was wanted
 pub read_longer : (rem : Option (List ℕ)) (n most : ℕ) (old bs : List ℕ) → old ≡ [] → IfSome (option_map (take n) rem) (λ xs. bs ≡ old ++ xs) → most < length bs
-    → (bytes : List ℕ) × Gives rem bytes × (most < length bytes)
-read_longer None n most old bs nothing h longer = (bs, tt, longer)
+    → (bytes : List ℕ) × Gives rem bytes × IsUnreadFrom most bytes FaultKind.TooLarge
+read_longer None n most old bs nothing h longer = (bs, tt, inl (refl, longer))
 read_longer (Some xs) n most old bs nothing h longer =
     let is : bs ≡ take n xs = h ∙ ap (λ t. t ++ take n xs) nothing in
     let same : length bs ≡ length (take n xs) = ap length is in
-    (xs, refl, omega (arith, longer, same, length-take n xs))
-
--- a reader that fails gives no bytes that matter
-pub cannot_read : (most : ℕ) (cause : Cause) → CannotRead cause → (bytes : List ℕ) → IsUnreadFrom most bytes cause
-cannot_read most (Memory m) why bytes = tt
-cannot_read most Unreadable why bytes = tt
-cannot_read most TooLarge why bytes = absurd why
-cannot_read most (Document fault) why bytes = absurd why
-cannot_read most (Lines fault) why bytes = absurd why
-cannot_read most (Network fault) why bytes = absurd why
-cannot_read most (Refused refusal) why bytes = absurd why
-cannot_read most (Journal fault) why bytes = absurd why
-cannot_read most (Times fault) why bytes = absurd why
-cannot_read most TimeSpent why bytes = absurd why
-cannot_read most Unwritable why bytes = absurd why
-cannot_read most (Workers fault) why bytes = absurd why
-cannot_read most JournalKept why bytes = absurd why
-cannot_read most NothingSaved why bytes = absurd why
+    let more : most < length xs = omega (arith, longer, same, length-take n xs) in
+    (xs, refl, inl (refl, more))

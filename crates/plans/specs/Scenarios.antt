@@ -2,8 +2,8 @@
 use Rattle.std.specs.Prelude.{◌≡◌, ◌≤◌, Bool, true, false, if◌then◌else◌, Option, Some, None, ◌⊎◌, min, length, option_map, option_and_then}
 use Rattle.std.specs.Option.{option_map_or}
 use Rattle.toml.specs.Parse.{parse_document}
+use Rattle.faults.specs.declared.kind.FaultKind.{FaultKind}
 use Rattle.scenario.specs.Scenario.{lists_in, HasNoLists}
-use Rattle.scenario.specs.declared.fault.Fault.TheVariants.{BadToml as IsNoToml, BadKey as HasBadKey}
 use Rattle.texts.specs.Words.{Text}
 use Rattle.texts.specs.Lists.{Lists}
 use Rattle.script.specs.Routers.{no_router}
@@ -18,7 +18,6 @@ use Rattle.network_model.specs.Network.{network_fault, program_limits}
 use Rattle.world.specs.Parts.{network_of}
 use Rattle.plans.specs.declared.fault.Fault.{Fault}
 use Rattle.plans.specs.declared.plan.Plan.{Plan}
-use Rattle.plans.specs.declared.fault.Cause.TheVariants.{Document as OfDocument}
 use Rattle.plans.specs.Faults.{unplaced, line_fault, opening_fault, most_bytes, IsUnread, IsWantOfMemory}
 
 -- ---- what was read
@@ -49,8 +48,8 @@ first_fault network (Some at) = Some (if is_name_fault at.fault then line_fault 
 -- why no network can be opened of a text: it is no scenario, or the first fault of what was read
 abbrev pub IsScenarioFault : Text → Fault → Type 0
 IsScenarioFault text fault =
-    ((fault ≡ unplaced (OfDocument IsNoToml)) × (parse_document text ≡ None))
-    ⊎ ((fault ≡ unplaced (OfDocument HasBadKey)) × HasNoLists (parse_document text))
+    ((fault ≡ unplaced FaultKind.BadToml) × (parse_document text ≡ None))
+    ⊎ ((fault ≡ unplaced FaultKind.BadKey) × HasNoLists (parse_document text))
     ⊎ ((parts : Parts) × (stop : Option Located) × IsRead text parts stop × (first_fault (network_fault program_limits (network_read parts)) stop ≡ Some fault))
 
 -- ---- plans
@@ -69,6 +68,6 @@ pub record IsScenario (text : Text) (parts : Parts) : Type 0 where
 -- why no network can be opened of a file of these bytes: the file is not read, memory runs out, or its text is at fault
 abbrev pub StopsReading : Text → Fault → Type 0
 StopsReading bytes fault =
-    ((fault.place ≡ None) × IsUnread bytes fault.cause)
+    ((fault.place ≡ None) × IsUnread bytes fault.kind)
     ⊎ IsWantOfMemory fault
     ⊎ ((length bytes ≤ most_bytes) × IsScenarioFault bytes fault)

@@ -12,8 +12,8 @@
 //! ```
 //!
 //! A [`Plan`] is a network that can be opened, the names of its routers, and the commands of its script. A
-//! [`Fault`] is a [`Cause`] with the place in the scenario, if it has one. It is displayed as `25 BadLink at
-//! links 0`.
+//! [`Fault`] is a kind and the place where it stands, if it stands in a text ([`Where`]). It is displayed as `25
+//! BadLink at links 0`.
 //!
 //! ```text
 //! let text = read_text(alloc, file)?;
@@ -24,30 +24,28 @@
 //!
 //! What always holds: a plan is made only of a text that is a scenario without faults (`IsScenario` in
 //! `specs/Scenarios.antt`). If none is made, the fault is the first in this order (`IsScenarioFault`), or
-//! want of memory. The exit status is 1 for a fault in the input. It is 2 if a step or a job was refused, no
-//! state could be saved or restored, the output could not be written, or memory ran out (`status_of` in
-//! `specs/Faults.antt`).
+//! want of memory. The exit status follows from the kind: it is 1 for a fault in the input. It is 2 if a step or a
+//! job was refused, no state could be saved or restored, the output could not be written, or memory ran out
+//! (`status_of` in `specs/Faults.antt`).
 //!
 //! What is tricky: the network's faults come before those of lines, although lines are read first. The
 //! network is made of what was read before the first faulty line. Only a name that is no router's name comes
 //! first.
 //!
-//! A document of times is read by `timing`. What can be wrong with it stands here ([`TimesFault`]), because a
-//! `Cause` can be that.
-//!
-//! `Cause` has a variant for each crate's faults, and each of these says which kind of `faults` it is.
+//! A document of times is read by `timing`. Where it is at fault is a [`Where`] too, because a scenario and a
+//! document can have faults of one kind, and advice has to know which of them to show.
 #![tactic(auto)]
 
 mod fault;
 mod files;
 mod outcome;
+mod place;
 mod plan;
 mod read;
-mod times;
 
-pub use fault::{Cause, Fault, refuse};
+pub use fault::{Fault, refuse};
 pub use files::Source;
 pub use outcome::Outcome;
+pub use place::{TimesKey, Where};
 pub use plan::{Plan, read_plan};
 pub use read::{read_bytes, read_failure, read_text};
-pub use times::{TimesFault, TimesKey};

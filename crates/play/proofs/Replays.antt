@@ -1,6 +1,7 @@
 -- How replays end.
 use Rattle.std.proofs.Common.{◌≡◌, ℕ, ◌≤◌, ◌⊎◌, inl, inr, Option, List, length, take, refl, ap, subst, ◌∙◌}
 use Rattle.no_packet_loops.proofs.Common.{Prefix, LinkSpec, opening, Runs}
+use Rattle.faults.specs.declared.kind.FaultKind.{FaultKind}
 use Rattle.network_model.specs.declared.step.Step.{Step}
 use Rattle.network_model.specs.World.{World}
 use Rattle.texts.specs.Words.{Text}
@@ -9,11 +10,9 @@ use Rattle.journal.specs.declared.fault.JournalFault.TheVariants.{NoMemory as No
 use Rattle.journal.specs.declared.read.Version.{Version}
 use Rattle.journal.specs.declared.read.Version.TheVariants.{Two}
 use Rattle.journal.specs.Journal.{IsJournal, IsJournalFault as IsJournalFault}
-use Rattle.plans.specs.declared.fault.Cause.{Cause}
 use Rattle.plans.specs.declared.fault.Fault.{Fault}
-use Rattle.plans.specs.declared.fault.Cause.TheVariants.{Journal as OfJournal}
 use Rattle.plans.specs.declared.plan.Plan.{Plan}
-use Rattle.plans.specs.Faults.{unplaced, IsWantOfMemory, IsUnreadFrom, Gives, most_bytes, most_journal_bytes}
+use Rattle.plans.specs.Faults.{journal_fault, unplaced, IsWantOfMemory, IsUnreadFrom, Gives, most_bytes, most_journal_bytes}
 use Rattle.plans.specs.Scenarios.{network_read}
 use Rattle.plans.proofs.Planned.{IsPlanned}
 use Rattle.plans.specs.declared.outcome.Outcome.{Outcome}
@@ -55,12 +54,12 @@ pub stops_memory : (text : Text) (known : Option Text) (fault : Fault) → IsWan
 stops_memory text known fault memory = inl (inr (inl memory))
 
 -- a journal that is not read
-pub stops_unread : (text lines : Text) (known : Option Text) (plan : Plan) (cause : Cause) → length text ≤ most_bytes → IsPlanned text plan → Gives known lines → IsUnreadFrom most_journal_bytes lines cause → StopsReplay text known (unplaced cause)
-stops_unread text lines known plan cause short planned gives unread = inr (short, (planned.0, planned.1, lines, gives, inl (refl, unread)))
+pub stops_unread : (text lines : Text) (known : Option Text) (plan : Plan) (kind : FaultKind) → length text ≤ most_bytes → IsPlanned text plan → Gives known lines → IsUnreadFrom most_journal_bytes lines kind → StopsReplay text known (unplaced kind)
+stops_unread text lines known plan kind short planned gives unread = inr (short, (planned.0, planned.1, lines, gives, inl (refl, unread)))
 
 -- what is not a journal of the scenario's network
 pub stops_journal : (text lines given : Text) (known : Option Text) (plan : Plan) (names : List Text) (links : List LinkSpec) (attachments : List (Prefix × ℕ × ℕ)) (e : JournalFault) (fault : Fault) → length text ≤ most_bytes
-    → IsPlanned text plan → Gives known lines → names ≡ plan.directory.names → links ≡ plan.network.links → attachments ≡ plan.network.attachments → given ≡ lines → fault ≡ unplaced (OfJournal e)
+    → IsPlanned text plan → Gives known lines → names ≡ plan.directory.names → links ≡ plan.network.links → attachments ≡ plan.network.attachments → given ≡ lines → fault ≡ journal_fault e
     → (e ≡ NoMemoryForJournal) ⊎ IsJournalFault names links attachments given e → StopsReplay text known fault
 stops_journal text lines given known plan names links attachments e fault short planned gives names_are links_are attachments_are same is (inl memory) =
     inl (inr (inl (rw (is, memory) (record { memory = refl; unplaced = refl }))))

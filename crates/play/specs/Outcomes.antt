@@ -41,4 +41,4 @@ StopsWords (Shell _ _ true _ _) scenario journal fault = OfBytes scenario (λ by
 abbrev pub IsPlayed : Bool → Words → Option Text → Option Text → Text → Text → Option Fault → Option Fault → ℕ → Type 0
 IsPlayed wanted words scenario journal old new told told_after status =
     ((end : Outcome) × (status ≡ status_at end) × Ends wanted words scenario journal old new end × (told_after ≡ told))
-    ⊎ ((fault : Fault) × (status ≡ status_of fault.cause) × StopsWords words scenario journal fault × (new ≡ old) × (told_after ≡ Some fault))
+    ⊎ ((fault : Fault) × (status ≡ status_of fault.kind) × StopsWords words scenario journal fault × (new ≡ old) × (told_after ≡ Some fault))

@@ -15,10 +15,9 @@ use Rattle.journal.specs.declared.read.Version.{Version}
 use Rattle.journal.specs.declared.read.Version.TheVariants.{Two}
 use Rattle.journal.specs.Journal.{IsJournal, IsJournalFault as IsJournalFault}
 use Rattle.plans.specs.declared.fault.Fault.{Fault}
-use Rattle.plans.specs.declared.fault.Cause.TheVariants.{Journal as OfJournal}
 use Rattle.plans.specs.declared.outcome.Outcome.{Outcome}
 use Rattle.plans.specs.declared.outcome.Outcome.TheVariants.{Done, Refused, Differs}
-use Rattle.plans.specs.Faults.{unplaced, most_bytes, most_journal_bytes, Gives, IsUnreadFrom}
+use Rattle.plans.specs.Faults.{journal_fault, most_bytes, most_journal_bytes, Gives, IsUnreadFrom}
 use Rattle.plans.specs.Scenarios.{IsScenario, StopsReading, network_read}
 
 -- why a step of a journal is refused, of which so many were done: a journal has no place for more, or as the world refuses it
@@ -76,8 +75,8 @@ Replays bytes lines Differs = RunsInPlaces bytes lines Two
 -- why a journal of the network of a scenario, which is read first, is not read: its reader fails, memory runs out, it is too long, or it is no such journal
 abbrev pub StopsJournal : Text → Option Text → Fault → Type 0
 StopsJournal bytes journal fault = (parts : Parts) × IsScenario bytes parts × (lines : Text) × Gives journal lines × (
-    ((fault.place ≡ None) × IsUnreadFrom most_journal_bytes lines fault.cause)
-    ⊎ ((e : JournalFault) × IsJournalFault parts.names parts.links parts.attachments lines e × (fault ≡ unplaced (OfJournal e))))
+    ((fault.place ≡ None) × IsUnreadFrom most_journal_bytes lines fault.kind)
+    ⊎ ((e : JournalFault) × IsJournalFault parts.names parts.links parts.attachments lines e × (fault ≡ journal_fault e)))
 
 -- why a replay is not begun: for its scenario, or else for its journal
 abbrev pub StopsReplay : Text → Option Text → Fault → Type 0

@@ -8,9 +8,10 @@ use Rattle.script.specs.Directories.{Directory, directory_of}
 use Rattle.script.specs.declared.command.Command.{Command}
 use Rattle.plans.specs.declared.fault.Fault.{Fault}
 use Rattle.plans.specs.declared.plan.Plan.{Plan}
-use Rattle.plans.specs.Faults.{most_bytes, CannotRead, IsUnanswered, IsWantOfMemory, IsWithoutReaders}
+use Rattle.plans.specs.Faults.{most_bytes, CannotRead, IsWantOfMemory, IsWithoutReaders}
 use Rattle.plans.specs.Scenarios.{IsScenario, StopsReading, network_read}
 use Rattle.sessions.specs.Commands.{AreDone, AreTried, StopsAtCommand}
+use Rattle.sessions.specs.Dispatching.{IsUnanswered}
 use Rattle.sessions.specs.Nets.{Meaning, kept_meaning}
 
 -- ---- what is done on a network that was opened
@@ -26,7 +27,7 @@ WereTried k m n = (tried : List Command) × AreTried k tried m n
 -- the lines of commands cannot be read on
 pub record CannotReadOn (fault : Fault) : Type 0 where
   pub unplaced : fault.place ≡ None
-  pub cannot : CannotRead fault.cause
+  pub cannot : CannotRead fault.kind
 
 -- where commands are typed, some were tried; else those of the script were done
 abbrev pub Comes : {S : Type 0} → Meaning S → Bool → List Command → S → S → Type 0
@@ -38,9 +39,13 @@ abbrev pub Stops : {S : Type 0} → Meaning S → Bool → List Command → S �
 Stops k true commands m n fault = CannotReadOn fault
 Stops k false commands m n fault = StopsAtCommand k commands m n fault
 
+-- workers did not answer the last jobs
+abbrev pub IsWithoutAnswers : Fault → Type 0
+IsWithoutAnswers fault = (fault.place ≡ None) × IsUnanswered fault.kind
+
 -- why nothing is done on a fabric, or the answers of its workers are lost: an image has no place for a reader, or workers do not answer the last jobs
 abbrev pub IsOfWorkers : Fault → Type 0
-IsOfWorkers fault = IsWithoutReaders fault ⊎ IsUnanswered fault
+IsOfWorkers fault = IsWithoutReaders fault ⊎ IsWithoutAnswers fault
 
 -- nothing of the kind comes of a simulation
 abbrev pub IsOfNothing : Fault → Type 0

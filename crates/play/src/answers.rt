@@ -43,7 +43,7 @@ impl TypedLine<'_> {
             links: self.links,
             number: self.number,
             line: self.line,
-            kind: fault.kind(),
+            kind: fault.kind,
         };
         explain_typed(self.alloc, &typed, out)
     }
@@ -81,8 +81,8 @@ pub(crate) fn end_answer<W: Write>(
 ) -> io::Result<()> {
     match fault {
         Some(fault) => {
-            let cause = fault.cause;
-            write!(out, "],\"fault\":\"{cause}\"")?;
+            let kind = fault.kind;
+            write!(out, "],\"fault\":\"{kind}\"")?;
             if typed.explain {
                 let mut bytes = Vec::new(typed.alloc);
                 // Where there is no memory for all of it, what there is memory for is told.

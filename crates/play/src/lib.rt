@@ -60,7 +60,8 @@ mod program;
 mod replay;
 mod shell;
 
+pub use faults::FaultKind;
 pub use keeping::Keeper;
-pub use plans::{Cause, Fault, Outcome, Plan, Source, read_bytes, read_plan, read_text, refuse};
+pub use plans::{Fault, Outcome, Plan, Source, read_bytes, read_plan, read_text, refuse};
 pub use program::{play, play_by, run_quietly};
 pub use sessions::{Host, NO_THRESHOLDS, NoGate, THRESHOLDS, Thresholds, TurnGate};

@@ -3,15 +3,15 @@
 ghost use Rattle.std.specs.Prelude.{◌≡◌, ◌⊎◌, Ok, Err, IfErr, OnOk, is_some, vec_len};
 ghost use Rattle.fabric.specs.Fabric.{opening_fabric};
 ghost use Rattle.fabric.specs.Writers.{opening_tables};
-ghost use Rattle.plans.specs.Faults.{IsUnanswered, IsWantOfMemory};
+ghost use Rattle.plans.specs.Faults.{IsWantOfMemory};
 ghost use Rattle.sessions.specs.Nets.{counted_meaning, kept_meaning, opening_counted};
-ghost use Rattle.play.specs.Works.{Comes, IsOfNothing, IsOfWorkers, Stops, StopsWork, Works, none_kept};
+ghost use Rattle.play.specs.Works.{Comes, IsOfNothing, IsOfWorkers, IsWithoutAnswers, Stops, StopsWork, Works, none_kept};
 
 use crate::keeping::Keeper;
 use crate::shell::do_lines;
 use fabric::{Fabric, FabricName, Unnamed};
 use lines::{Ended, Line};
-use plans::{Cause, Fault, Plan};
+use plans::{Fault, Plan};
 use script::{Command, Directory};
 use sessions::{
     Counted, Crew, Host, Kept, Live, PrintStyle, Session, TurnGate, do_commands, end_line,
@@ -141,12 +141,12 @@ where
     E: Write,
     ensures ok { OnOk result.1 (Comes kept_meaning (is_some typed) commands.now net result.0) }
     ensures fault { IfErr result.1 (λ e. Stops kept_meaning (is_some typed) commands.now net result.0 e
-        ⊎ IsUnanswered e) }
+        ⊎ IsWithoutAnswers e) }
 {
     let done = do_all(session, &mut net, typed, commands, out, err);
     let (fabric, answered) = net.close();
     match (done, answered) {
-        (Ok(()), Err(fault)) => (fabric, Err(Fault::from(Cause::Workers(fault)))),
+        (Ok(()), Err(kind)) => (fabric, Err(Fault::from(kind))),
         (done, _) => (fabric, done),
     }
 }

@@ -15,7 +15,7 @@ use faults::{Brief, FaultKind};
 use journal::{Journal, StepText, Version, first_difference, read_journal};
 use lines::{Ended, Line, Printer, print_report};
 use network_model::{LinkSpec, NoMemory, Refusal, Step};
-use plans::{Cause, Fault, Outcome, read_bytes, read_plan, read_text};
+use plans::{Fault, Outcome, read_bytes, read_plan, read_text};
 use script::Directory;
 use sessions::{Counted, Live, NoGate, PrintStyle, Session, end_line, show_steps_done};
 use std::alloc::Global;

@@ -5,7 +5,8 @@ ghost use Rattle.play.specs.Works.{CannotReadOn, WereTried};
 
 use crate::answers::{Listed, TypedLine, begin_answer, end_answer, print_fault, print_text};
 use command_line::{Format, SHELL_COMMANDS};
-use plans::{Cause, Fault, read_failure};
+use faults::FaultKind;
+use plans::{Fault, read_failure};
 use script::read_command;
 use sessions::{Live, Session, TurnGate, do_command};
 use std::io::{BufRead, BufReader, ErrorKind, Read, Write};
@@ -70,7 +71,7 @@ where
     let done = answer_line(session, net, number, line, out);
     let (goes_on, fault) = match done {
         Ok(goes_on) => (goes_on, None),
-        Err(cause) => (true, Some(Fault::from(cause))),
+        Err(kind) => (true, Some(Fault::from(kind))),
     };
     let typed = TypedLine {
         alloc: session.alloc,
@@ -101,7 +102,7 @@ fn answer_line<N, G, W>(
     number: usize,
     line: &[u8],
     out: &mut W,
-) -> Result<bool, Cause>
+) -> Result<bool, FaultKind>
 where
     N: Live,
     G: TurnGate + Sync,
@@ -123,7 +124,7 @@ fn answer<N, G, W>(
     net: &mut N,
     line: &[u8],
     out: &mut W,
-) -> Result<bool, Cause>
+) -> Result<bool, FaultKind>
 where
     N: Live,
     G: TurnGate + Sync,
@@ -131,7 +132,7 @@ where
     ensures { WereTried N.meaning net.old net.new }
 {
     let Ok(line) = str::from_utf8(line) else {
-        return Err(Cause::Lines(script::LineFault::BadCommand));
+        return Err(FaultKind::BadCommand);
     };
     match line {
         "" => Ok(true),
@@ -156,7 +157,7 @@ fn do_typed<N, G, W>(
     net: &mut N,
     line: &str,
     out: &mut W,
-) -> Result<bool, Cause>
+) -> Result<bool, FaultKind>
 where
     N: Live,
     G: TurnGate + Sync,
@@ -174,9 +175,9 @@ where
             let done = do_command(session, net, command, out, &mut ());
             match done {
                 Ok(()) => Ok(true),
-                Err(cause) => Err(cause),
+                Err(kind) => Err(kind),
             }
         }
-        Err(fault) => Err(Cause::Lines(fault)),
+        Err(fault) => Err(FaultKind::from(fault)),
     }
 }

@@ -6,7 +6,7 @@ use ipv4_prefix::PrefixFault;
 use link_fifo::LinkRefusal;
 use metric::{BadCost, Cost, Distance};
 use network_model::{NoMemory, Refusal};
-use play::{Cause, Fault, refuse};
+use play::{Fault, FaultKind, refuse};
 use publication::{NoImage, OpenFault};
 use std::alloc::Global;
 use std::fmt::Display;
@@ -90,7 +90,7 @@ fn how_faults_of_journals_are_written(rt: HostRuntime) {
     let alloc = rt.alloc();
     is_told(&rt, alloc, Fault::from(Refusal::JournalFull), FULL);
     let unwritable = "dualnet: 49 Unwritable\n";
-    is_told(&rt, alloc, Fault::from(Cause::Unwritable), unwritable);
+    is_told(&rt, alloc, Fault::from(FaultKind::Unwritable), unwritable);
 }
 
 #[test]

@@ -1,6 +1,7 @@
 -- What the commands of a script or a shell do.
 use Rattle.std.specs.Prelude.{◌≡◌, ℕ, zero, suc, ◌<◌, ◌⊎◌, Bool, true, false, not, nat_eq, ◌||◌, ◌&&◌, List, [], ◌∷◌, length, Some, take, slice_get}
 use Rattle.std.specs.Option.{option_map_or}
+use Rattle.faults.specs.declared.kind.FaultKind.{FaultKind}
 use Rattle.network_model.specs.declared.step.Step.{Step as NetworkStep}
 use Rattle.network_model.specs.declared.step.Step.TheVariants.{LinkUp, LinkDown}
 use Rattle.network_model.specs.declared.step.Refusal.{Refusal}
@@ -9,7 +10,6 @@ use Rattle.world.specs.Steps.{CanBeRefused}
 use Rattle.script.specs.declared.command.Command.{Command}
 use Rattle.script.specs.declared.command.Command.TheVariants.{Step, Try, Settle, SettleDrawn, State, Table, Next, Queue, Held, Lookup, Inject, Trace, TraceThrough, Drain, Report, RouterUp, RouterDown, Count, Save, Restore}
 use Rattle.script.specs.declared.place.Key.TheVariants.{Script}
-use Rattle.plans.specs.declared.fault.Cause.{Cause}
 use Rattle.plans.specs.declared.fault.Fault.{Fault}
 use Rattle.plans.specs.Faults.{at_line, OfRefusal}
 use Rattle.lines.specs.Report.{unknown_router}
@@ -88,27 +88,27 @@ IsDone k Drain f g = g ≡ f
 IsDone k Report f g = g ≡ f
 
 -- a command that is refused: a step for its cause, in a network that settles the step that comes next, of the links of a router the first that cannot be put so, and a command on a router where there is no such router; all else as the network refuses it
-abbrev pub IsRefused : {S : Type 0} → Meaning S → Command → S → S → Cause → Type 0
-IsRefused k (Step s) f g cause = OfRefusal (CanBeRefused (k.refusal f s)) cause × (g ≡ f)
-IsRefused k (Try s) f g cause = ⊥
-IsRefused k Settle f g cause = OfRefusal (k.unsettled f g) cause
-IsRefused k (SettleDrawn seed) f g cause = OfRefusal (k.unsettled f g) cause
-IsRefused k (RouterUp router) f g cause = OfRefusal (CannotPut k true router f g) cause
-IsRefused k (RouterDown router) f g cause = OfRefusal (CannotPut k false router f g) cause
-IsRefused k Save f g cause = k.not_saved f cause × (g ≡ f)
-IsRefused k Restore f g cause = k.not_restored f cause × (g ≡ f)
-IsRefused k (State router prefix) f g cause = OfRefusal (CanBeRefused (unknown_router (k.world f) router)) cause × (g ≡ f)
-IsRefused k (Table router) f g cause = OfRefusal (CanBeRefused (unknown_router (k.world f) router)) cause × (g ≡ f)
-IsRefused k (Next router) f g cause = OfRefusal (CanBeRefused (unknown_router (k.world f) router)) cause × (g ≡ f)
-IsRefused k (Queue router port) f g cause = OfRefusal (CanBeRefused (unknown_router (k.world f) router)) cause × (g ≡ f)
-IsRefused k (Held router) f g cause = OfRefusal (CanBeRefused (unknown_router (k.world f) router)) cause × (g ≡ f)
-IsRefused k (Lookup router addr) f g cause = OfRefusal (k.not_looked_up f router addr) cause × (g ≡ f)
-IsRefused k (Inject router addr) f g cause = k.not_given f router cause × (g ≡ f)
-IsRefused k (Trace router addr) f g cause = OfRefusal (k.not_traced f router) cause × (g ≡ f)
-IsRefused k (TraceThrough router addr) f g cause = OfRefusal (k.not_traced f router) cause × (g ≡ f)
-IsRefused k Count f g cause = ⊥
-IsRefused k Drain f g cause = k.not_answered f cause × (g ≡ f)
-IsRefused k Report f g cause = ⊥
+abbrev pub IsRefused : {S : Type 0} → Meaning S → Command → S → S → FaultKind → Type 0
+IsRefused k (Step s) f g kind = OfRefusal (CanBeRefused (k.refusal f s)) kind × (g ≡ f)
+IsRefused k (Try s) f g kind = ⊥
+IsRefused k Settle f g kind = OfRefusal (k.unsettled f g) kind
+IsRefused k (SettleDrawn seed) f g kind = OfRefusal (k.unsettled f g) kind
+IsRefused k (RouterUp router) f g kind = OfRefusal (CannotPut k true router f g) kind
+IsRefused k (RouterDown router) f g kind = OfRefusal (CannotPut k false router f g) kind
+IsRefused k Save f g kind = k.not_saved f kind × (g ≡ f)
+IsRefused k Restore f g kind = k.not_restored f kind × (g ≡ f)
+IsRefused k (State router prefix) f g kind = OfRefusal (CanBeRefused (unknown_router (k.world f) router)) kind × (g ≡ f)
+IsRefused k (Table router) f g kind = OfRefusal (CanBeRefused (unknown_router (k.world f) router)) kind × (g ≡ f)
+IsRefused k (Next router) f g kind = OfRefusal (CanBeRefused (unknown_router (k.world f) router)) kind × (g ≡ f)
+IsRefused k (Queue router port) f g kind = OfRefusal (CanBeRefused (unknown_router (k.world f) router)) kind × (g ≡ f)
+IsRefused k (Held router) f g kind = OfRefusal (CanBeRefused (unknown_router (k.world f) router)) kind × (g ≡ f)
+IsRefused k (Lookup router addr) f g kind = OfRefusal (k.not_looked_up f router addr) kind × (g ≡ f)
+IsRefused k (Inject router addr) f g kind = k.not_given f router kind × (g ≡ f)
+IsRefused k (Trace router addr) f g kind = OfRefusal (k.not_traced f router) kind × (g ≡ f)
+IsRefused k (TraceThrough router addr) f g kind = OfRefusal (k.not_traced f router) kind × (g ≡ f)
+IsRefused k Count f g kind = ⊥
+IsRefused k Drain f g kind = k.not_answered f kind × (g ≡ f)
+IsRefused k Report f g kind = ⊥
 
 -- the commands, done one after another, lead from one network to the other
 abbrev pub AreDone : {S : Type 0} → Meaning S → List Command → S → S → Type 0
@@ -120,15 +120,15 @@ pub record StopsAtCommand {S : Type 0} (k : Meaning S) (commands : List Command)
   pub position : ℕ
   pub command : Command
   pub before : S
-  pub cause : Cause
+  pub kind : FaultKind
   pub is_command : slice_get commands position ≡ Some command
   pub done : AreDone k (take position commands) f before
-  pub refused : IsRefused k command before g cause
-  pub named : fault ≡ at_line cause Script position
+  pub refused : IsRefused k command before g kind
+  pub named : fault ≡ at_line kind Script position
 
 -- a command was done, or it was refused for its cause
 abbrev pub IsTried : {S : Type 0} → Meaning S → Command → S → S → Type 0
-IsTried k c f g = IsDone k c f g ⊎ ((cause : Cause) × IsRefused k c f g cause)
+IsTried k c f g = IsDone k c f g ⊎ ((kind : FaultKind) × IsRefused k c f g kind)
 
 -- the commands, tried one after another, lead from one network to the other
 abbrev pub AreTried : {S : Type 0} → Meaning S → List Command → S → S → Type 0

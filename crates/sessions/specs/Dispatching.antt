@@ -1,5 +1,5 @@
 -- Jobs that workers are given, and what they answer.
-use Rattle.std.specs.Prelude.{◌≡◌, ℕ, ◌+◌, ◌⊎◌, List, [], Option, Some, min, slice_get}
+use Rattle.std.specs.Prelude.{◌≡◌, ℕ, ◌+◌, ◌⊎◌, ⊤, List, [], Option, Some, min, slice_get}
 use Rattle.std.specs.Option.{option_map_or}
 use Rattle.faults.specs.declared.kind.FaultKind.{FaultKind}
 use Rattle.ipv4_prefix.specs.Prefix.{Prefix}
@@ -19,8 +19,7 @@ use Rattle.lines.specs.Formats.{line_in}
 use Rattle.worker_pool.specs.Crews.{Crew}
 use Rattle.worker_pool.specs.declared.fault.PoolFault.{PoolFault}
 use Rattle.worker_pool.specs.Faults.{IsBeginFault, IsInjectFault, pool_kind}
-use Rattle.plans.specs.declared.fault.Cause.{Cause}
-use Rattle.plans.specs.Faults.{OfRefusal, OfWorkers}
+use Rattle.plans.specs.Faults.{OfRefusal}
 use Rattle.texts.specs.Lines.{lines_text}
 
 -- the jobs that wait until the workers have answered them, in order, the number of the last job that was given, and how many workers there are
@@ -53,12 +52,16 @@ abbrev pub IsOfPool : (PoolFault → Type 0) → FaultKind → Type 0
 IsOfPool P kind = (e : PoolFault) × (kind ≡ pool_kind e) × P e
 
 -- workers did not begin, for want of a thread or of memory, or they did not take a job
-abbrev pub CannotWork : Cause → Type 0
-CannotWork cause = OfWorkers (IsOfPool (λ e. IsBeginFault e ⊎ IsInjectFault e)) cause
+abbrev pub CannotWork : FaultKind → Type 0
+CannotWork kind = IsOfPool (λ e. IsBeginFault e ⊎ IsInjectFault e) kind
+
+-- workers did not answer the last jobs
+abbrev pub IsUnanswered : FaultKind → Type 0
+IsUnanswered kind = IsOfPool (λ e. ⊤) kind
 
 -- why a job is not given: for this cause or for want of memory, or there is no thread or no memory for the workers, or they do not take it
-abbrev pub CannotInject : Option Refusal → Cause → Type 0
-CannotInject refusal cause = OfRefusal (CanBeRefused refusal) cause ⊎ CannotWork cause
+abbrev pub CannotInject : Option Refusal → FaultKind → Type 0
+CannotInject refusal kind = OfRefusal (CanBeRefused refusal) kind ⊎ CannotWork kind
 
 -- what a worker answered
 abbrev pub reply_text : {X : Type 0} → Format → Directory → Replied X → Text

@@ -1,5 +1,6 @@
 -- What commands mean on a network that runs: one whose steps are kept, or one that counts them alone.
-use Rattle.std.specs.Prelude.{◌≡◌, ℕ, ◌⊎◌, ⊤, Option, Some, None, MatchOption, refl, slice_get}
+use Rattle.std.specs.Prelude.{◌≡◌, ℕ, ◌⊎◌, Option, Some, None, MatchOption, refl, slice_get}
+use Rattle.faults.specs.declared.kind.FaultKind.{FaultKind}
 use Rattle.ipv4_prefix.specs.LongestMatch.{longest_match}
 use Rattle.ipv4_prefix.specs.Prefix.{Prefix}
 use Rattle.network_model.specs.declared.route.Entry.{Entry}
@@ -13,11 +14,9 @@ use Rattle.fabric.specs.Fabric.{Fabric, after_step, fabric_refusal}
 use Rattle.fabric.specs.Images.{answer_at}
 use Rattle.simulation.specs.Simulation.{Simulation, opening_simulation, simulation_refusal}
 use Rattle.simulation.specs.Simulation.{after_step as after_step_there}
-use Rattle.plans.specs.declared.fault.Cause.{Cause}
-use Rattle.plans.specs.declared.fault.Cause.TheVariants.{JournalKept, NothingSaved}
-use Rattle.plans.specs.Faults.{OfRefusal, OfWorkers}
+use Rattle.plans.specs.Faults.{OfRefusal}
 use Rattle.lines.specs.Report.{unknown_router}
-use Rattle.sessions.specs.Dispatching.{CannotInject}
+use Rattle.sessions.specs.Dispatching.{CannotInject, IsUnanswered}
 use Rattle.sessions.specs.Settling.{Settles, SettlesThere, StopsSettling, StopsThere}
 
 -- ---- a network that counts its steps
@@ -56,13 +55,13 @@ pub record Meaning (S : Type 0) : Type 1 where
   pub not_looked_up : S → ℕ → ℕ → Refusal → Type 0
   pub not_traced : S → ℕ → Refusal → Type 0
   -- why a job is not given at a router, and jobs are not answered
-  pub not_given : S → ℕ → Cause → Type 0
-  pub not_answered : S → Cause → Type 0
+  pub not_given : S → ℕ → FaultKind → Type 0
+  pub not_answered : S → FaultKind → Type 0
   -- the network was saved, and again what it was when it was; or why not
   pub saved : S → S → Type 0
-  pub not_saved : S → Cause → Type 0
+  pub not_saved : S → FaultKind → Type 0
   pub restored : S → S → Type 0
-  pub not_restored : S → Cause → Type 0
+  pub not_restored : S → FaultKind → Type 0
 
 -- where steps are kept. An address is not looked up if there is no such router, or its reader shows a later image, or none. No job is given for want of a worker, and only workers can leave jobs unanswered. Nothing is saved, because a journal is kept
 abbrev pub kept_meaning : Meaning Fabric
@@ -76,12 +75,12 @@ kept_meaning = record {
   unsettled = StopsSettling;
   not_looked_up = λ f router addr e. MatchOption (answer_at f.world router addr) (e ≡ UnknownRouter) (λ _. (e ≡ Stale) ⊎ (e ≡ NoImage));
   not_traced = λ f router e. MatchOption (unknown_router f.world router) ((e ≡ NoMemory) ⊎ (e ≡ Stale) ⊎ (e ≡ NoImage)) (λ cause. e ≡ cause);
-  not_given = λ f router cause. CannotInject (unknown_router f.world router) cause;
-  not_answered = λ f cause. OfWorkers (λ e. ⊤) cause;
+  not_given = λ f router kind. CannotInject (unknown_router f.world router) kind;
+  not_answered = λ f kind. IsUnanswered kind;
   saved = λ f g. ⊥;
-  not_saved = λ f cause. cause ≡ JournalKept;
+  not_saved = λ f kind. kind ≡ FaultKind.JournalKept;
   restored = λ f g. ⊥;
-  not_restored = λ f cause. cause ≡ JournalKept;
+  not_restored = λ f kind. kind ≡ FaultKind.JournalKept;
 }
 
 -- where they are counted. Jobs are answered at once, so each is. What is saved is the simulation as it is, in place of what was saved before, and what was restored stays saved
@@ -96,12 +95,12 @@ counted_meaning = record {
   unsettled = λ c d e. StopsThere c.simulation d.simulation e × (d.saved ≡ c.saved);
   not_looked_up = λ c router addr e. unknown_router c.simulation.world router ≡ Some e;
   not_traced = λ c router e. CanBeRefused (unknown_router c.simulation.world router) e;
-  not_given = λ c router cause. OfRefusal (CanBeRefused (unknown_router c.simulation.world router)) cause;
-  not_answered = λ c cause. ⊥;
+  not_given = λ c router kind. OfRefusal (CanBeRefused (unknown_router c.simulation.world router)) kind;
+  not_answered = λ c kind. ⊥;
   saved = λ c d. d ≡ counted_of c.simulation (Some c.simulation);
-  not_saved = λ c cause. OfRefusal (λ e. e ≡ NoMemory) cause;
+  not_saved = λ c kind. kind ≡ FaultKind.NoMemory;
   restored = λ c d. (s : Simulation) × (c.saved ≡ Some s) × (d ≡ counted_of s (Some s));
-  not_restored = λ c cause. ((c.saved ≡ None) × (cause ≡ NothingSaved)) ⊎ OfRefusal (λ e. e ≡ NoMemory) cause;
+  not_restored = λ c kind. ((c.saved ≡ None) × (kind ≡ FaultKind.NothingSaved)) ⊎ (kind ≡ FaultKind.NoMemory);
 }
 
 -- ---- steps

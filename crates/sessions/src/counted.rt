@@ -12,9 +12,9 @@ ghost use Rattle.sessions.specs.Traces.{IsTrace, crossing_on, matched_at, matche
 use crate::live::Live;
 use crate::totals::{counts_of, counts_since, no_counts};
 use control::{Progress, TurnGate};
+use faults::FaultKind;
 use lines::{Answer, Asked, Counts, Line, Printer};
 use network_model::{Ending, Entry, NoMemory, Prefix, Refusal, Step, Trace};
-use plans::Cause;
 use simulation::{Order, Simulation};
 use std::alloc::Global;
 use std::io::Write;
@@ -230,14 +230,14 @@ impl Live for Counted {
     }
 
     // The job is answered at once.
-    fn inject(&mut self, router: u16, addr: u32) -> Result<(), Cause> {
+    fn inject(&mut self, router: u16, addr: u32) -> Result<(), FaultKind> {
         match self.answer(router, addr) {
             Ok(()) => Ok(()),
-            Err(refusal) => Err(Cause::Refused(refusal)),
+            Err(refusal) => Err(FaultKind::from(refusal)),
         }
     }
 
-    fn drain<W: Write>(&mut self, printer: &Printer<'_>, out: &mut W) -> Result<(), Cause> {
+    fn drain<W: Write>(&mut self, printer: &Printer<'_>, out: &mut W) -> Result<(), FaultKind> {
         for job in &self.answers {
             let answer = Answer {
                 router: job.router,
@@ -258,23 +258,23 @@ impl Live for Counted {
         since
     }
 
-    fn save(&mut self) -> Result<(), Cause> {
+    fn save(&mut self) -> Result<(), FaultKind> {
         match self.simulation.copy(self.alloc) {
             Ok(copy) => {
                 self.saved = Some(copy);
                 Ok(())
             }
-            Err(_) => Err(Cause::Refused(Refusal::NoMemory)),
+            Err(_) => Err(FaultKind::NoMemory),
         }
     }
 
     // Refused with `NothingSaved` and `NoMemory`.
-    fn restore(&mut self) -> Result<(), Cause> {
+    fn restore(&mut self) -> Result<(), FaultKind> {
         let Some(saved) = &self.saved else {
-            return Err(Cause::NothingSaved);
+            return Err(FaultKind::NothingSaved);
         };
         let Ok(copy) = saved.copy(self.alloc) else {
-            return Err(Cause::Refused(Refusal::NoMemory));
+            return Err(FaultKind::NoMemory);
         };
         // What was done and not yet counted is counted later, too.
         let since = counts_since(

@@ -17,7 +17,6 @@ use fabric::{Fabric, FabricName};
 use faults::FaultKind;
 use lines::{Answer, Asked, Line, Printer};
 use network_model::NoMemory;
-use plans::Cause;
 use publication::ImageReader;
 use std::alloc::Global;
 use std::io::Write;
@@ -70,7 +69,7 @@ impl<B: FabricName + Send + Sync + 'static> Dispatcher<B> {
     /// Gives the workers the next job: to look the address up at the router, in an image no older than
     /// the one in force now. Jobs are numbered from 1. Refused, it gives no job, takes no number, and
     /// keeps its workers: the next job may begin them.
-    #[tactic(auto, using(crate::proofs::Dispatching::not_taken))]
+    #[tactic(auto, using(crate::proofs::Dispatching::no_job, crate::proofs::Dispatching::not_taken))]
     pub fn inject<H: Host>(
         &mut self,
         rt: H,
@@ -78,7 +77,7 @@ impl<B: FabricName + Send + Sync + 'static> Dispatcher<B> {
         fabric: &Fabric<B>,
         router: u16,
         addr: u32,
-    ) -> Result<(), Cause>
+    ) -> Result<(), FaultKind>
         ensures ok { OnOk result ((job : _)
             × IsNextJob B.openings (fabric.now).images self.old.last router addr job
             × (self.new.jobs ≡ self.old.jobs ++ job ∷ []) × (self.new.last ≡ job.number)) }
@@ -100,7 +99,7 @@ impl<B: FabricName + Send + Sync + 'static> Dispatcher<B> {
                 self.last = number;
                 Ok(())
             }
-            Err(fault) => Err(Cause::Workers(FaultKind::from(fault))),
+            Err(fault) => Err(FaultKind::from(fault)),
         }
     }
 
@@ -157,7 +156,7 @@ fn begun<B: FabricName + Send + Sync + 'static, H: Host>(
     alloc: Global,
     pool: Option<WorkerPool<B>>,
     at_rest: &mut Vec<ForwardPort<B>>,
-) -> Result<WorkerPool<B>, Cause>
+) -> Result<WorkerPool<B>, FaultKind>
     requires few { workers_in (vec_len at_rest.old) pool ≤ most_workers }
     requires apart { IfSome pool (λ _. vec_len at_rest.old ≡ 0) }
     ensures jobs { IfOk result (λ p. p.jobs ≡ jobs_in pool) }
@@ -174,7 +173,7 @@ fn begun<B: FabricName + Send + Sync + 'static, H: Host>(
         Ok(pool) => Ok(pool),
         Err(refused) => {
             *at_rest = refused.ports;
-            Err(Cause::Workers(FaultKind::from(refused.fault)))
+            Err(FaultKind::from(refused.fault))
         }
     }
 }

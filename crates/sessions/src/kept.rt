@@ -1,8 +1,9 @@
 //! A network whose steps are kept: a fabric, with the workers that look up in its images.
 
-ghost use Rattle.std.specs.Prelude.{◌≡◌, ◌≤◌, All, MatchResult, length, vec_len};
+ghost use Rattle.std.specs.Prelude.{◌≡◌, ◌≤◌, All, IfErr, MatchResult, length, vec_len};
 ghost use Rattle.network_model.specs.Network.{most_workers};
 ghost use Rattle.fabric.specs.Writers.{IsReaderPort};
+ghost use Rattle.sessions.specs.Dispatching.{IsUnanswered};
 
 use crate::dispatcher::{Dispatcher, ports_of, print_replies};
 use crate::host::Host;
@@ -13,7 +14,6 @@ use fabric::{Fabric, FabricName};
 use faults::FaultKind;
 use lines::{Counts, Printer};
 use network_model::{Entry, NoMemory, Prefix, Refusal, Step, Trace};
-use plans::Cause;
 use publication::ImageReader;
 use std::alloc::Global;
 use std::io::Write;
@@ -74,7 +74,8 @@ where
     /// Waits for the workers, and lets them go. It hands the fabric back, and the kind of the fault for which workers
     /// did not answer the last jobs, if they did not.
     pub fn close(self) -> (Fabric<B>, Result<(), FaultKind>)
-        ensures { result.0 ≡ self }
+        ensures fabric { result.0 ≡ self }
+        ensures unanswered { IfErr result.1 IsUnanswered }
     {
         let Kept {
             rt,
@@ -161,18 +162,18 @@ where
         }
     }
 
-    fn inject(&mut self, router: u16, addr: u32) -> Result<(), Cause> {
+    fn inject(&mut self, router: u16, addr: u32) -> Result<(), FaultKind> {
         self.dispatcher
             .inject(self.rt, self.alloc, &self.fabric, router, addr)
     }
 
-    fn drain<W: Write>(&mut self, printer: &Printer<'_>, out: &mut W) -> Result<(), Cause> {
+    fn drain<W: Write>(&mut self, printer: &Printer<'_>, out: &mut W) -> Result<(), FaultKind> {
         match self.dispatcher.drain(&self.rt, self.alloc) {
             Ok(replies) => {
                 let _ = print_replies(printer, &replies, out);
                 Ok(())
             }
-            Err(fault) => Err(Cause::Workers(FaultKind::from(fault))),
+            Err(fault) => Err(FaultKind::from(fault)),
         }
     }
 
@@ -183,11 +184,11 @@ where
         since
     }
 
-    fn save(&mut self) -> Result<(), Cause> {
-        Err(Cause::JournalKept)
+    fn save(&mut self) -> Result<(), FaultKind> {
+        Err(FaultKind::JournalKept)
     }
 
-    fn restore(&mut self) -> Result<(), Cause> {
-        Err(Cause::JournalKept)
+    fn restore(&mut self) -> Result<(), FaultKind> {
+        Err(FaultKind::JournalKept)
     }
 }

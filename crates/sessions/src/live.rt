@@ -1,9 +1,9 @@
 //! A network that runs, as a session needs it.
 
 use control::{Progress, TurnGate};
+use faults::FaultKind;
 use lines::{Counts, Printer};
 use network_model::{Entry, Prefix, Refusal, Step, Trace};
-use plans::Cause;
 use std::io::Write;
 use world::{Network, World};
 
@@ -61,13 +61,13 @@ pub trait Live {
 
     /// Gives the next job: to look the address up at the router. Jobs are numbered from 1. Refused, it takes no
     /// number.
-    fn inject(&mut self, router: u16, addr: u32) -> Result<(), Cause>
+    fn inject(&mut self, router: u16, addr: u32) -> Result<(), FaultKind>
         ensures err { IfErr result (meaning.not_given self.old router) }
         ensures same { self.new ≡ self.old };
 
     /// Waits for the answers of all jobs that were given since the last time, and prints them by number. What it prints
     /// may be lost.
-    fn drain<W: Write>(&mut self, printer: &Printer<'_>, out: &mut W) -> Result<(), Cause>
+    fn drain<W: Write>(&mut self, printer: &Printer<'_>, out: &mut W) -> Result<(), FaultKind>
         ensures err { IfErr result (meaning.not_answered self.old) }
         ensures same { self.new ≡ self.old };
 
@@ -76,13 +76,13 @@ pub trait Live {
         ensures { self.new ≡ self.old };
 
     /// Saves the network as it is, in place of what was saved before. One whose steps are kept cannot be saved.
-    fn save(&mut self) -> Result<(), Cause>
+    fn save(&mut self) -> Result<(), FaultKind>
         ensures ok { OnOk result (meaning.saved self.old self.new) }
         ensures same { OnErr result (self.new ≡ self.old) }
         ensures err { IfErr result (meaning.not_saved self.old) };
 
     /// Makes the network what it was when it was saved.
-    fn restore(&mut self) -> Result<(), Cause>
+    fn restore(&mut self) -> Result<(), FaultKind>
         ensures ok { OnOk result (meaning.restored self.old self.new) }
         ensures same { OnErr result (self.new ≡ self.old) }
         ensures err { IfErr result (meaning.not_restored self.old) };

@@ -1,7 +1,7 @@
 //! Commands, done one after another.
 
 ghost use Rattle.std.specs.Prelude.{◌≡◌, IfErr, IsOk, MatchResult, OnOk, Err};
-ghost use Rattle.plans.specs.declared.fault.Cause.TheVariants as Causes;
+ghost use Rattle.network_model.specs.Kinds.{refusal_kind};
 ghost use Rattle.sessions.specs.Commands.{AreDone, IsDone, IsRefused, StopsAtCommand};
 
 use crate::commands::{do_step, look_up, show_count, show_trace, try_step};
@@ -10,9 +10,10 @@ use crate::progress::show_commands_done;
 use crate::putting::put_links;
 use command_line::Format;
 use control::{Progress, TurnGate};
+use faults::FaultKind;
 use lines::{Printer, print_report, print_state, show_held, show_next, show_queue, show_table};
 use network_model::Refusal;
-use plans::{Cause, Fault};
+use plans::{Fault, Where};
 use script::{Command, Directory, Key, Place};
 use std::alloc::Global;
 use std::io::Write;
@@ -81,11 +82,11 @@ where
                 progress.done = position.saturating_add(1);
                 progress.steps(net.steps() as usize);
             }
-            Err(cause) => {
+            Err(kind) => {
                 let key = Key::Script;
                 return Err(Fault {
-                    cause,
-                    place: Some(Place { key, position }),
+                    kind,
+                    place: Some(Where::Scenario(Place { key, position })),
                 });
             }
         }
@@ -115,7 +116,7 @@ pub fn do_command<N, G, W, P>(
     command: Command,
     out: &mut W,
     progress: &mut P,
-) -> Result<(), Cause>
+) -> Result<(), FaultKind>
 where
     N: Live,
     G: TurnGate + Sync,
@@ -129,41 +130,41 @@ where
     match command {
         Command::Step(step) => {
             let done = do_step(net, &printer, session.style.moves, step, out);
-            into_cause(done)
+            into_kind(done)
         }
         Command::Try(step) => {
             try_step(net, &printer, step, out);
             Ok(())
         }
-        Command::Settle => into_cause(net.settle(session.gate, None, progress)),
-        Command::SettleDrawn { seed } => into_cause(net.settle(session.gate, Some(seed), progress)),
-        Command::RouterUp { router } => into_cause(put_links(net, true, router)),
-        Command::RouterDown { router } => into_cause(put_links(net, false, router)),
+        Command::Settle => into_kind(net.settle(session.gate, None, progress)),
+        Command::SettleDrawn { seed } => into_kind(net.settle(session.gate, Some(seed), progress)),
+        Command::RouterUp { router } => into_kind(put_links(net, true, router)),
+        Command::RouterDown { router } => into_kind(put_links(net, false, router)),
         Command::State { router, prefix } => {
             let explain = session.style.explain;
             let done = print_state(net.world(), &printer, router, prefix, explain, out);
-            into_cause(done)
+            into_kind(done)
         }
-        Command::Table { router } => into_cause(show_table(net.world(), &printer, router, out)),
+        Command::Table { router } => into_kind(show_table(net.world(), &printer, router, out)),
         Command::Next { router } => {
             let links = net.network().links();
             let done = show_next(net.world(), links, &printer, router, out);
-            into_cause(done)
+            into_kind(done)
         }
         Command::Queue { router, port } => {
             let done = show_queue(alloc, net.world(), &printer, router, port, out);
-            into_cause(done)
+            into_kind(done)
         }
         Command::Held { router } => {
             let done = show_held(alloc, net.world(), &printer, router, out);
-            into_cause(done)
+            into_kind(done)
         }
-        Command::Lookup { router, addr } => into_cause(look_up(net, &printer, router, addr, out)),
+        Command::Lookup { router, addr } => into_kind(look_up(net, &printer, router, addr, out)),
         Command::Trace { router, addr } => {
-            into_cause(show_trace(net, &printer, router, addr, false, out))
+            into_kind(show_trace(net, &printer, router, addr, false, out))
         }
         Command::TraceThrough { router, addr } => {
-            into_cause(show_trace(net, &printer, router, addr, true, out))
+            into_kind(show_trace(net, &printer, router, addr, true, out))
         }
         Command::Inject { router, addr } => net.inject(router, addr),
         Command::Drain => net.drain(&printer, out),
@@ -180,12 +181,12 @@ where
     }
 }
 
-// A refusal is a cause to stop.
-fn into_cause(done: Result<(), Refusal>) -> Result<(), Cause>
-    ensures { MatchResult done (λ _. IsOk result) (λ e. result ≡ Err (Causes.Refused e)) }
+// Of which kind a refusal is.
+fn into_kind(done: Result<(), Refusal>) -> Result<(), FaultKind>
+    ensures { MatchResult done (λ _. IsOk result) (λ e. result ≡ Err (refusal_kind e)) }
 {
     match done {
         Ok(()) => Ok(()),
-        Err(refusal) => Err(Cause::Refused(refusal)),
+        Err(refusal) => Err(FaultKind::from(refusal)),
     }
 }

@@ -1,5 +1,5 @@
 -- How runs in simulated time end.
-use Rattle.std.proofs.Common.{◌≡◌, ◌≤◌, ◌⊎◌, inr, List, Option, None, length, ap, subst, ◌∙◌}
+use Rattle.std.proofs.Common.{◌≡◌, ◌≤◌, ◌⊎◌, inr, List, Option, length, ap, subst, ◌∙◌}
 use Rattle.network_model.specs.World.{Network}
 use Rattle.texts.specs.Words.{Text}
 use Rattle.plans.specs.declared.fault.Fault.{Fault}
@@ -33,6 +33,6 @@ timed_to_end text lines given plan names times short planned names_are same says
 }
 
 -- a scenario without faults
-pub stops_after : (text : Text) (times : Option Text) (plan : Plan) (fault : Fault) → length text ≤ most_bytes → IsPlanned text plan → fault.place ≡ None
-    → OfBytes times (λ lines. IsOfTimes lines fault.cause) ⊎ IsOfEvents fault.cause → StopsTime text times fault
-stops_after text times plan fault short planned unplaced why = inr (short, planned.0, planned.1, unplaced, why)
+pub stops_after : (text : Text) (times : Option Text) (plan : Plan) (fault : Fault) → length text ≤ most_bytes → IsPlanned text plan
+    → OfBytes times (λ lines. IsOfTimes lines fault) ⊎ IsOfEvents fault → StopsTime text times fault
+stops_after text times plan fault short planned why = inr (short, planned.0, planned.1, why)

@@ -1,5 +1,5 @@
 -- How a run in simulated time ends.
-use Rattle.std.specs.Prelude.{◌≡◌, ◌≤◌, ◌⊎◌, List, None, Option, length}
+use Rattle.std.specs.Prelude.{◌≤◌, ◌⊎◌, List, Option, length}
 use Rattle.network_model.specs.World.{Network}
 use Rattle.texts.specs.Words.{Text}
 use Rattle.script.specs.Reading.{Parts}
@@ -29,7 +29,7 @@ pub record IsTimedToEnd (bytes lines : Text) : Type 0 where
   pub says : IsTimes parts.names (network_read parts) lines times
   pub runs : RunsTimes (network_read parts) times
 
--- why a run ends before. It is for its scenario; or else for its document of times or an event that is not done, and then the fault has no place. What the document's reader gives may be known
+-- why a run ends before. It is for its scenario; or else for its document of times or an event that is not done. What the document's reader gives may be known
 abbrev pub StopsTime : Text → Option Text → Fault → Type 0
-StopsTime bytes times fault = StopsReading bytes fault ⊎ ((length bytes ≤ most_bytes) × (parts : Parts) × IsScenario bytes parts × (fault.place ≡ None)
-    × (OfBytes times (λ lines. IsOfTimes lines fault.cause) ⊎ IsOfEvents fault.cause))
+StopsTime bytes times fault = StopsReading bytes fault ⊎ ((length bytes ≤ most_bytes) × (parts : Parts) × IsScenario bytes parts
+    × (OfBytes times (λ lines. IsOfTimes lines fault) ⊎ IsOfEvents fault))

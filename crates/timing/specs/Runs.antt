@@ -1,10 +1,11 @@
 -- Runs in which changes are done, or refused and taken off.
-use Rattle.std.specs.Prelude.{◌≡◌, ◌≤◌, ℕ, ⊤, true, List, [], ◌∷◌, Option, Some, MatchOption, slice_get}
+use Rattle.std.specs.Prelude.{◌≡◌, ◌≤◌, ◌⊎◌, ℕ, true, List, [], ◌∷◌, Option, Some, MatchOption, slice_get}
+use Rattle.faults.specs.declared.kind.FaultKind.{FaultKind}
 use Rattle.network_model.specs.declared.step.Refusal.{Refusal}
 use Rattle.network_model.specs.Turns.{is_settled}
 use Rattle.simulation.specs.Simulation.{simulation_refusal}
-use Rattle.plans.specs.declared.fault.Cause.{Cause}
-use Rattle.plans.specs.declared.fault.Cause.TheVariants.{Memory, Refused as OfStep, TimeSpent}
+use Rattle.plans.specs.declared.fault.Fault.{Fault}
+use Rattle.plans.specs.Faults.{refused_fault, unplaced}
 use Rattle.timed_simulation.specs.declared.events.Change.{Change}
 use Rattle.timed_simulation.specs.declared.events.Event.{Event}
 use Rattle.timed_simulation.specs.Timed.{Timed, after_event, with_change, world_of}
@@ -55,8 +56,5 @@ pub record IsReady (t : Timed) : Type 0 where
   pub first : (d : Event) → IsDue t d → change.moment ≤ d.moment
 
 -- why events are not done to the last: the clock is spent, a step is refused, or memory runs out
-abbrev pub IsOfEvents : Cause → Type 0
-IsOfEvents TimeSpent = ⊤
-IsOfEvents (OfStep refusal) = ⊤
-IsOfEvents (Memory memory) = ⊤
-IsOfEvents cause = ⊥
+abbrev pub IsOfEvents : Fault → Type 0
+IsOfEvents fault = (fault ≡ unplaced FaultKind.TimeSpent) ⊎ ((e : Refusal) × (fault ≡ refused_fault e)) ⊎ (fault ≡ unplaced FaultKind.NoMemory)

@@ -1,19 +1,18 @@
 -- What a document of times says of a network.
-use Rattle.std.specs.Prelude.{◌≡◌, ◌<◌, ◌≤◌, ◌⊎◌, ℕ, ⊤, List, Some, None, IsUtf8, length, replicate, option_and_then}
+use Rattle.std.specs.Prelude.{◌≡◌, ◌<◌, ◌⊎◌, ℕ, List, Option, Some, None, length, replicate, option_and_then}
 use Rattle.std.specs.List.{AllZip}
 use Rattle.toml.specs.Parse.{parse_document}
+use Rattle.faults.specs.declared.kind.FaultKind.{FaultKind}
 use Rattle.network_model.specs.World.{Network}
 use Rattle.texts.specs.Words.{Text}
-use Rattle.network_model.specs.declared.memory.NoMemory.{NoMemory}
 use Rattle.scenario.specs.declared.fault.Fault.{Fault as DocumentFault}
-use Rattle.scenario.specs.declared.fault.Fault.TheVariants.{BadKey as HasBadKey, BadToml as IsNoToml, NoMemory as NoMemoryForLists}
+use Rattle.scenario.specs.Kinds.{document_kind}
 use Rattle.script.specs.declared.fault.LineFault.{LineFault}
-use Rattle.plans.specs.declared.fault.Cause.{Cause}
-use Rattle.plans.specs.declared.fault.Cause.TheVariants.{Memory, Times as OfTimes}
-use Rattle.plans.specs.declared.times.TimesFault.TheVariants.{Document as OfDocument, Line as OfLine, TooLarge}
-use Rattle.plans.specs.declared.times.TimesKey.{TimesKey}
-use Rattle.plans.specs.declared.times.TimesKey.TheVariants.{Changes, Links, Routers}
-use Rattle.plans.specs.Faults.{CannotRead, most_bytes}
+use Rattle.script.specs.Kinds.{line_kind}
+use Rattle.plans.specs.declared.fault.Fault.{Fault}
+use Rattle.plans.specs.declared.place.Where.{Where}
+use Rattle.plans.specs.declared.place.TimesKey.{TimesKey}
+use Rattle.plans.specs.Faults.{IsUnread, unplaced}
 use Rattle.timed_simulation.specs.declared.links.LinkDelays.{LinkDelays}
 use Rattle.timing.specs.declared.given.Given.{Given}
 use Rattle.timing.specs.declared.times.Times.{Times}
@@ -43,44 +42,61 @@ pub record IsTimes (names : List Text) (n : Network) (text : Text) (times : Time
 
 -- ---- faults
 
--- memory runs out
-abbrev pub IsMemory : Cause → Type 0
-IsMemory cause = (memory : NoMemory) × (cause ≡ Memory memory)
+-- a fault of the whole document
+abbrev pub of_times : FaultKind → Fault
+of_times kind = record { kind = kind; place = Some Where.Times }
 
--- the cause of a document's fault
-abbrev pub IsCauseOf : DocumentFault → Cause → Type 0
-IsCauseOf NoMemoryForLists cause = IsMemory cause
-IsCauseOf fault cause = cause ≡ OfTimes (OfDocument fault)
+-- a fault of the line at this position of a list
+abbrev pub of_times_line : FaultKind → TimesKey → ℕ → Fault
+of_times_line kind key position = record { kind = kind; place = Some (Where.TimesLine key position) }
+
+-- memory runs out
+abbrev pub IsMemory : Fault → Type 0
+IsMemory fault = fault ≡ unplaced FaultKind.NoMemory
+
+-- a text is no document
+abbrev pub IsFaultOf : DocumentFault → Fault → Type 0
+IsFaultOf DocumentFault.NoMemory fault = IsMemory fault
+IsFaultOf e fault = fault ≡ of_times (document_kind e)
 
 -- why lines of this list are not all read. The line at this position, which is below their count, says no delay or no change; or memory runs out
-abbrev pub StopsLines : TimesKey → ℕ → Cause → Type 0
-StopsLines key count cause = IsMemory cause ⊎ ((fault : LineFault) × (position : ℕ) × (cause ≡ OfTimes (OfLine fault key position)) × (position < count))
+abbrev pub StopsLines : TimesKey → ℕ → Fault → Type 0
+StopsLines key count fault = IsMemory fault ⊎ ((e : LineFault) × (position : ℕ) × (fault ≡ of_times_line (line_kind e) key position) × (position < count))
 
 -- the lines of this list
 abbrev pub lines_of : TimesKey → TimesLists → List Text
-lines_of Links lists = lists.links
-lines_of Routers lists = lists.routers
-lines_of Changes lists = lists.changes
+lines_of TimesKey.Links lists = lists.links
+lines_of TimesKey.Routers lists = lists.routers
+lines_of TimesKey.Changes lists = lists.changes
 
 -- the text is a document of times with such lists
 abbrev pub HasLists : Text → (TimesLists → Type 0) → Type 0
 HasLists text P = (lists : TimesLists) × (option_and_then times_in (parse_document text) ≡ Some lists) × P lists
 
--- why the bytes of a document of times are not read as a text. They are too many or not UTF-8, their reader fails, or memory runs out
-abbrev pub IsUnreadTimes : Text → Cause → Type 0
-IsUnreadTimes bytes (OfTimes TooLarge) = most_bytes < length bytes
-IsUnreadTimes bytes (OfTimes (OfDocument IsNoToml)) = (length bytes ≤ most_bytes) × ¬ (IsUtf8 bytes)
-IsUnreadTimes bytes cause = CannotRead cause
+-- as what it is told of a document of times that a text is not read. If it is too long or not UTF-8, it is said of which text
+abbrev pub unread_times : FaultKind → Fault
+unread_times FaultKind.TooLarge = of_times FaultKind.TooLarge
+unread_times FaultKind.BadToml = of_times FaultKind.BadToml
+unread_times kind = unplaced kind
 
--- why a text says no times of a network. It is no TOML document, or none of times; or it has more than 10,000 changes. Or one of its lines says no delay or no change; or memory runs out
-abbrev pub SaysNoTimes : Text → Cause → Type 0
-SaysNoTimes text (OfTimes (OfDocument IsNoToml)) = parse_document text ≡ None
-SaysNoTimes text (OfTimes (OfDocument HasBadKey)) = HasNoTimes (parse_document text)
-SaysNoTimes text (OfTimes TooLarge) = HasLists text (λ lists. 10000 < length lists.changes)
-SaysNoTimes text (OfTimes (OfLine fault key position)) = HasLists text (λ lists. position < length (lines_of key lists))
-SaysNoTimes text (Memory memory) = ⊤
-SaysNoTimes text cause = ⊥
+-- why the bytes of a document of times are not read as a text
+abbrev pub IsUnreadTimes : Text → Fault → Type 0
+IsUnreadTimes bytes fault = (kind : FaultKind) × IsUnread bytes kind × (fault ≡ unread_times kind)
 
--- the cause is of the document of times that has these bytes
-abbrev pub IsOfTimes : Text → Cause → Type 0
-IsOfTimes bytes cause = IsUnreadTimes bytes cause ⊎ SaysNoTimes bytes cause
+-- why a text is no document of times. It is no TOML document, or none of times; or it has more than 10,000 changes
+abbrev pub IsNoTimes : Text → FaultKind → Type 0
+IsNoTimes text FaultKind.BadToml = parse_document text ≡ None
+IsNoTimes text FaultKind.BadKey = HasNoTimes (parse_document text)
+IsNoTimes text FaultKind.TooLarge = HasLists text (λ lists. 10000 < length lists.changes)
+IsNoTimes text _ = ⊥
+
+-- why a text says no times of a network, and where. It is no document of times; or one of its lines says no delay or no change; or memory runs out
+abbrev pub SaysNoTimes : Text → FaultKind → Option Where → Type 0
+SaysNoTimes text kind None = kind ≡ FaultKind.NoMemory
+SaysNoTimes text kind (Some Where.Times) = IsNoTimes text kind
+SaysNoTimes text kind (Some (Where.TimesLine key position)) = (e : LineFault) × (kind ≡ line_kind e) × HasLists text (λ lists. position < length (lines_of key lists))
+SaysNoTimes text kind (Some _) = ⊥
+
+-- the fault is of the document of times that has these bytes
+abbrev pub IsOfTimes : Text → Fault → Type 0
+IsOfTimes bytes fault = IsUnreadTimes bytes fault ⊎ SaysNoTimes bytes fault.kind fault.place

@@ -4,17 +4,17 @@ ghost use Rattle.std.specs.Prelude.{◌≡◌, ◌<◌, [], IfErr, IfOk, IfSome,
 ghost use Rattle.std.specs.List.{AllZip};
 ghost use Rattle.network_model.specs.Network.{joins};
 ghost use Rattle.texts.specs.Words.{texts};
-ghost use Rattle.plans.specs.declared.fault.Cause.TheVariants.{Times as OfTimes};
-ghost use Rattle.plans.specs.declared.times.TimesFault.TheVariants.{Line as OfLine};
+ghost use Rattle.script.specs.Kinds.{line_kind};
 ghost use Rattle.timing.specs.Lines.{delays_from, SaysChange, SaysLink, SaysRouter};
-ghost use Rattle.timing.specs.Times.{StopsLines};
+ghost use Rattle.timing.specs.Times.{StopsLines, of_times_line};
 
 use crate::given::Given;
 use crate::moment::read_moment;
+use faults::FaultKind;
 use ipv4_prefix::Prefix;
 use metric::Cost;
 use network_model::{LinkSpec, Step};
-use plans::{Cause, TimesFault, TimesKey};
+use plans::{Fault, TimesKey, Where};
 use script::{LineFault, Names, parse_step};
 use texts::{first_word, four_words, two_words};
 use timed_simulation::{Change, LinkDelays, is_change};
@@ -25,7 +25,7 @@ pub fn read_links(
     links: &[LinkSpec],
     given: &mut Vec<Given<LinkDelays>>,
     lines: &[String],
-) -> Result<(), Cause>
+) -> Result<(), Fault>
     requires { given.old.items ≡ [] }
     ensures says { OnOk result (AllZip (SaysLink names.now links.now) (texts lines.now) given.new.items) }
     ensures fault { IfErr result (StopsLines TimesKey.Links (length lines.now)) }
@@ -44,7 +44,7 @@ pub fn read_routers(
     names: &Names,
     given: &mut Vec<Given<u64>>,
     lines: &[String],
-) -> Result<(), Cause>
+) -> Result<(), Fault>
     requires { given.old.items ≡ [] }
     ensures says { OnOk result (AllZip (SaysRouter names.now) (texts lines.now) given.new.items) }
     ensures fault { IfErr result (StopsLines TimesKey.Routers (length lines.now)) }
@@ -65,7 +65,7 @@ pub fn read_changes(
     attachments: &[(Prefix, u16, Cost)],
     changes: &mut Vec<Change>,
     lines: &[String],
-) -> Result<(), Cause>
+) -> Result<(), Fault>
     requires { changes.old.items ≡ [] }
     ensures says { OnOk result (AllZip (SaysChange names.now links.now attachments.now) (texts lines.now)
         changes.new.items) }
@@ -83,14 +83,13 @@ pub fn read_changes(
 }
 
 // The fault of a line.
-fn at_line(fault: LineFault, key: TimesKey, position: usize) -> Cause
-    ensures { result ≡ OfTimes (OfLine fault key position) }
+fn at_line(fault: LineFault, key: TimesKey, position: usize) -> Fault
+    ensures { result ≡ of_times_line (line_kind fault) key position }
 {
-    Cause::Times(TimesFault::Line {
-        fault,
-        key,
-        position,
-    })
+    Fault {
+        kind: FaultKind::from(fault),
+        place: Some(Where::TimesLine { key, position }),
+    }
 }
 
 // The delays that a line says: `A B THERE BACK`, two routers that a link joins, and how long an item is on its

@@ -9,8 +9,9 @@ ghost use Rattle.timed_reports.specs.Recordings.{timed_in};
 ghost use Rattle.timing.specs.Runs.{Comes, IsBegun, IsOfEvents, IsReady, Leads, LeadsAlone, with_changes};
 
 use crate::mark::{Begun, Mark};
+use faults::FaultKind;
 use network_model::{NoMemory, Refusal, Step};
-use plans::Cause;
+use plans::Fault;
 use simulation::Sent;
 use timed_reports::Recording;
 use timed_simulation::{Change, Event, TimeFault, TimedRan};
@@ -30,7 +31,7 @@ pub fn give(recording: &mut Recording, changes: &[Change]) -> Result<(), NoMemor
 
 /// Does all changes, each after what is due before it, and then all that is left to do. Each change is put down
 /// in the list, and no other is done.
-pub fn run_changes(recording: &mut Recording, begun: &mut Vec<Begun>) -> Result<(), Cause>
+pub fn run_changes(recording: &mut Recording, begun: &mut Vec<Begun>) -> Result<(), Fault>
     requires { begun.old.items ≡ [] }
     ensures leads { OnOk result (Leads (timed_in recording.old) begun.new.items (timed_in recording.new)) }
     ensures rest { OnOk result (IsAtRest (timed_in recording.new)) }
@@ -64,7 +65,7 @@ fn first_change(recording: &Recording) -> Option<Change>
 }
 
 // Does what is due before the first change, and no change.
-fn run_before(recording: &mut Recording) -> Result<(), Cause>
+fn run_before(recording: &mut Recording) -> Result<(), Fault>
     requires { (timed_in recording.old).changes ≢ [] }
     ensures alone { OnOk result (LeadsAlone (timed_in recording.old) (timed_in recording.new)) }
     ensures ready { OnOk result (IsReady (timed_in recording.new)) }
@@ -83,7 +84,7 @@ fn run_before(recording: &mut Recording) -> Result<(), Cause>
 }
 
 // Does all that is left to do, where no change is to come.
-fn run_to_rest(recording: &mut Recording) -> Result<(), Cause>
+fn run_to_rest(recording: &mut Recording) -> Result<(), Fault>
     requires { (timed_in recording.old).changes ≡ [] }
     ensures alone { OnOk result (LeadsAlone (timed_in recording.old) (timed_in recording.new)) }
     ensures rest { OnOk result (IsAtRest (timed_in recording.new)) }
@@ -94,19 +95,19 @@ fn run_to_rest(recording: &mut Recording) -> Result<(), Cause>
 }
 
 // Whether a run of as many events as can be counted came to its end.
-fn ended(ran: TimedRan) -> Result<(), Cause>
+fn ended(ran: TimedRan) -> Result<(), Fault>
     ensures ok { OnOk result ((ran.fault ≡ None) × (ran.done < 2 ^ 64 - 1)) }
     ensures fault { IfErr result IsOfEvents }
 {
     match ran.fault {
-        Some(fault) => Err(cause_of(fault)),
-        None if ran.done == usize::MAX => Err(Cause::Refused(Refusal::JournalFull)),
+        Some(fault) => Err(fault_of(fault)),
+        None if ran.done == usize::MAX => Err(Fault::from(Refusal::JournalFull)),
         None => Ok(()),
     }
 }
 
 // Does the first change, which is the next event; or takes it off, if its step is refused.
-fn begin(recording: &mut Recording) -> Result<Begun, Cause>
+fn begin(recording: &mut Recording) -> Result<Begun, Fault>
     requires { IsReady (timed_in recording.old) }
     ensures ok { IfOk result (λ b. IsBegun (timed_in recording.old) b (timed_in recording.new)) }
     ensures fault { IfErr result IsOfEvents }
@@ -124,7 +125,7 @@ fn begin(recording: &mut Recording) -> Result<Begun, Cause>
 }
 
 /// Does the next event. If it is a change that is refused, it is taken off, and the answer says why it is refused.
-pub fn do_event(recording: &mut Recording, event: &Event) -> Result<Option<Refusal>, Cause>
+pub fn do_event(recording: &mut Recording, event: &Event) -> Result<Option<Refusal>, Fault>
     requires next { next_event (timed_in recording.old) ≡ Some event.now }
     requires due { IsDue (timed_in recording.old) event.now }
     ensures ok { IfOk result (Comes (timed_in recording.old) event.now (timed_in recording.new)) }
@@ -138,7 +139,7 @@ pub fn do_event(recording: &mut Recording, event: &Event) -> Result<Option<Refus
                 let _change = recording.withdraw();
                 Ok(Some(refusal))
             }
-        Some(fault) => Err(cause_of(fault)),
+        Some(fault) => Err(fault_of(fault)),
     }
 }
 
@@ -150,11 +151,11 @@ fn is_of_step(refusal: Refusal) -> bool
 }
 
 // Why a run stops. No change is given for a past moment.
-fn cause_of(fault: TimeFault) -> Cause
+fn fault_of(fault: TimeFault) -> Fault
     ensures { IsOfEvents result }
 {
     match fault {
-        TimeFault::Refused(refusal) => Cause::Refused(refusal),
-        TimeFault::PastMoment | TimeFault::TimeSpent => Cause::TimeSpent,
+        TimeFault::Refused(refusal) => Fault::from(refusal),
+        TimeFault::PastMoment | TimeFault::TimeSpent => Fault::from(FaultKind::TimeSpent),
     }
 }

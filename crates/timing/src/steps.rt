@@ -12,7 +12,7 @@ ghost use Rattle.timing.specs.Steps.{Came, IsDoneAt, RunsInSteps, done_of, momen
 use crate::run::{do_event, give};
 use crate::times::Times;
 use network_model::{Refusal, Step};
-use plans::Cause;
+use plans::Fault;
 use std::alloc::Global;
 use timed_reports::Recording;
 use timed_simulation::Event;
@@ -39,7 +39,7 @@ impl SteppedRun {
 
 /// Runs a network with these delays and changes until nothing is left to do, and keeps each step with its moment. A
 /// change that is refused is left out. It takes memory by the steps.
-pub fn run_in_steps(alloc: Global, network: Network, times: &Times) -> Result<SteppedRun, Cause>
+pub fn run_in_steps(alloc: Global, network: Network, times: &Times) -> Result<SteppedRun, Fault>
     requires links { length times.now.links.items ≡ length network.links }
     requires routers { length times.now.routers.items ≡ network.routers }
     requires changes { All (λ c. is_own c.step ≡ false) times.now.changes.items }
@@ -62,7 +62,7 @@ fn do_all(
     recording: &mut Recording,
     steps: &mut Vec<Step>,
     moments: &mut Vec<u64>,
-) -> Result<(), Cause>
+) -> Result<(), Fault>
     requires { (steps.old.items ≡ []) × (moments.old.items ≡ []) }
     ensures done { OnOk result (IsDoneAt (timed_in recording.old) steps.new.items moments.new.items (timed_in recording.new)) }
     ensures rest { OnOk result (NothingIsDue (timed_in recording.new)) }
@@ -73,7 +73,7 @@ fn do_all(
         };
         do_next(recording, &event, steps, moments)?;
     }
-    Err(Cause::Refused(Refusal::JournalFull))
+    Err(Fault::from(Refusal::JournalFull))
 }
 
 // Does the next event, and adds its step and its moment to the lists; or takes it off, if it is a change that is refused.
@@ -82,7 +82,7 @@ fn do_next(
     event: &Event,
     steps: &mut Vec<Step>,
     moments: &mut Vec<u64>,
-) -> Result<(), Cause>
+) -> Result<(), Fault>
     requires next { next_event (timed_in recording.old) ≡ Some event.now }
     requires due { IsDue (timed_in recording.old) event.now }
     ensures { OnOk result ((c : Came) × Comes (timed_in recording.old) c.event (timed_in recording.new) c.refusal

@@ -12,7 +12,7 @@ use crate::run::{give, run_changes};
 use crate::times::{Times, read_times, read_times_text};
 use command_line::Format;
 use lines::Printer;
-use plans::{Cause, Fault, Outcome, Plan, read_plan, read_text};
+use plans::{Fault, Outcome, Plan, read_plan, read_text};
 use script::Directory;
 use std::alloc::Global;
 use std::io::{Read, Write};
@@ -68,7 +68,7 @@ fn run<W: Write>(
     times: &Times,
     options: TimeOptions,
     out: &mut W,
-) -> Result<(), Cause>
+) -> Result<(), Fault>
     requires links { length times.now.links.items ≡ length network.links }
     requires routers { length times.now.routers.items ≡ network.routers }
     requires changes { All (λ c. is_own c.step ≡ false) times.now.changes.items }

@@ -1,17 +1,16 @@
 //! Reads the delays of a network and its changes.
 
 ghost use Rattle.std.specs.Prelude.{◌≡◌, ◌≤◌, All, IfErr, IfOk, false, length, string_bytes};
-ghost use Rattle.plans.specs.Faults.{Gives, IsUnread, OfBytes, most_bytes};
+ghost use Rattle.plans.specs.Faults.{Gives, OfBytes, most_bytes};
 ghost use Rattle.coming_to_rest.specs.Worlds.{is_own};
-ghost use Rattle.timing.specs.Times.{AreLinkDelays, AreRouterDelays, IsCauseOf, IsTimes, IsUnreadTimes, SaysNoTimes, StopsLines};
-ghost use Rattle.texts.specs.Words.{Text, texts};
+ghost use Rattle.timing.specs.Times.{AreLinkDelays, AreRouterDelays, IsFaultOf, IsTimes, IsUnreadTimes, SaysNoTimes, StopsLines, of_times, unread_times};
+ghost use Rattle.texts.specs.Words.{texts};
 
 use crate::document::{Document, read_document};
 use crate::given::values;
 use crate::line_reading::{read_changes, read_links, read_routers};
-use network_model::NoMemory;
-use plans::{Cause, TimesFault, TimesKey, read_text};
-use scenario::Fault;
+use faults::FaultKind;
+use plans::{Fault, TimesKey, Where, read_text};
 use script::Names;
 use std::alloc::Global;
 use std::io::Read;
@@ -33,26 +32,34 @@ pub struct Times {
 }
 
 /// The whole text of a document of times. If it is too long or not UTF-8, the fault says that it is in the times.
-pub fn read_times_text<R: Read + Drop>(alloc: Global, reader: R) -> Result<String, Cause>
+pub fn read_times_text<R: Read + Drop>(alloc: Global, reader: R) -> Result<String, Fault>
     ensures whole { IfOk result (λ text. Gives (R.remaining reader) (string_bytes text)) }
     ensures short { IfOk result (λ text. length (string_bytes text) ≤ most_bytes) }
-    ensures fault { IfErr result (λ cause.
-        OfBytes (R.remaining reader) (λ bytes. IsUnreadTimes bytes cause)) }
+    ensures fault { IfErr result (λ e. OfBytes (R.remaining reader) (λ bytes. IsUnreadTimes bytes e)) }
 {
     match read_text(alloc, reader) {
         Ok(text) => Ok(text),
-        Err(cause) => Err(times_cause(cause)),
+        Err(kind) => Err(unread_times(kind)),
     }
 }
 
 // Why the bytes are not read, as it is told of a document of times.
-fn times_cause(cause: Cause) -> Cause
-    ensures { (bytes : Text) → IsUnread bytes cause → IsUnreadTimes bytes result }
+fn unread_times(kind: FaultKind) -> Fault
+    ensures { result ≡ unread_times kind }
 {
-    match cause {
-        Cause::TooLarge => Cause::Times(TimesFault::TooLarge),
-        Cause::Document(fault) => document_cause(fault),
-        _ => cause,
+    match kind {
+        FaultKind::TooLarge | FaultKind::BadToml => of_times(kind),
+        _ => Fault::from(kind),
+    }
+}
+
+// A fault of the whole document.
+fn of_times(kind: FaultKind) -> Fault
+    ensures { result ≡ of_times kind }
+{
+    Fault {
+        kind,
+        place: Some(Where::Times),
     }
 }
 
@@ -62,20 +69,20 @@ pub fn read_times(
     names: &Names,
     network: &Network,
     text: &str,
-) -> Result<Times, Cause>
+) -> Result<Times, Fault>
     ensures times { IfOk result (IsTimes names.now network.now text.now) }
     ensures links { IfOk result (λ t. length t.links.items ≡ length network.now.links) }
     ensures routers { IfOk result (λ t. length t.routers.items ≡ network.now.routers) }
     ensures changes { IfOk result (λ t. All (λ c. is_own c.step ≡ false) t.changes.items) }
     ensures few { IfOk result (λ t. length t.changes.items ≤ 10000) }
-    ensures fault { IfErr result (SaysNoTimes text.now) }
+    ensures fault { IfErr result (λ e. SaysNoTimes text.now e.kind e.place) }
 {
     let document = match read_document(alloc, text) {
         Ok(document) => document,
-        Err(fault) => return Err(document_cause(fault)),
+        Err(fault) => return Err(document_fault(fault)),
     };
     if document.changes.len() > MOST_CHANGES {
-        return Err(Cause::Times(TimesFault::TooLarge));
+        return Err(of_times(FaultKind::TooLarge));
     }
     let links = link_delays(alloc, names, network, &document.links, document.link)?;
     let routers = router_delays(alloc, names, network, &document.routers, document.router)?;
@@ -95,12 +102,12 @@ pub fn read_times(
 }
 
 // Why a text is no document of times.
-fn document_cause(fault: Fault) -> Cause
-    ensures { IsCauseOf fault result }
+fn document_fault(fault: scenario::Fault) -> Fault
+    ensures { IsFaultOf fault result }
 {
     match fault {
-        Fault::NoMemory => Cause::Memory(NoMemory),
-        _ => Cause::Times(TimesFault::Document { fault }),
+        scenario::Fault::NoMemory => Fault::from(fault),
+        _ => of_times(FaultKind::from(fault)),
     }
 }
 
@@ -111,7 +118,7 @@ fn link_delays(
     network: &Network,
     lines: &[String],
     other: u64,
-) -> Result<Vec<LinkDelays>, Cause>
+) -> Result<Vec<LinkDelays>, Fault>
     ensures delays { IfOk result (λ v.
         AreLinkDelays names.now network.now (texts lines.now) other v.items) }
     ensures count { IfOk result (λ v. length v.items ≡ length network.now.links) }
@@ -134,7 +141,7 @@ fn router_delays(
     network: &Network,
     lines: &[String],
     other: u64,
-) -> Result<Vec<u64>, Cause>
+) -> Result<Vec<u64>, Fault>
     ensures delays { IfOk result (λ v.
         AreRouterDelays names.now network.now (texts lines.now) other v.items) }
     ensures count { IfOk result (λ v. length v.items ≡ network.now.routers) }

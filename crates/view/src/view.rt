@@ -20,7 +20,7 @@ use fabric::{Fabric, FabricName};
 use journal::read_journal;
 use network_model::{NoMemory, Step};
 use play::{
-    Cause, Fault, Host, Keeper, Plan, read_bytes, read_plan, read_text, refuse, run_quietly,
+    Fault, FaultKind, Host, Keeper, Plan, read_bytes, read_plan, read_text, refuse, run_quietly,
 };
 use run_states::{StatesFault, run_from_opening, write_states};
 use script::Directory;
@@ -53,7 +53,7 @@ where
 {
     let text = match read_text(alloc, scenario) {
         Ok(text) => text,
-        Err(cause) => return refuse(Fault::from(cause), err),
+        Err(kind) => return refuse(Fault::from(kind), err),
     };
     if words.journal.is_some() {
         return end_journal(alloc, words.json, text.as_str(), other, out, err);
@@ -227,7 +227,7 @@ fn show_run<W: Write>(
 fn fault_of(fault: StatesFault) -> Fault {
     match fault {
         StatesFault::NoMemory => Fault::from(NoMemory),
-        StatesFault::Unwritten => Fault::from(Cause::Unwritable),
+        StatesFault::Unwritten => Fault::from(FaultKind::Unwritable),
     }
 }
 
@@ -251,7 +251,7 @@ fn show_script<H: Host, W: Write>(
     };
     run_quietly(rt, alloc, plan, &mut states, out)?;
     if states.is_unwritten {
-        return Err(Fault::from(Cause::Unwritable));
+        return Err(Fault::from(FaultKind::Unwritable));
     }
     Ok(())
 }

@@ -1,7 +1,7 @@
 use Rattle.std.proofs.Common.{string_bytes, refl, is_some, Some, inl, inr}
+use Rattle.faults.specs.declared.kind.FaultKind.{FaultKind}
 use Rattle.fabric.specs.Fabric.{opening_fabric}
 use Rattle.script.proofs.Exits.{at_err}
-use Rattle.plans.specs.declared.fault.Cause.TheVariants.{Memory as OfMemory}
 use Rattle.plans.specs.Faults.{OfBytes, unplaced}
 use Rattle.plans.proofs.Planned.{IsPlanned}
 use Rattle.sessions.specs.Nets.{kept_meaning}
@@ -35,6 +35,6 @@ returns-in_err-with_fabric-clause-fault g c =
 
 pub returns-in_err-add-clause-fault : goal.returns-in_err-add-clause-fault
 returns-in_err-add-clause-fault g c =
-    at_err c.from_residual-in_err-add.result (λ e. OfBytes (g.R.Read.remaining c.args.scenario) (λ bytes. StopsOn opening_fabric IsOfWorkers (Stops kept_meaning (is_some c.args.typed)) bytes e)) (unplaced (OfMemory c.in_err-add.field-0.0))
+    at_err c.from_residual-in_err-add.result (λ e. OfBytes (g.R.Read.remaining c.args.scenario) (λ bytes. StopsOn opening_fabric IsOfWorkers (Stops kept_meaning (is_some c.args.typed)) bytes e)) (unplaced FaultKind.NoMemory)
     c.from_residual-in_err-add.ensures.1
     (string_bytes c.in_ok-text.text, c.in_ok-text.ensures.whole, inl (inr (inl (record { memory = refl; unplaced = refl }))))

@@ -1,7 +1,6 @@
 use Rattle.std.proofs.Common.{string_bytes, refl, ap}
 use Rattle.script.proofs.Exits.{at_err}
-use Rattle.plans.specs.declared.fault.Cause.TheVariants.{Journal as OfJournal}
-use Rattle.plans.specs.Faults.{OfBytes, unplaced}
+use Rattle.plans.specs.Faults.{OfBytes, journal_fault, unplaced}
 use Rattle.plans.proofs.Planned.{IsPlanned}
 use Rattle.sessions.specs.Nets.{Counted}
 use Rattle.play.specs.Replays.{StopsReplay}
@@ -12,22 +11,22 @@ pub returns-in_err-lines-clause-fault : goal.returns-in_err-lines-clause-fault
 returns-in_err-lines-clause-fault g c =
     let text = string_bytes c.in_ok-text.text in
     let planned : IsPlanned text c.in_ok-plan.plan = rw (← c.as_str.ensures.value) c.in_ok-plan.ensures.ok in
-    let cause = c.in_err-lines.field-0.0 in
+    let kind = c.in_err-lines.field-0.0 in
     let unread = c.in_err-lines.ensures.fault in
-    at_err c.from_residual-in_err-lines.result (λ e. OfBytes (g.R.Read.remaining c.args.scenario) (λ bytes. StopsReplay bytes (g.J.Read.remaining c.args.journal) e)) (unplaced cause)
+    at_err c.from_residual-in_err-lines.result (λ e. OfBytes (g.R.Read.remaining c.args.scenario) (λ bytes. StopsReplay bytes (g.J.Read.remaining c.args.journal) e)) (unplaced kind)
     c.from_residual-in_err-lines.ensures.1
-    (text, c.in_ok-text.ensures.whole, stops_unread text unread.0 (g.J.Read.remaining c.args.journal) c.in_ok-plan.plan cause c.in_ok-text.ensures.short planned unread.1 unread.2)
+    (text, c.in_ok-text.ensures.whole, stops_unread text unread.0 (g.J.Read.remaining c.args.journal) c.in_ok-plan.plan kind c.in_ok-text.ensures.short planned unread.1 unread.2)
 
 pub returns-in_err-journal-clause-fault : goal.returns-in_err-journal-clause-fault
 returns-in_err-journal-clause-fault g c =
     let text = string_bytes c.in_ok-text.text in
     let planned : IsPlanned text c.in_ok-plan.plan = rw (← c.as_str.ensures.value) c.in_ok-plan.ensures.ok in
     let e = c.in_err-journal.field-0.0 in
-    at_err c.from_residual-in_err-journal.result (λ e. OfBytes (g.R.Read.remaining c.args.scenario) (λ bytes. StopsReplay bytes (g.J.Read.remaining c.args.journal) e)) (unplaced (OfJournal e))
+    at_err c.from_residual-in_err-journal.result (λ e. OfBytes (g.R.Read.remaining c.args.scenario) (λ bytes. StopsReplay bytes (g.J.Read.remaining c.args.journal) e)) (journal_fault e)
     c.from_residual-in_err-journal.ensures.1 (
       text,
       c.in_ok-text.ensures.whole,
-      stops_journal text c.in_ok-lines.lines.items c.deref.result.now (g.J.Read.remaining c.args.journal) c.in_ok-plan.plan c.names.result.now c.links.result.now c.attachments.result.now e (unplaced (OfJournal e))
+      stops_journal text c.in_ok-lines.lines.items c.deref.result.now (g.J.Read.remaining c.args.journal) c.in_ok-plan.plan c.names.result.now c.links.result.now c.attachments.result.now e (journal_fault e)
           c.in_ok-text.ensures.short planned c.in_ok-lines.ensures.whole c.names.ensures c.links.ensures.links c.attachments.ensures.attachments c.deref.ensures.value refl c.in_err-journal.ensures.err,
     )
 

@@ -10,6 +10,6 @@ returns-in-Step-clause-err g c =
     let f = c.args.net.now in
     let after = c.do_step-done.new.net in
     let done = c.do_step-done.result in
-    subst (λ command. IfErr c.into_cause.result (IsRefused k command f after)) (sym c.in-Step.is)
-    (caused_by done c.into_cause.result (IsRefused k (Command.Step c.in-Step.step) f after) c.into_cause.ensures
+    subst (λ command. IfErr c.into_kind.result (IsRefused k command f after)) (sym c.in-Step.is)
+    (caused_by done c.into_kind.result (IsRefused k (Command.Step c.in-Step.step) f after) c.into_kind.ensures
     (step_refused (k.refusal f c.in-Step.step) done f after c.do_step-done.ensures.cause c.do_step-done.ensures.err))

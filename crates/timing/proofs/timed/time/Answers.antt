@@ -26,11 +26,11 @@ returns-in_err-lines-clause-fault g c =
     let text = string_bytes c.in_ok-text.text in
     let planned : IsPlanned text c.in_ok-network.field-0 = rw (← c.as_str.ensures.value) c.in_ok-network.ensures.ok in
     let unread = c.in_err-lines.ensures.fault in
-    at_err c.from_residual-in_err-lines.result (λ e. OfBytes (g.R.Read.remaining c.args.scenario) (λ bytes. StopsTime bytes (g.J.Read.remaining c.args.times) e)) (unplaced c.in_err-lines.field-0.0)
+    at_err c.from_residual-in_err-lines.result (λ e. OfBytes (g.R.Read.remaining c.args.scenario) (λ bytes. StopsTime bytes (g.J.Read.remaining c.args.times) e)) c.in_err-lines.field-0.0
     c.from_residual-in_err-lines.ensures.1 (
       text,
       c.in_ok-text.ensures.whole,
-      stops_after text (g.J.Read.remaining c.args.times) c.in_ok-network.field-0 (unplaced c.in_err-lines.field-0.0) c.in_ok-text.ensures.short planned refl
+      stops_after text (g.J.Read.remaining c.args.times) c.in_ok-network.field-0 c.in_err-lines.field-0.0 c.in_ok-text.ensures.short planned
           (inl (unread.0, unread.1, inl unread.2)),
     )
 
@@ -38,23 +38,23 @@ pub returns-in_err-times-clause-fault : goal.returns-in_err-times-clause-fault
 returns-in_err-times-clause-fault g c =
     let text = string_bytes c.in_ok-text.text in
     let planned : IsPlanned text c.in_ok-network.field-0 = rw (← c.as_str.ensures.value) c.in_ok-network.ensures.ok in
-    at_err c.from_residual-in_err-times.result (λ e. OfBytes (g.R.Read.remaining c.args.scenario) (λ bytes. StopsTime bytes (g.J.Read.remaining c.args.times) e)) (unplaced c.in_err-times.field-0.0)
+    at_err c.from_residual-in_err-times.result (λ e. OfBytes (g.R.Read.remaining c.args.scenario) (λ bytes. StopsTime bytes (g.J.Read.remaining c.args.times) e)) c.in_err-times.field-0.0
     c.from_residual-in_err-times.ensures.1 (
       text,
       c.in_ok-text.ensures.whole,
-      stops_after text (g.J.Read.remaining c.args.times) c.in_ok-network.field-0 (unplaced c.in_err-times.field-0.0) c.in_ok-text.ensures.short planned refl
-          (inl (string_bytes c.in_ok-lines.lines, c.in_ok-lines.ensures.whole, inr (subst (λ t. SaysNoTimes t c.in_err-times.field-0.0) c.as_str-2.ensures.value c.in_err-times.ensures.fault))),
+      stops_after text (g.J.Read.remaining c.args.times) c.in_ok-network.field-0 c.in_err-times.field-0.0 c.in_ok-text.ensures.short planned
+          (inl (string_bytes c.in_ok-lines.lines, c.in_ok-lines.ensures.whole, inr (subst (λ t. SaysNoTimes t c.in_err-times.field-0.0.kind c.in_err-times.field-0.0.place) c.as_str-2.ensures.value c.in_err-times.ensures.fault))),
     )
 
 pub returns-in_err-run-clause-fault : goal.returns-in_err-run-clause-fault
 returns-in_err-run-clause-fault g c =
     let text = string_bytes c.in_ok-text.text in
     let planned : IsPlanned text c.in_ok-network.field-0 = rw (← c.as_str.ensures.value) c.in_ok-network.ensures.ok in
-    at_err c.from_residual-in_err-run.result (λ e. OfBytes (g.R.Read.remaining c.args.scenario) (λ bytes. StopsTime bytes (g.J.Read.remaining c.args.times) e)) (unplaced c.in_err-run.field-0.0)
+    at_err c.from_residual-in_err-run.result (λ e. OfBytes (g.R.Read.remaining c.args.scenario) (λ bytes. StopsTime bytes (g.J.Read.remaining c.args.times) e)) c.in_err-run.field-0.0
     c.from_residual-in_err-run.ensures.1 (
       text,
       c.in_ok-text.ensures.whole,
-      stops_after text (g.J.Read.remaining c.args.times) c.in_ok-network.field-0 (unplaced c.in_err-run.field-0.0) c.in_ok-text.ensures.short planned refl
+      stops_after text (g.J.Read.remaining c.args.times) c.in_ok-network.field-0 c.in_err-run.field-0.0 c.in_ok-text.ensures.short planned
           (inr c.in_err-run.ensures.fault),
     )
 
