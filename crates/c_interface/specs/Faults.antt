@@ -31,13 +31,13 @@ fault_number AskedTwice = 39
 fault_number StillUsed = 44
 
 -- done, or refused for want of memory
-abbrev pub IsDoneOrFull : ℕ → Type 0
-IsDoneOrFull status = (status ≡ 0) ⊎ (status ≡ fault_number NoMemory)
+abbrev pub IsDoneOrOutOfMemory : ℕ → Type 0
+IsDoneOrOutOfMemory status = (status ≡ 0) ⊎ (status ≡ fault_number NoMemory)
 
 -- what a call answers, by what its tests find: that, or, where they find nothing, done or want of memory
 abbrev pub IsStatusBy : Option CallFault → ℕ → Type 0
 IsStatusBy (Some f) status = status ≡ fault_number f
-IsStatusBy None status = IsDoneOrFull status
+IsStatusBy None status = IsDoneOrOutOfMemory status
 
 -- what a call answers that takes no memory, by what its tests find
 abbrev pub status_by : Option CallFault → ℕ

@@ -10,7 +10,7 @@ use Rattle.single_router.specs.declared.opening.Attachment.{Attachment}
 use Rattle.single_router.specs.Inputs.{told_fault}
 use Rattle.single_router.specs.Openings.{make_fault, made_router}
 use Rattle.daemon_laws.specs.Processes.{Carried, Processes}
-use Rattle.daemon_laws.specs.Happenings.{Happening, Tells, Takes, Loses, Publishes, PublishesSome, Forgets, Releases, BeginsAnew, IsOwn, CanHappen, with_router, is_same_end, with_coming, told, forgotten, with_released, next, after, Begins, AllCanHappen}
+use Rattle.daemon_laws.specs.Happenings.{Happening, Tells, Takes, Loses, Publishes, PublishesSome, Forgets, Releases, BeginsAnew, IsLocalInput, CanHappen, with_router, is_same_end, with_coming, told, forgotten, with_released, next, after, Begins, AllCanHappen}
 use Rattle.daemon_laws.specs.Facts.{fds_next}
 use Rattle.daemon_laws.proofs.Cases.{after_message, by_take, by_release}
 use Rattle.daemon_laws.proofs.Seen.{is_in}
@@ -281,7 +281,7 @@ module _ (t : Topology) (p : Prefix) (pfd : ℕ → ℕ) (w : Processes) (I : In
 
 module _ (t : Topology) (p : Prefix) (pfd : ℕ → ℕ) (w : Processes) (I : Invariant t p pfd w) (O : Orderly t p w) where
   -- a process tells its router
-  tells_orderly : (i : ℕ) (x : Input) → IsOwn w i x → Orderly t p (next t w (Tells i x))
+  tells_orderly : (i : ℕ) (x : Input) → IsLocalInput w i x → Orderly t p (next t w (Tells i x))
   tells_orderly i x own = grows_orderly t p pfd w (next t w (Tells i x)) I O (record {
     at = tells_at t p pfd w I i x own;
     more = subst (HoldsMore (w.routers i)) (sym (router_here i (told x) w.routers)) (told_more x (w.routers i));

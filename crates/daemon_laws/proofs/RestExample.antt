@@ -9,7 +9,7 @@ use Rattle.daemon_laws.specs.Processes.{Processes}
 use Rattle.daemon_laws.specs.Packets.{is_in_session}
 use Rattle.daemon_laws.specs.Happenings.{Happening, Tells, Takes, Loses, Publishes, PublishesSome, Forgets, Releases, BeginsAnew, next, after}
 use Rattle.daemon_laws.specs.Rest.{IsUpIn, NothingLost}
-use Rattle.daemon_laws.specs.Reached.{SomeRest}
+use Rattle.daemon_laws.specs.Reached.{ExampleOfRest}
 use Rattle.daemon_laws.proofs.Cases.{by_take, by_release}
 use Rattle.daemon_laws.proofs.Example.{first, begins, happenings, seven}
 
@@ -106,7 +106,7 @@ nothing_lost : NothingLost pair rest
 nothing_lost e session is = each_place (λ d. is_in_session rest d session ≡ true → rest.lost d session ≡ false) (λ on. subst (λ (k : ℕ). rest.lost (at_port 0 0) k ≡ false) (eqb-true 2 session on) refl) (λ on. refl) e is.valid is.near
 
 -- the two routers are at rest
-pub some_rest : SomeRest
+pub some_rest : ExampleOfRest
 some_rest = record {
   topology = pair;
   first = first;

@@ -11,7 +11,7 @@ use Rattle.single_router.specs.declared.input.Input.{Input}
 use Rattle.single_router.specs.declared.input.Input.TheVariants as input
 use Rattle.daemon_laws.specs.Processes.{Carried, Processes}
 use Rattle.daemon_laws.specs.Packets.{is_in_session}
-use Rattle.daemon_laws.specs.Happenings.{Happening, Tells, Takes, Loses, Publishes, PublishesSome, Forgets, Releases, BeginsAnew, IsOwn, CanHappen, with_router, is_same_end, with_coming, told, forgotten, sent_from, with_released, next}
+use Rattle.daemon_laws.specs.Happenings.{Happening, Tells, Takes, Loses, Publishes, PublishesSome, Forgets, Releases, BeginsAnew, IsLocalInput, CanHappen, with_router, is_same_end, with_coming, told, forgotten, sent_from, with_released, next}
 use Rattle.daemon_laws.specs.Facts.{fd_then, fds_next}
 use Rattle.daemon_laws.proofs.Cases.{after_message, by_take, by_release}
 use Rattle.daemon_laws.proofs.Seen.{carried, is_in}
@@ -64,7 +64,7 @@ coming_away e f cs d apart = let off : is_same_end d e ≡ false = false_from_ne
 
 module _ (t : Topology) (p : Prefix) (pfd : ℕ → ℕ) (w : Processes) (I : Invariant t p pfd w) where
   -- a process tells its router
-  abbrev pub tells_at : (i : ℕ) (x : Input) → IsOwn w i x → GoesAt t p w (next t w (Tells i x))
+  abbrev pub tells_at : (i : ℕ) (x : Input) → IsLocalInput w i x → GoesAt t p w (next t w (Tells i x))
   tells_at i x own =
       let G : GoesAlone p x (w.routers i) (told x (w.routers i)) = goes_told p (w.routers i) (I.keeps i) (I.sound i) w i x own in
       let now : with_router i (told x) w.routers i ≡ told x (w.routers i) = router_here i (told x) w.routers in
@@ -81,7 +81,7 @@ module _ (t : Topology) (p : Prefix) (pfd : ℕ → ℕ) (w : Processes) (I : In
         fresh = λ j lt. (
             let same : session_at (with_router i (told x) w.routers i).ports j ≡ session_at (told x (w.routers i)).ports j = ap (λ (r : Router). session_at r.ports j) now in
             let g = G.grows j (omega (arith, lt, same)) in
-            let own_up : IsOwn w i (input.Up j (session_at (told x (w.routers i)).ports j) g.0) = subst (IsOwn w i) g.1 own in
+            let own_up : IsLocalInput w i (input.Up j (session_at (told x (w.routers i)).ports j) g.0) = subst (IsLocalInput w i) g.1 own in
             let later = own_up.0 in
             omega (arith, later, same));
         coming_at = λ v n may. sym (ap (λ o. front o ++ live n (carried p (w.coming (at_port i G.q)))) (G.takes_nothing n));
@@ -89,7 +89,7 @@ module _ (t : Topology) (p : Prefix) (pfd : ℕ → ℕ) (w : Processes) (I : In
       }
 
   -- that keeps the invariant
-  tells_keeps : (i : ℕ) (x : Input) → IsOwn w i x → Invariant t p pfd (next t w (Tells i x))
+  tells_keeps : (i : ℕ) (x : Input) → IsLocalInput w i x → Invariant t p pfd (next t w (Tells i x))
   tells_keeps i x own = goes_keeps t p pfd w (next t w (Tells i x)) I (tells_at i x own)
 
   -- a message as the prefix sees it

@@ -11,7 +11,7 @@ use Rattle.single_router.specs.declared.input.Input.TheVariants as input
 use Rattle.no_packet_loops.proofs.Machines.{prefix_same}
 use Rattle.daemon_laws.specs.Processes.{Processes}
 use Rattle.daemon_laws.specs.Packets.{is_in_session}
-use Rattle.daemon_laws.specs.Happenings.{IsOwn, told}
+use Rattle.daemon_laws.specs.Happenings.{IsLocalInput, told}
 use Rattle.daemon_laws.proofs.Seen.{is_in}
 use Rattle.daemon_laws.proofs.Routers.{RouterKept, Unmoved, unmoved_elsewhere}
 use Rattle.daemon_laws.proofs.Moving.{port_within, in_session}
@@ -121,7 +121,7 @@ none_either false = refl
 
 module _ (p : Prefix) (r : Router) (R : RouterKept p r) (sound : IsSound (machine_of r p)) where
   -- a router that takes an input of its process's own, in which no fault is found
-  goes_own : (w : Processes) (k : ℕ) (i : Input) → IsOwn w k i → told_fault i r ≡ None → GoesAlone p i r (router_after i r)
+  goes_own : (w : Processes) (k : ℕ) (i : Input) → IsLocalInput w k i → told_fault i r ≡ None → GoesAlone p i r (router_after i r)
   goes_own w k (input.Up q s c) own h =
       let P = passed (slice_get r.ports q) (up_fault s) h in
       let u = up_passes s P.port P.passes in
@@ -180,7 +180,7 @@ module _ (p : Prefix) (r : Router) (R : RouterKept p r) (sound : IsSound (machin
   goes_not i = record { q = 0; took = nothing; goes = goes_unmoved p r r 0 sound (still p r R); takes_nothing = λ n. refl; grows = λ j lt. absurd (omega (arith, lt)) }
 
   -- a router that is told an input of its process's own
-  pub goes_told : (w : Processes) (k : ℕ) (i : Input) → IsOwn w k i → GoesAlone p i r (told i r)
+  pub goes_told : (w : Processes) (k : ℕ) (i : Input) → IsLocalInput w k i → GoesAlone p i r (told i r)
   goes_told w k i own = by_fault (told_fault i r) refl
     where
       by_fault : (o : Option CallFault) → told_fault i r ≡ o → GoesAlone p i r (if is_none o then router_after i r else r)

@@ -41,17 +41,17 @@ pub data Happening : Type 0 where
 
 -- an input that the process of router i finds by itself: a link comes up in a session later than each that its end was in and of
 -- which something is left, and a cost is a cost; messages come from others
-abbrev pub IsOwn : Processes → ℕ → Input → Type 0
-IsOwn w i (Up port session cost) = (w.last (at_port i port) < session) × IsCost cost
-IsOwn w i (Down port) = ⊤
-IsOwn w i (Cost port cost) = IsCost cost
-IsOwn w i (Message port session m) = ⊥
-IsOwn w i (Attached p cost) = IsCost cost
-IsOwn w i (Detached p) = ⊤
+abbrev pub IsLocalInput : Processes → ℕ → Input → Type 0
+IsLocalInput w i (Up port session cost) = (w.last (at_port i port) < session) × IsCost cost
+IsLocalInput w i (Down port) = ⊤
+IsLocalInput w i (Cost port cost) = IsCost cost
+IsLocalInput w i (Message port session m) = ⊥
+IsLocalInput w i (Attached p cost) = IsCost cost
+IsLocalInput w i (Detached p) = ⊤
 
 -- what a process tells is its own, and a router that it makes has no fault; all else may happen
 abbrev pub CanHappen : Processes → Happening → Type 0
-CanHappen w (Tells i input) = IsOwn w i input
+CanHappen w (Tells i input) = IsLocalInput w i input
 CanHappen w (Takes e) = ⊤
 CanHappen w (Loses e) = ⊤
 CanHappen w (Publishes i) = ⊤

@@ -28,7 +28,7 @@ pub record SomePacketGoes : Type 0 where
 
 -- something may happen after which two routers are at rest: router 0 is attached at cost 1, and router 1, which has begun anew
 -- since, is at distance 8 by way of its port 0, in session 2; in the first session a message was lost
-pub record SomeRest : Type 0 where
+pub record ExampleOfRest : Type 0 where
   pub topology : Topology
   pub first : Processes
   pub happenings : List Happening

@@ -44,7 +44,7 @@ ghost use Rattle.daemon_laws.specs.Happenings.{AfterIsReached, HoldsAlways, None
 ghost use Rattle.daemon_laws.specs.Moments.{FourFactsHoldThere};
 ghost use Rattle.daemon_laws.specs.Numbers.{NumbersSuffice};
 ghost use Rattle.daemon_laws.specs.Packets.{NoMixtureLoops, NoPacketCircles, NoPacketLoops, NoUnmarkedCircles, NoUnmarkedLoops, NoUnmarkedMixtureLoops, NoUnmarkedWrittenCircles, NoWrittenCircles};
-ghost use Rattle.daemon_laws.specs.Reached.{SomeForgets, SomeNeighbour, SomePacketGoes, SomeRest, SomeSessionAgain};
+ghost use Rattle.daemon_laws.specs.Reached.{SomeForgets, SomeNeighbour, SomePacketGoes, ExampleOfRest, SomeSessionAgain};
 ghost use Rattle.daemon_laws.specs.Rest.{RestIsAlwaysBest};
 
 /// The laws hold at every moment that routers come to, by happenings one after another and by ports that get
@@ -115,7 +115,7 @@ pub fn some_packet()
 
 /// Nor of routers at rest.
 pub fn some_rest()
-    ensures { SomeRest }
+    ensures { ExampleOfRest }
 {}
 
 /// Nor of sessions whose numbers are used again.

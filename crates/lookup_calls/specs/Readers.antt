@@ -1,7 +1,7 @@
 -- What the calls of writers and readers can answer.
 use Rattle.std.specs.Prelude.{◌≡◌, ℕ, ◌⊎◌, ◌==◌, ◌≤◌, ◌<◌, Bool, true, false, Option, None, Some, length}
 use Rattle.row_words.specs.Rows.{WordTable}
-use Rattle.c_interface.specs.Faults.{fault_number, IsDoneOrFull}
+use Rattle.c_interface.specs.Faults.{fault_number, IsDoneOrOutOfMemory}
 use Rattle.c_interface.specs.declared.fault.CallFault.{CallFault}
 use Rattle.c_interface.specs.declared.fault.CallFault.TheVariants.{Empty, BadCount, Shared}
 use Rattle.lookup_calls.specs.Histories.{History}
@@ -9,18 +9,18 @@ use Rattle.lookup_calls.specs.Histories.{History}
 -- what the call answers that makes a writer, by the image, if there is one
 abbrev pub IsOpenStatus : Option WordTable → ℕ → ℕ → Type 0
 IsOpenStatus None readers status = status ≡ fault_number Empty
-IsOpenStatus (Some image) readers status = ((1024 < readers) × (status ≡ fault_number BadCount)) ⊎ ((readers ≤ 1024) × IsDoneOrFull status)
+IsOpenStatus (Some image) readers status = ((1024 < readers) × (status ≡ fault_number BadCount)) ⊎ ((readers ≤ 1024) × IsDoneOrOutOfMemory status)
 
 -- what the call answers that makes a reader, by the writer, if there is one
 abbrev pub IsSeatStatus : Option History → ℕ → Type 0
 IsSeatStatus None status = status ≡ fault_number Empty
-IsSeatStatus (Some h) status = (status ≡ fault_number BadCount) ⊎ IsDoneOrFull status
+IsSeatStatus (Some h) status = (status ≡ fault_number BadCount) ⊎ IsDoneOrOutOfMemory status
 
 -- what the call answers that publishes, by the fault of its lists and by the writer, if there is one
 abbrev pub IsPublishStatus : Option CallFault → Option History → ℕ → Type 0
 IsPublishStatus (Some f) writer status = status ≡ fault_number f
 IsPublishStatus None None status = status ≡ fault_number Empty
-IsPublishStatus None (Some h) status = (status ≡ fault_number Shared) ⊎ IsDoneOrFull status
+IsPublishStatus None (Some h) status = (status ≡ fault_number Shared) ⊎ IsDoneOrOutOfMemory status
 
 -- what a look-up by a reader answers that is there, by whether there are as many answers as addresses
 abbrev pub IsReadOf : Bool → ℕ → Type 0

@@ -24,13 +24,13 @@ failure_number (Network f) = network_number f
 failure_number (Refused e) = refusal_number e
 
 -- done, or refused for want of memory
-abbrev pub IsDoneOrFull : ℕ → Type 0
-IsDoneOrFull status = (status ≡ 0) ⊎ (status ≡ 20)
+abbrev pub IsDoneOrOutOfMemory : ℕ → Type 0
+IsDoneOrOutOfMemory status = (status ≡ 0) ⊎ (status ≡ 20)
 
 -- what a call answers, by what its tests find: that, or, where they find nothing, done or want of memory
 abbrev pub IsStatusBy : Option Failure → ℕ → Type 0
 IsStatusBy (Some f) status = status ≡ failure_number f
-IsStatusBy None status = IsDoneOrFull status
+IsStatusBy None status = IsDoneOrOutOfMemory status
 
 -- the same of a call that may need memory for this alone
 abbrev pub IsStatusOnlyBy : Option Failure → Type 0 → ℕ → Type 0

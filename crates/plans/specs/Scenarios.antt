@@ -7,7 +7,7 @@ use Rattle.scenario.specs.Scenario.{lists_in, HasNoLists}
 use Rattle.texts.specs.Words.{Text}
 use Rattle.texts.specs.Lists.{Lists}
 use Rattle.script.specs.Routers.{no_router}
-use Rattle.script.specs.Reading.{Parts, AreParts, ReadingStops}
+use Rattle.script.specs.Reading.{Parts, AreParts, ReadingOutcome}
 use Rattle.script.specs.Directories.{directory_of}
 use Rattle.script.specs.declared.fault.LineFault.{LineFault as TextFault}
 use Rattle.script.specs.declared.fault.LineFault.TheVariants.{BadName}
@@ -31,7 +31,7 @@ pub record IsRead (text : Text) (parts : Parts) (stop : Option Located) : Type 0
   pub lists : Lists
   pub are_lists : option_and_then lists_in (parse_document text) ≡ Some lists
   pub read : AreParts lists parts
-  pub stops : ReadingStops lists parts stop
+  pub stops : ReadingOutcome lists parts stop
 
 -- ---- the first fault
 

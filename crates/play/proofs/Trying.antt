@@ -3,8 +3,8 @@ use Rattle.std.specs.Prelude.{⊤}
 use Rattle.std.proofs.Common.{inl, inr, List, [], ◌∷◌, ◌++◌, Result, Ok, Err, IfErr, OnOk, refl, subst}
 use Rattle.faults.specs.declared.kind.FaultKind.{FaultKind}
 use Rattle.script.specs.declared.command.Command.{Command}
-use Rattle.sessions.specs.Commands.{AreTried, IsDone, IsRefused, IsTried}
-use Rattle.sessions.specs.Nets.{Meaning}
+use Rattle.interpreter.specs.Commands.{AreTried, IsDone, IsRefused, IsTried}
+use Rattle.interpreter.specs.Nets.{Meaning}
 use Rattle.play.specs.Works.{WereTried}
 
 module _ {S : Type 0} (k : Meaning S) where

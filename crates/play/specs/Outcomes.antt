@@ -9,7 +9,7 @@ use Rattle.plans.specs.declared.outcome.Outcome.{Outcome}
 use Rattle.plans.specs.declared.outcome.Outcome.TheVariants.{Done}
 use Rattle.plans.specs.Faults.{OfBytes, status_at, status_of}
 use Rattle.plans.specs.Scenarios.{StopsReading}
-use Rattle.sessions.specs.Nets.{counted_meaning, kept_meaning, opening_counted}
+use Rattle.interpreter.specs.Nets.{counted_meaning, kept_meaning, opening_counted}
 use Rattle.play.specs.Ends.{IsChecked, KeepsJournal}
 use Rattle.timing.specs.Ends.{IsTimedToEnd, StopsTime}
 use Rattle.play.specs.Replays.{Replays, StopsReplay}
@@ -38,7 +38,7 @@ StopsWords (Shell _ _ false _ _) scenario journal fault = OfBytes scenario (λ b
 StopsWords (Shell _ _ true _ _) scenario journal fault = OfBytes scenario (λ bytes. StopsOn opening_counted IsOfNothing (Stops counted_meaning true) bytes fault)
 
 -- the program comes to an end, whose status it answers; or it stops for a fault, whose status it answers, and which alone its caller is handed: nothing is added to what is kept
-abbrev pub IsPlayed : Bool → Words → Option Text → Option Text → Text → Text → Option Fault → Option Fault → ℕ → Type 0
-IsPlayed wanted words scenario journal old new told told_after status =
+abbrev pub ProgramOutcome : Bool → Words → Option Text → Option Text → Text → Text → Option Fault → Option Fault → ℕ → Type 0
+ProgramOutcome wanted words scenario journal old new told told_after status =
     ((end : Outcome) × (status ≡ status_at end) × Ends wanted words scenario journal old new end × (told_after ≡ told))
     ⊎ ((fault : Fault) × (status ≡ status_of fault.kind) × StopsWords words scenario journal fault × (new ≡ old) × (told_after ≡ Some fault))

@@ -10,9 +10,9 @@ use Rattle.plans.specs.declared.fault.Fault.{Fault}
 use Rattle.plans.specs.declared.plan.Plan.{Plan}
 use Rattle.plans.specs.Faults.{most_bytes, CannotRead, IsWantOfMemory, IsWithoutReaders}
 use Rattle.plans.specs.Scenarios.{IsScenario, StopsReading, network_read}
-use Rattle.sessions.specs.Commands.{AreDone, AreTried, StopsAtCommand}
-use Rattle.sessions.specs.Dispatching.{IsUnanswered}
-use Rattle.sessions.specs.Nets.{Meaning, kept_meaning}
+use Rattle.interpreter.specs.Commands.{AreDone, AreTried, StopsAtCommand}
+use Rattle.interpreter.specs.Dispatching.{IsUnanswered}
+use Rattle.interpreter.specs.Nets.{Meaning, kept_meaning}
 
 -- ---- what is done on a network that was opened
 

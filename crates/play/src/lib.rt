@@ -26,14 +26,14 @@
 //!
 //! A network is opened as a fabric, whose steps are kept, or, with `--no-journal`, as a simulation, which counts them
 //! alone. On either the commands of the script are done, or those of the lines of a shell (`src/shell.rt`).
-//! `src/opening.rt` opens the network, and closes it whatever comes of them. The commands themselves are in `sessions`.
+//! `src/opening.rt` opens the network, and closes it whatever comes of them. The commands themselves are in `interpreter`.
 //! The steps of a journal (`src/replay.rt`) are a simulation's, too.
 //!
 //! What always holds: each command of the command line comes to an end that its definition names, with the
 //! status of that end. Or it stops for a fault that holds of what was read, with the status of that fault
-//! (`IsPlayed` in `specs/Outcomes.antt`). So a run ends with 0 only if its script was done to the end, and
+//! (`ProgramOutcome` in `specs/Outcomes.antt`). So a run ends with 0 only if its script was done to the end, and
 //! each step that was done was lawful (`IsRunToEnd` in `specs/Works.antt`). `AreDone` in
-//! `sessions/specs/Commands.antt` says what each command does.
+//! `interpreter/specs/Commands.antt` says what each command does.
 //!
 //! What is tricky: a write that fails is lost, and changes nothing else, but that a shell ends at an answer which
 //! nobody reads any more. What is printed is not in these
@@ -61,7 +61,7 @@ mod replay;
 mod shell;
 
 pub use faults::FaultKind;
+pub use interpreter::{Host, NO_THRESHOLDS, NoGate, THRESHOLDS, Thresholds, TurnGate};
 pub use keeping::Keeper;
 pub use plans::{Fault, Outcome, Plan, Source, read_bytes, read_plan, read_text, refuse};
 pub use program::{play, play_by, run_quietly};
-pub use sessions::{Host, NO_THRESHOLDS, NoGate, THRESHOLDS, Thresholds, TurnGate};

@@ -4,18 +4,18 @@ ghost use Rattle.std.specs.Prelude.{◌≡◌, ◌⊎◌, Ok, Err, IfErr, OnOk, 
 ghost use Rattle.fabric.specs.Fabric.{opening_fabric};
 ghost use Rattle.fabric.specs.Writers.{opening_tables};
 ghost use Rattle.plans.specs.Faults.{IsWantOfMemory};
-ghost use Rattle.sessions.specs.Nets.{counted_meaning, kept_meaning, opening_counted};
+ghost use Rattle.interpreter.specs.Nets.{counted_meaning, kept_meaning, opening_counted};
 ghost use Rattle.play.specs.Works.{Comes, IsOfNothing, IsOfWorkers, IsWithoutAnswers, Stops, StopsWork, Works, none_kept};
 
 use crate::keeping::Keeper;
 use crate::shell::do_lines;
 use fabric::{Fabric, FabricName, Unnamed};
+use interpreter::{
+    Counted, Crew, Host, Interpreter, Kept, Live, PrintStyle, TurnGate, do_commands, end_line,
+};
 use lines::{Ended, Line};
 use plans::{Fault, Plan};
 use script::{Command, Directory};
-use sessions::{
-    Counted, Crew, Host, Kept, Live, PrintStyle, Session, TurnGate, do_commands, end_line,
-};
 use std::alloc::Global;
 use std::io::{Read, Write};
 use std::marker::Brand;
@@ -102,7 +102,7 @@ where
     } = plan;
     let workers = hands.workers.max(1).min(16);
     let (fabric, readers) = Fabric::<B>::open(rt, alloc, network, unnamed, workers)?;
-    let session = Session {
+    let interpreter = Interpreter {
         alloc,
         gate,
         directory: &directory,
@@ -110,7 +110,7 @@ where
     };
     match Kept::new(*rt, alloc, hands.crew, fabric, readers) {
         Ok(net) => {
-            let (fabric, done) = finish_kept(&session, net, typed, &commands, out, err);
+            let (fabric, done) = finish_kept(&interpreter, net, typed, &commands, out, err);
             let ended = keep(done, &fabric, &directory, keeper, kept);
             fabric.close(rt);
             ended
@@ -125,7 +125,7 @@ where
 // Does the script or the lines on a network whose steps are kept, and waits for the workers. No worker is left
 // running, whatever came of it.
 fn finish_kept<B, H, G, J, W, E>(
-    session: &Session<'_, G>,
+    interpreter: &Interpreter<'_, G>,
     mut net: Kept<B, H>,
     typed: Option<J>,
     commands: &[Command],
@@ -143,7 +143,7 @@ where
     ensures fault { IfErr result.1 (λ e. Stops kept_meaning (is_some typed) commands.now net result.0 e
         ⊎ IsWithoutAnswers e) }
 {
-    let done = do_all(session, &mut net, typed, commands, out, err);
+    let done = do_all(interpreter, &mut net, typed, commands, out, err);
     let (fabric, answered) = net.close();
     match (done, answered) {
         (Ok(()), Err(kind)) => (fabric, Err(Fault::from(kind))),
@@ -196,18 +196,18 @@ where
         commands,
     } = plan;
     let mut net = Counted::open(alloc, network)?;
-    let session = Session {
+    let interpreter = Interpreter {
         alloc,
         gate,
         directory: &directory,
         style,
     };
-    do_all(&session, &mut net, typed, &commands, out, err)
+    do_all(&interpreter, &mut net, typed, &commands, out, err)
 }
 
 // Does the script, or the lines that are typed, and says how many steps were done.
 fn do_all<N, G, J, W, E>(
-    session: &Session<'_, G>,
+    interpreter: &Interpreter<'_, G>,
     net: &mut N,
     typed: Option<J>,
     commands: &[Command],
@@ -224,14 +224,14 @@ where
     ensures fault { IfErr result (Stops N.meaning (is_some typed) commands.now net.old net.new) }
 {
     match typed {
-        Some(input) => do_lines(session, net, input, out, err)?,
+        Some(input) => do_lines(interpreter, net, input, out, err)?,
         None => {
-            let done = do_commands(session, net, commands, out, err);
-            end_line(session.style.progress, err);
+            let done = do_commands(interpreter, net, commands, out, err);
+            end_line(interpreter.style.progress, err);
             done?;
         }
     }
     let done = Ended::Done { steps: net.steps() };
-    let _ = session.printer().print(&Line::Ended(done), out);
+    let _ = interpreter.printer().print(&Line::Ended(done), out);
     Ok(())
 }

@@ -3,10 +3,10 @@
 ghost use Rattle.std.specs.Prelude.{◌≡◌, ◌++◌, true, false, Some, IfOk, IfErr, OnErr, OnOk, is_some};
 ghost use Rattle.fabric.specs.Fabric.{opening_fabric};
 ghost use Rattle.plans.specs.Faults.{OfBytes};
-ghost use Rattle.sessions.specs.Nets.{counted_meaning, kept_meaning, opening_counted};
+ghost use Rattle.interpreter.specs.Nets.{counted_meaning, kept_meaning, opening_counted};
 ghost use Rattle.play.specs.Ends.{KeepsJournal};
 ghost use Rattle.play.specs.Works.{Comes, IsOfNothing, IsOfWorkers, IsWorked, Stops, StopsOn, StopsWork, Works, none_kept};
-ghost use Rattle.play.specs.Outcomes.{Ends, IsPlayed, StopsWords};
+ghost use Rattle.play.specs.Outcomes.{Ends, ProgramOutcome, StopsWords};
 
 use crate::checking::check;
 use crate::keeping::{JournalText, Keeper};
@@ -14,9 +14,9 @@ use crate::opening::{Hands, with_fabric, with_simulation};
 use crate::replay::replay;
 use command_line::{Format, Words};
 use faults::Page;
+use interpreter::{Crew, Host, NoGate, PrintStyle, THRESHOLDS, Thresholds, TurnGate};
 use network_model::NoMemory;
 use plans::{Fault, Outcome, Plan, read_plan, read_text, refuse};
-use sessions::{Crew, Host, NoGate, PrintStyle, THRESHOLDS, Thresholds, TurnGate};
 use std::alloc::Global;
 use std::io;
 use std::io::{Empty, Read, Write};
@@ -44,7 +44,7 @@ where
     J: Read + Drop,
     W: Write,
     E: Write,
-    ensures { IsPlayed true words.now (R.remaining scenario) (J.remaining journal)
+    ensures { ProgramOutcome true words.now (R.remaining scenario) (J.remaining journal)
         kept.old.items kept.new.items told.old told.new result }
 {
     play_by(
@@ -75,7 +75,7 @@ where
     J: Read + Drop,
     W: Write,
     E: Write,
-    ensures { IsPlayed wanted words.now (R.remaining scenario) (J.remaining journal)
+    ensures { ProgramOutcome wanted words.now (R.remaining scenario) (J.remaining journal)
         kept.old.items kept.new.items told.old told.new result }
 {
     let by = (thresholds, gate);

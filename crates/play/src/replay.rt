@@ -6,18 +6,18 @@ ghost use Rattle.network_model.specs.Run.{Runs};
 ghost use Rattle.world.specs.Steps.{CanBeRefused, StopsAt};
 ghost use Rattle.plans.specs.Faults.{IsWantOfMemory, OfBytes};
 ghost use Rattle.network_model.specs.Step.{Lawful};
-ghost use Rattle.sessions.specs.Nets.{counted_after};
+ghost use Rattle.interpreter.specs.Nets.{counted_after};
 ghost use Rattle.play.specs.Replays.{Replays, StepsReplay, StopsReplay, replay_refusal};
 
 use command_line::Format;
 use fabric::MOST_STEPS;
 use faults::{Brief, FaultKind};
+use interpreter::{Counted, Interpreter, Live, NoGate, PrintStyle, end_line, show_steps_done};
 use journal::{Journal, StepText, Version, first_difference, read_journal};
 use lines::{Ended, Line, Printer, print_report};
 use network_model::{LinkSpec, NoMemory, Refusal, Step};
 use plans::{Fault, Outcome, read_bytes, read_plan, read_text};
 use script::Directory;
-use sessions::{Counted, Live, NoGate, PrintStyle, Session, end_line, show_steps_done};
 use std::alloc::Global;
 use std::io;
 use std::io::{Read, Write};
@@ -58,19 +58,19 @@ where
         &lines,
     )?;
     let mut live = Counted::open(alloc, plan.network)?;
-    let session = Session {
+    let interpreter = Interpreter {
         alloc,
         gate: &NoGate,
         directory: &plan.directory,
         style,
     };
-    let end = do_journal(&session, &mut live, &journal, out, err)?;
+    let end = do_journal(&interpreter, &mut live, &journal, out, err)?;
     Ok(end)
 }
 
 // Does the steps of a journal, and compares the reports.
 fn do_journal<W: Write, E: Write>(
-    session: &Session<'_, NoGate>,
+    interpreter: &Interpreter<'_, NoGate>,
     live: &mut Counted,
     journal: &Journal<'_>,
     out: &mut W,
@@ -81,18 +81,18 @@ fn do_journal<W: Write, E: Write>(
         (live.old).simulation.world (live.new).simulation.world) }
     ensures fault { IfErr result IsWantOfMemory }
 {
-    let ran = do_steps(live, &journal.steps, session.style.progress, err);
-    end_line(session.style.progress, err);
-    let printer = session.printer();
+    let ran = do_steps(live, &journal.steps, interpreter.style.progress, err);
+    end_line(interpreter.style.progress, err);
+    let printer = interpreter.printer();
     if let Some(refusal) = ran.refusal {
         let step = ran.done + 1;
         let fault = FaultKind::from(refusal);
         let refused = Ended::Refused { step, fault };
         let _ = printer.print(&Line::Ended(refused), out);
-        if session.style.explain {
+        if interpreter.style.explain {
             let _ = out.flush();
             let links = live.network().links();
-            let _ = explain_refusal(session.directory, links, journal, ran.done, refusal, err);
+            let _ = explain_refusal(interpreter.directory, links, journal, ran.done, refusal, err);
         }
         return Ok(Outcome::Refused);
     }
@@ -102,7 +102,7 @@ fn do_journal<W: Write, E: Write>(
             let _ = printer.print(&Line::Ended(done), out);
             Ok(Outcome::Done)
         }
-        Version::Two => compare(session, live.world(), journal, out, err),
+        Version::Two => compare(interpreter, live.world(), journal, out, err),
     }
 }
 
@@ -174,7 +174,7 @@ fn do_next(live: &mut Counted, step: Step, done: usize) -> Result<(), Refusal>
 
 // Compares the report of what the steps of a journal made with the journal's.
 fn compare<W: Write, E: Write>(
-    session: &Session<'_, NoGate>,
+    interpreter: &Interpreter<'_, NoGate>,
     world: &World,
     journal: &Journal<'_>,
     out: &mut W,
@@ -183,10 +183,10 @@ fn compare<W: Write, E: Write>(
     ensures end { IfOk result (λ end. (end ≡ Outcome.Done) ⊎ (end ≡ Outcome.Differs)) }
     ensures fault { IfErr result IsWantOfMemory }
 {
-    let printer = session.printer();
-    let mut printed = Vec::new(session.alloc);
+    let printer = interpreter.printer();
+    let mut printed = Vec::new(interpreter.alloc);
     let kept = Printer {
-        directory: session.directory,
+        directory: interpreter.directory,
         format: Format::Text,
     };
     if print_report(world, &kept, &mut printed).is_err() {
@@ -196,7 +196,7 @@ fn compare<W: Write, E: Write>(
         Some(line) => {
             let differs = Ended::Differs { line };
             let _ = printer.print(&Line::Ended(differs), out);
-            if session.style.explain {
+            if interpreter.style.explain {
                 let _ = out.flush();
                 let _ = explain_difference(line, journal.report, &printed, err);
             }

@@ -6,16 +6,16 @@ ghost use Rattle.play.specs.Works.{CannotReadOn, WereTried};
 use crate::answers::{Listed, TypedLine, begin_answer, end_answer, print_fault, print_text};
 use command_line::{Format, SHELL_COMMANDS};
 use faults::FaultKind;
+use interpreter::{Interpreter, Live, TurnGate, do_command};
 use plans::{Fault, read_failure};
 use script::read_command;
-use sessions::{Live, Session, TurnGate, do_command};
 use std::io::{BufRead, BufReader, ErrorKind, Read, Write};
 
 /// Does the commands that the lines of an input say, each answered at once, to the end of the input or to `quit`, or
 /// to the first answer that nobody reads any more. A line that cannot be read or whose command is refused ends nothing: it
 /// is told on `err`, and as JSON in its answer.
 pub fn do_lines<N, G, J, W, E>(
-    session: &Session<'_, G>,
+    interpreter: &Interpreter<'_, G>,
     net: &mut N,
     input: J,
     out: &mut W,
@@ -30,7 +30,7 @@ where
     ensures tried { WereTried N.meaning net.old net.new }
     ensures fault { IfErr result CannotReadOn }
 {
-    let alloc = session.alloc;
+    let alloc = interpreter.alloc;
     let reader = match BufReader::new(alloc, input) {
         Ok(reader) => reader,
         Err(error) => return Err(Fault::from(read_failure(&error))),
@@ -40,7 +40,7 @@ where
         number = number.saturating_add(1);
         match line {
             Ok(line) => {
-                if !do_line(session, net, number, &line, out, err) {
+                if !do_line(interpreter, net, number, &line, out, err) {
                     return Ok(());
                 }
             }
@@ -53,7 +53,7 @@ where
 // Does what the line of this number says, tells of it where it cannot be read or is refused, and answers
 // whether the shell goes on.
 fn do_line<N, G, W, E>(
-    session: &Session<'_, G>,
+    interpreter: &Interpreter<'_, G>,
     net: &mut N,
     number: usize,
     line: &[u8],
@@ -68,20 +68,20 @@ where
     ensures { WereTried N.meaning net.old net.new }
 {
     let line = line.strip_suffix(b"\r").unwrap_or(line);
-    let done = answer_line(session, net, number, line, out);
+    let done = answer_line(interpreter, net, number, line, out);
     let (goes_on, fault) = match done {
         Ok(goes_on) => (goes_on, None),
         Err(kind) => (true, Some(Fault::from(kind))),
     };
     let typed = TypedLine {
-        alloc: session.alloc,
-        names: session.directory.names(),
+        alloc: interpreter.alloc,
+        names: interpreter.directory.names(),
         links: net.network().links(),
-        explain: session.style.explain,
+        explain: interpreter.style.explain,
         number,
         line,
     };
-    match (session.style.format, fault) {
+    match (interpreter.style.format, fault) {
         (Format::Text, Some(fault)) => print_fault(&typed, fault, out, err),
         (Format::Text, None) => {}
         (Format::Json, fault) => {
@@ -97,7 +97,7 @@ where
 // Does what the line of this number says, and answers whether the shell goes on. As JSON, what it prints
 // is the list of an answer that has begun.
 fn answer_line<N, G, W>(
-    session: &Session<'_, G>,
+    interpreter: &Interpreter<'_, G>,
     net: &mut N,
     number: usize,
     line: &[u8],
@@ -109,18 +109,18 @@ where
     W: Write,
     ensures { WereTried N.meaning net.old net.new }
 {
-    match session.style.format {
-        Format::Text => answer(session, net, line, out),
+    match interpreter.style.format {
+        Format::Text => answer(interpreter, net, line, out),
         Format::Json => {
             let _ = begin_answer(number, out);
-            answer(session, net, line, &mut Listed::new(out))
+            answer(interpreter, net, line, &mut Listed::new(out))
         }
     }
 }
 
 // Does what a line says, and answers whether the shell goes on. An empty line says nothing.
 fn answer<N, G, W>(
-    session: &Session<'_, G>,
+    interpreter: &Interpreter<'_, G>,
     net: &mut N,
     line: &[u8],
     out: &mut W,
@@ -138,22 +138,22 @@ where
         "" => Ok(true),
         "quit" => Ok(false),
         "help" => {
-            let _ = print_text(session.style.format, "help", SHELL_COMMANDS, out);
+            let _ = print_text(interpreter.style.format, "help", SHELL_COMMANDS, out);
             Ok(true)
         }
         _ => match line.strip_prefix("say ") {
             Some(text) => {
-                let _ = print_text(session.style.format, "said", text, out);
+                let _ = print_text(interpreter.style.format, "said", text, out);
                 Ok(true)
             }
-            None => do_typed(session, net, line, out),
+            None => do_typed(interpreter, net, line, out),
         },
     }
 }
 
 // Does the command that a line says; the shell goes on.
 fn do_typed<N, G, W>(
-    session: &Session<'_, G>,
+    interpreter: &Interpreter<'_, G>,
     net: &mut N,
     line: &str,
     out: &mut W,
@@ -166,13 +166,13 @@ where
 {
     let opened = net.network();
     match read_command(
-        session.directory.names(),
+        interpreter.directory.names(),
         opened.links(),
         opened.attachments(),
         line,
     ) {
         Ok(command) => {
-            let done = do_command(session, net, command, out, &mut ());
+            let done = do_command(interpreter, net, command, out, &mut ());
             match done {
                 Ok(()) => Ok(true),
                 Err(kind) => Err(kind),

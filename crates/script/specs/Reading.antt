@@ -92,8 +92,8 @@ ReadingStopsAt lists parts fault None =
     × (parts.commands ≡ [])
 
 -- reading came to the end, or stopped at the fault
-abbrev pub ReadingStops : Lists → Parts → Option Located → Type 0
-ReadingStops lists parts (Some at) = ReadingStopsAt lists parts at.fault at.place
-ReadingStops lists parts None =
+abbrev pub ReadingOutcome : Lists → Parts → Option Located → Type 0
+ReadingOutcome lists parts (Some at) = ReadingStopsAt lists parts at.fault at.place
+ReadingOutcome lists parts None =
     IsWhole lists.routers parts.names × IsWhole lists.links parts.links × IsWhole lists.prefixes parts.attachments
     × IsWhole lists.script parts.commands × (length lists.script ≤ most_commands)

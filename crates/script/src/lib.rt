@@ -24,7 +24,7 @@
 //!
 //! What always holds: what was read is what the first lines say, in order, and nothing else (`AreParts` in
 //! `specs/Reading.antt`). The fault is that of the line behind them, at its position in its list
-//! (`ReadingStops`). The names are 1 to 16 small letters and digits, a letter first, and no two are the same
+//! (`ReadingOutcome`). The names are 1 to 16 small letters and digits, a letter first, and no two are the same
 //! (`AreNames` in `specs/Routers.antt`). The name of a router and the one across its port are those of the
 //! network's links (`specs/Directories.antt`).
 //!

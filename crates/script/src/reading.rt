@@ -1,7 +1,7 @@
 //! Reads the four lists of a scenario.
 
 ghost use Rattle.std.specs.Prelude.{◌≡◌, IfOk, IfErr, OnOk, ◌⊎◌, None, Some};
-ghost use Rattle.script.specs.Reading.{AreParts, ReadingStops, no_parts};
+ghost use Rattle.script.specs.Reading.{AreParts, ReadingOutcome, no_parts};
 ghost use Rattle.texts.specs.Lists.{lists_of};
 ghost use Rattle.script.specs.Seen.{script_parts};
 
@@ -54,7 +54,7 @@ pub fn read_script(
     ensures parts { IfOk result (λ r.
         AreParts (lists_of routers.now links.now prefixes.now script.now) (script_parts r.script)) }
     ensures stop { IfOk result (λ r.
-        ReadingStops (lists_of routers.now links.now prefixes.now script.now)
+        ReadingOutcome (lists_of routers.now links.now prefixes.now script.now)
         (script_parts r.script) r.fault) }
 {
     let mut read = Script::new(alloc);
@@ -98,10 +98,10 @@ impl Script {
         ensures parts { AreParts (lists_of routers.now links.now prefixes.now script.now)
             (script_parts self.new) }
         ensures whole { OnOk result
-            (ReadingStops (lists_of routers.now links.now prefixes.now script.now)
+            (ReadingOutcome (lists_of routers.now links.now prefixes.now script.now)
             (script_parts self.new) None) }
         ensures stop { IfErr result (λ at. (at.fault ≡ LineFault.NoMemory)
-            ⊎ ReadingStops (lists_of routers.now links.now prefixes.now script.now)
+            ⊎ ReadingOutcome (lists_of routers.now links.now prefixes.now script.now)
             (script_parts self.new) (Some at)) }
     {
         read_names(alloc, &mut self.names, routers)?;

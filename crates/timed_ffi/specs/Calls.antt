@@ -12,7 +12,7 @@ use Rattle.timed_simulation.specs.Kinds.{time_kind}
 use Rattle.timed_simulation.specs.Timed.{Timed}
 use Rattle.timed_simulation.specs.Due.{IsDoneUntil, NothingIsLate}
 use Rattle.timed_simulation.specs.Runs.{IsAtRest, IsStoppedAt, IsStoppedShort, IsTimedRun}
-use Rattle.network_calls.specs.Failures.{IsDoneOrFull}
+use Rattle.network_calls.specs.Failures.{IsDoneOrOutOfMemory}
 use Rattle.network_calls.specs.declared.step.StepParts.{StepParts}
 use Rattle.timed_ffi.specs.Parts.{change_fault}
 
@@ -33,7 +33,7 @@ given_number moment parts held = option_map_or (λ f. Some (fault_number f)) (ch
 -- what a call answers, by the number of what its tests find: that, or, where they find nothing, done or want of memory
 abbrev pub IsNumberBy : Option ℕ → ℕ → Type 0
 IsNumberBy (Some n) status = status ≡ n
-IsNumberBy None status = IsDoneOrFull status
+IsNumberBy None status = IsDoneOrOutOfMemory status
 
 -- the first change that was given, as an event at its moment
 abbrev pub first_change : Timed → Option Event

@@ -11,7 +11,7 @@ use Rattle.timed_simulation.specs.Runs.{Ascends, IsAtRest, IsStoppedAt, IsTimed,
 use Rattle.timed_simulation.proofs.Moments.{next-after}
 use Rattle.timed_simulation.proofs.Rising.{rises_at}
 use Rattle.timed_simulation.proofs.Runs.{kept_after, run_none}
-use Rattle.timing.specs.declared.mark.Begun.{Begun}
+use Rattle.timing.specs.declared.snapshot.Begun.{Begun}
 use Rattle.timing.specs.Runs.{Comes, IsBegun, IsReady, LeadsAlone}
 use Rattle.timing.proofs.Leading.{none_done}
 

@@ -16,7 +16,7 @@ use Rattle.timed_simulation.proofs.Runs.{run_more, run_none}
 use Rattle.timed_reports.specs.declared.recording.Recording.{Recording}
 use Rattle.timed_reports.specs.declared.recording.Recording.TheVariants.{On, Off}
 use Rattle.timed_reports.specs.Recordings.{timed_in, with_timed}
-use Rattle.timing.specs.declared.mark.Begun.{Begun}
+use Rattle.timing.specs.declared.snapshot.Begun.{Begun}
 use Rattle.timing.specs.Runs.{IsBegun, Leads, LeadsAlone, with_changes}
 
 -- ---- one run after another

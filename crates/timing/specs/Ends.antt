@@ -9,7 +9,7 @@ use Rattle.plans.specs.Scenarios.{IsScenario, StopsReading, network_read}
 use Rattle.timed_simulation.specs.Timed.{Timed, opening_timed}
 use Rattle.timed_simulation.specs.Runs.{IsAtRest}
 use Rattle.timing.specs.declared.times.Times.{Times}
-use Rattle.timing.specs.declared.mark.Begun.{Begun}
+use Rattle.timing.specs.declared.snapshot.Begun.{Begun}
 use Rattle.timing.specs.Runs.{IsOfEvents, Leads, with_changes}
 use Rattle.timing.specs.Times.{IsOfTimes, IsTimes}
 

@@ -13,12 +13,12 @@ use Rattle.timed_simulation.specs.Events.{next_event}
 use Rattle.timed_simulation.specs.Due.{IsDue}
 use Rattle.timed_simulation.specs.Runs.{IsNext, IsTimedRun}
 use Rattle.timed_reports.specs.Recordings.{without_first}
-use Rattle.timing.specs.declared.mark.Mark.{Mark}
-use Rattle.timing.specs.declared.mark.Begun.{Begun}
+use Rattle.timing.specs.declared.snapshot.Snapshot.{Snapshot}
+use Rattle.timing.specs.declared.snapshot.Begun.{Begun}
 
 -- how far a run is
-abbrev pub mark_of : Timed → Mark
-mark_of t = record { now = t.clock; steps = (t.simulation).steps; sent = (t.simulation).sent; rests = is_settled (world_of t) }
+abbrev pub snapshot_of : Timed → Snapshot
+snapshot_of t = record { now = t.clock; steps = (t.simulation).steps; sent = (t.simulation).sent; rests = is_settled (world_of t) }
 
 -- with these changes given, one after another
 abbrev pub with_changes : List Change → Timed → Timed
@@ -35,7 +35,7 @@ Comes t e u refusal = MatchOption refusal
 pub record IsBegun (t : Timed) (b : Begun) (u : Timed) : Type 0 where
   pub next : next_event t ≡ Some b.event
   pub given : (b.event).given ≡ true
-  pub before : b.before ≡ mark_of t
+  pub before : b.before ≡ snapshot_of t
   pub ends : Comes t b.event u b.refusal
 
 -- some events, each the next one, lead from the one to the other. None of them is a change that was given: the changes to come stay the same

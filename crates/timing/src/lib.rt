@@ -37,16 +37,16 @@
 mod document;
 mod given;
 mod line_reading;
-mod mark;
 mod moment;
 mod printing;
 mod run;
+mod snapshot;
 mod steps;
 mod tally;
 mod timed;
 mod times;
 
-pub use mark::{Begun, Mark};
+pub use snapshot::{Begun, Snapshot};
 pub use steps::{SteppedRun, run_in_steps};
 pub use timed::{TimeOptions, time};
 pub use times::{Times, read_times, read_times_text};

@@ -1,6 +1,6 @@
 //! Tells what came of each change.
 
-use crate::mark::{Begun, Mark};
+use crate::snapshot::{Begun, Snapshot};
 use crate::tally::{Span, Tally, began_in, count_spells};
 use journal::StepText;
 use lines::{Printer, print_either};
@@ -16,7 +16,7 @@ pub fn print_changes<W: Write>(
     printer: &Printer<'_>,
     links: &[LinkSpec],
     begun: &[Begun],
-    end: Mark,
+    end: Snapshot,
     report: Option<&Report>,
     out: &mut W,
 ) {
@@ -43,7 +43,7 @@ pub fn print_changes<W: Write>(
 }
 
 // How far the run was before the change that was done next, and its moment; or how far it was at its end.
-fn next_change(begun: &[Begun], place: usize, end: Mark) -> (Mark, Option<u64>) {
+fn next_change(begun: &[Begun], place: usize, end: Snapshot) -> (Snapshot, Option<u64>) {
     for later in begun.iter().skip(place.saturating_add(1)) {
         if later.refusal.is_none() {
             return (later.before, Some(later.event.moment));
@@ -146,8 +146,8 @@ fn print_spell<W: Write>(printer: &Printer<'_>, kind: &str, spell: &Spell, out: 
 #[derive(Clone, Copy)]
 struct Effect {
     moment: u64,
-    before: Mark,
-    after: Mark,
+    before: Snapshot,
+    after: Snapshot,
 }
 
 impl Effect {
@@ -231,7 +231,7 @@ impl fmt::Display for EffectJson {
 }
 
 /// Prints the last line of a run that came to rest.
-pub fn print_end<W: Write>(printer: &Printer<'_>, end: Mark, out: &mut W) {
+pub fn print_end<W: Write>(printer: &Printer<'_>, end: Snapshot, out: &mut W) {
     let (steps, now) = (end.steps, end.now);
     let _ = print_either(
         printer.format,

@@ -8,7 +8,7 @@ ghost use Rattle.timed_simulation.specs.Runs.{IsAtRest};
 ghost use Rattle.timed_reports.specs.Recordings.{timed_in};
 ghost use Rattle.timing.specs.Runs.{Comes, IsBegun, IsOfEvents, IsReady, Leads, LeadsAlone, with_changes};
 
-use crate::mark::{Begun, Mark};
+use crate::snapshot::{Begun, Snapshot};
 use faults::FaultKind;
 use network_model::{NoMemory, Refusal, Step};
 use plans::Fault;
@@ -115,7 +115,7 @@ fn begin(recording: &mut Recording) -> Result<Begun, Fault>
     let Some(event) = recording.timed().next_event() else {
         unreachable!()
     };
-    let before = Mark::of(recording.timed());
+    let before = Snapshot::of(recording.timed());
     let refusal = do_event(recording, &event)?;
     Ok(Begun {
         event,

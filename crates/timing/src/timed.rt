@@ -6,9 +6,9 @@ ghost use Rattle.plans.specs.Faults.{OfBytes};
 ghost use Rattle.timing.specs.Ends.{IsTimedToEnd, RunsTimes, StopsTime};
 ghost use Rattle.timing.specs.Runs.{IsOfEvents};
 
-use crate::mark::Mark;
 use crate::printing::{print_changes, print_end};
 use crate::run::{give, run_changes};
+use crate::snapshot::Snapshot;
 use crate::times::{Times, read_times, read_times_text};
 use command_line::Format;
 use lines::Printer;
@@ -85,7 +85,7 @@ fn run<W: Write>(
     give(&mut recording, &times.changes)?;
     let mut begun = Vec::new(alloc);
     let ran = run_changes(&mut recording, &mut begun);
-    let end = Mark::of(recording.timed());
+    let end = Snapshot::of(recording.timed());
     let printer = Printer {
         directory,
         format: options.format,

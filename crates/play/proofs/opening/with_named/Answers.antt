@@ -1,5 +1,5 @@
 use Rattle.std.proofs.Common.{◌∙◌, is_some, refl}
-use Rattle.sessions.specs.Nets.{kept_meaning}
+use Rattle.interpreter.specs.Nets.{kept_meaning}
 use Rattle.play.specs.Works.{Comes}
 use Rattle.play.proofs.Working.{works_kept}
 use Rattle.play.proofs.opening.with_named.Goals as goal

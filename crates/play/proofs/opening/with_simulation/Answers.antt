@@ -1,5 +1,5 @@
 use Rattle.std.proofs.Common.{is_some}
-use Rattle.sessions.specs.Nets.{counted_meaning, opening_counted}
+use Rattle.interpreter.specs.Nets.{counted_meaning, opening_counted}
 use Rattle.play.specs.Works.{Comes, Stops}
 use Rattle.play.proofs.Working.{stops_there, works_there}
 use Rattle.play.proofs.opening.with_simulation.Goals as goal

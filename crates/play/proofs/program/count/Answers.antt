@@ -2,7 +2,7 @@ use Rattle.std.proofs.Common.{string_bytes, refl, is_some}
 use Rattle.script.proofs.Exits.{at_err}
 use Rattle.plans.specs.Faults.{OfBytes}
 use Rattle.plans.proofs.Planned.{IsPlanned}
-use Rattle.sessions.specs.Nets.{counted_meaning, opening_counted}
+use Rattle.interpreter.specs.Nets.{counted_meaning, opening_counted}
 use Rattle.play.specs.Works.{Comes, IsOfNothing, Stops, StopsOn, none_kept}
 use Rattle.play.proofs.Working.{stopped, worked}
 use Rattle.play.proofs.program.count.Goals as goal

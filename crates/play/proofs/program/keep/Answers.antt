@@ -4,7 +4,7 @@ use Rattle.fabric.specs.Fabric.{opening_fabric}
 use Rattle.script.proofs.Exits.{at_err}
 use Rattle.plans.specs.Faults.{OfBytes, unplaced}
 use Rattle.plans.proofs.Planned.{IsPlanned}
-use Rattle.sessions.specs.Nets.{kept_meaning}
+use Rattle.interpreter.specs.Nets.{kept_meaning}
 use Rattle.play.specs.Ends.{KeepsJournal}
 use Rattle.play.specs.Works.{Comes, IsOfWorkers, Stops, StopsOn}
 use Rattle.play.proofs.Working.{stopped, worked, works_added}

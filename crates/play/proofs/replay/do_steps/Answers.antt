@@ -2,7 +2,7 @@ use Rattle.std.proofs.Common.{◌≡◌, ◌+◌, ◌++◌, [], ◌∷◌, take,
 use Rattle.std.proofs.Math.Seq.{take-suc}
 use Rattle.network_model.specs.declared.step.Step.{Step}
 use Rattle.world.proofs.Runs.{with_last_step}
-use Rattle.sessions.specs.Nets.{Counted}
+use Rattle.interpreter.specs.Nets.{Counted}
 use Rattle.play.proofs.replay.do_steps.Goals as goal
 
 pub loop-done-preserved : goal.loop-done-preserved

@@ -2,7 +2,7 @@ use Rattle.std.proofs.Common.{string_bytes, refl, ap}
 use Rattle.script.proofs.Exits.{at_err}
 use Rattle.plans.specs.Faults.{OfBytes, journal_fault, unplaced}
 use Rattle.plans.proofs.Planned.{IsPlanned}
-use Rattle.sessions.specs.Nets.{Counted}
+use Rattle.interpreter.specs.Nets.{Counted}
 use Rattle.play.specs.Replays.{StopsReplay}
 use Rattle.play.proofs.Replays.{journal_of, replay_ends, stops_journal, stops_memory, stops_unread}
 use Rattle.play.proofs.replay.replay.Goals as goal

@@ -1,7 +1,7 @@
 use Rattle.std.proofs.Common.{false}
 use Rattle.fabric.specs.Fabric.{Fabric, opening_fabric}
 use Rattle.script.specs.Directories.{Directory}
-use Rattle.sessions.specs.Nets.{kept_meaning}
+use Rattle.interpreter.specs.Nets.{kept_meaning}
 use Rattle.play.specs.Works.{Comes}
 use Rattle.play.proofs.Working.{worked}
 use Rattle.view.specs.Shown.{IsRunShown}

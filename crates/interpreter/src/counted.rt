@@ -1,0 +1,296 @@
+//! A network whose steps are counted: a simulation, and what was saved of it.
+
+ghost use Rattle.std.specs.Prelude.{◌≡◌, ◌<◌, not, true, length, Some, IfOk, IfErr, IfSome, OnOk};
+ghost use Rattle.std.specs.List.{position_from};
+ghost use Rattle.ipv4_prefix.specs.Prefix.{prefix_eq};
+ghost use Rattle.world.specs.Steps.{CanBeRefused};
+ghost use Rattle.lines.specs.Report.{unknown_router};
+ghost use Rattle.interpreter.specs.Nets.{IsAnswer, opening_counted};
+ghost use Rattle.interpreter.specs.Settling.{SettlesThere, StopsThere};
+ghost use Rattle.interpreter.specs.Traces.{IsTrace, crossing_on, matched_at, matches_other};
+
+use crate::live::Live;
+use crate::totals::{counts_of, counts_since, no_counts};
+use control::{Progress, TurnGate};
+use faults::FaultKind;
+use lines::{Answer, Asked, Counts, Line, Printer};
+use network_model::{Ending, Entry, NoMemory, Prefix, Refusal, Step, Trace};
+use simulation::{Order, Simulation};
+use std::alloc::Global;
+use std::io::Write;
+use std::marker::Model;
+use world::{Network, World};
+
+/// A simulation, and what was saved of it. Contracts see both.
+#[derive(Drop)]
+pub struct Counted {
+    alloc: Global,
+    simulation: Simulation,
+    saved: Option<Simulation>,
+    // The number of the last job, and the jobs that were answered since the last `drain`.
+    last: u64,
+    answers: Vec<JobAnswer>,
+    // What was done until it was counted last.
+    counted: Counts,
+}
+
+// A job, and the row that its router's image answered.
+#[derive(Clone, Copy)]
+struct JobAnswer {
+    number: u64,
+    router: u16,
+    addr: u32,
+    found: Option<(Prefix, Entry)>,
+}
+
+impl Model for Counted {
+    ghost use Rattle.interpreter.specs.Nets.{Counted as CountedState, counted_of};
+
+    ghost Value = { CountedState };
+
+    ghost view = { λ c. counted_of c.simulation c.saved };
+}
+
+impl Counted {
+    /// Opens a network, of which nothing is saved.
+    pub fn open(alloc: Global, network: Network) -> Result<Counted, NoMemory>
+        ensures { IfOk result (λ c. c ≡ opening_counted network) }
+    {
+        let simulation = Simulation::open(alloc, network)?;
+        Ok(Counted {
+            alloc,
+            simulation,
+            saved: None,
+            last: 0,
+            answers: Vec::new(alloc),
+            counted: no_counts(),
+        })
+    }
+
+    // Lets routers take turns until nothing is left to do: in ascending cyclic order, or in an order that a seed draws.
+    fn take_turns(&mut self, seed: Option<u32>) -> Result<(), Refusal>
+        ensures ok { OnOk result (SettlesThere (self.old).simulation (self.new).simulation) }
+        ensures err { IfErr result (StopsThere (self.old).simulation (self.new).simulation) }
+        ensures saved { (self.new).saved ≡ (self.old).saved }
+    {
+        let order = match seed {
+            Some(seed) => Order::Seeded(u64::from(seed)),
+            None => Order::Cyclic,
+        };
+        let ran = self.simulation.settle(order, usize::MAX);
+        if let Some(refusal) = ran.refusal {
+            return Err(refusal);
+        }
+        // So many steps are more than can be counted.
+        if !self.simulation.is_settled() {
+            return Err(Refusal::JournalFull);
+        }
+        Ok(())
+    }
+
+    // The row by which the image in force at a router answers an address, if one covers it.
+    fn look_up(&self, router: u16, addr: u32) -> Result<Option<(Prefix, Entry)>, Refusal>
+        ensures answer { IfOk result (IsAnswer (self.now).simulation.world router addr) }
+        ensures err { IfErr result (λ e. unknown_router (self.now).simulation.world router ≡ Some e) }
+    {
+        self.simulation.holds();
+        match self.simulation.lookup(router, addr) {
+            Some(answer) => Ok(answer.matched),
+            None => Err(Refusal::UnknownRouter),
+        }
+    }
+
+    // Looks the address up for the next job.
+    fn answer(&mut self, router: u16, addr: u32) -> Result<(), Refusal>
+        ensures same { self.new ≡ self.old }
+        ensures err { IfErr result (CanBeRefused (unknown_router (self.old).simulation.world router)) }
+    {
+        let found = self.look_up(router, addr)?;
+        let number = self.last.saturating_add(1);
+        let answer = JobAnswer {
+            number,
+            router,
+            addr,
+            found,
+        };
+        self.answers.push(answer).map_err(|_| Refusal::NoMemory)?;
+        self.last = number;
+        Ok(())
+    }
+
+    // The way of a packet, whichever prefixes match it.
+    fn follow(&self, router: u16, addr: u32) -> Result<Trace, Refusal>
+        ensures ok { IfOk result (IsTrace (self.now).simulation.world router addr true) }
+        ensures known { OnOk result (router < length (self.now).simulation.world.routers) }
+        ensures err { IfErr result (CanBeRefused (unknown_router (self.now).simulation.world router)) }
+    {
+        let routers = self.simulation.world().routers().len();
+        if usize::from(router) >= routers {
+            return Err(Refusal::UnknownRouter);
+        }
+        let mut path = Vec::new(self.alloc);
+        if path.resize(routers, 0_u16).is_err() {
+            return Err(Refusal::NoMemory);
+        }
+        let Some(traced) = self.simulation.trace(router, addr, &mut path) else {
+            return Err(Refusal::UnknownRouter);
+        };
+        path.truncate(traced.count);
+        // There is room for all routers, so the packet comes to an end.
+        let end = traced.end.unwrap_or(Ending::NoRoute);
+        Ok(Trace { path, end })
+    }
+
+    // The place of the first router of a way that matches the packet by another prefix than the first router.
+    fn crossing(&self, path: &[u16], addr: u32) -> Option<usize>
+        ensures place { result ≡ crossing_on (self.now).simulation.world addr path.now }
+        ensures within { IfSome result (λ n. n < length path.now) }
+    {
+        let first = self.matched(*path.first()?, addr)?;
+        self.first_other(first, path, addr)
+    }
+
+    // The place of the first router of a way that matches the packet by another prefix than this.
+    fn first_other(&self, first: Prefix, path: &[u16], addr: u32) -> Option<usize>
+        ensures place { result ≡ position_from (matches_other (self.now).simulation.world addr first) 0 path.now }
+        ensures within { IfSome result (λ n. n < length path.now) }
+    {
+        path.iter()
+            .position(|&router| self.matches_other(first, router, addr))
+    }
+
+    // Whether a router matches the packet by another prefix than this.
+    fn matches_other(&self, first: Prefix, router: u16, addr: u32) -> bool
+        ensures { result ≡ matches_other (self.now).simulation.world addr first router }
+    {
+        match self.matched(router, addr) {
+            Some(prefix) => differ(first, prefix),
+            None => false,
+        }
+    }
+
+    // The prefix by which a router matches the packet.
+    fn matched(&self, router: u16, addr: u32) -> Option<Prefix>
+        ensures { result ≡ matched_at (self.now).simulation.world addr router }
+    {
+        match self.look_up(router, addr) {
+            Ok(Some((prefix, _))) => Some(prefix),
+            Ok(None) => None,
+            Err(_) => None,
+        }
+    }
+}
+
+impl Live for Counted {
+    ghost use Rattle.interpreter.specs.Nets.{counted_meaning};
+
+    ghost meaning = { counted_meaning };
+
+    fn network(&self) -> &Network {
+        self.simulation.network()
+    }
+
+    fn world(&self) -> &World {
+        self.simulation.world()
+    }
+
+    fn steps(&self) -> u64 {
+        self.simulation.steps()
+    }
+
+    fn step(&mut self, step: Step) -> Result<(), Refusal> {
+        self.simulation.step(step)
+    }
+
+    // One thread takes all turns, and calls no gate.
+    fn settle<G: TurnGate + Sync, P: Progress>(
+        &mut self,
+        _gate: &G,
+        seed: Option<u32>,
+        _progress: &mut P,
+    ) -> Result<(), Refusal> {
+        self.take_turns(seed)
+    }
+
+    fn lookup(&mut self, router: u16, addr: u32) -> Result<Option<(Prefix, Entry)>, Refusal> {
+        self.look_up(router, addr)
+    }
+
+    fn trace(&mut self, router: u16, addr: u32, through: bool) -> Result<Trace, Refusal> {
+        let mut traced = self.follow(router, addr)?;
+        if through {
+            return Ok(traced);
+        }
+        let Some(place) = self.crossing(&traced.path, addr) else {
+            return Ok(traced);
+        };
+        traced.path.truncate(place + 1);
+        traced.end = Ending::Crossed;
+        Ok(traced)
+    }
+
+    // The job is answered at once.
+    fn inject(&mut self, router: u16, addr: u32) -> Result<(), FaultKind> {
+        match self.answer(router, addr) {
+            Ok(()) => Ok(()),
+            Err(refusal) => Err(FaultKind::from(refusal)),
+        }
+    }
+
+    fn drain<W: Write>(&mut self, printer: &Printer<'_>, out: &mut W) -> Result<(), FaultKind> {
+        for job in &self.answers {
+            let answer = Answer {
+                router: job.router,
+                addr: job.addr,
+                found: job.found,
+            };
+            let packet = Asked::Packet(job.number, answer);
+            let _ = printer.print(&Line::Asked(packet), out);
+        }
+        self.answers.clear();
+        Ok(())
+    }
+
+    fn count(&mut self) -> Counts {
+        let totals = counts_of(self.simulation.steps(), self.simulation.sent());
+        let since = counts_since(totals, self.counted);
+        self.counted = totals;
+        since
+    }
+
+    fn save(&mut self) -> Result<(), FaultKind> {
+        match self.simulation.copy(self.alloc) {
+            Ok(copy) => {
+                self.saved = Some(copy);
+                Ok(())
+            }
+            Err(_) => Err(FaultKind::NoMemory),
+        }
+    }
+
+    // Refused with `NothingSaved` and `NoMemory`.
+    fn restore(&mut self) -> Result<(), FaultKind> {
+        let Some(saved) = &self.saved else {
+            return Err(FaultKind::NothingSaved);
+        };
+        let Ok(copy) = saved.copy(self.alloc) else {
+            return Err(FaultKind::NoMemory);
+        };
+        // What was done and not yet counted is counted later, too.
+        let since = counts_since(
+            counts_of(self.simulation.steps(), self.simulation.sent()),
+            self.counted,
+        );
+        self.counted = counts_since(counts_of(copy.steps(), copy.sent()), since);
+        self.simulation = copy;
+        Ok(())
+    }
+}
+
+// Whether these are two prefixes.
+#[tactic(auto, using(ipv4_prefix::proofs::PrefixOrder::prefix_partial_eq))]
+fn differ(one: Prefix, other: Prefix) -> bool
+    ensures { result ≡ not (prefix_eq one other) }
+{
+    one != other
+}

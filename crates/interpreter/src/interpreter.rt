@@ -1,0 +1,194 @@
+//! Commands, done one after another.
+
+ghost use Rattle.std.specs.Prelude.{◌≡◌, IfErr, IsOk, MatchResult, OnOk, Err};
+ghost use Rattle.network_model.specs.Kinds.{refusal_kind};
+ghost use Rattle.interpreter.specs.Commands.{AreDone, IsDone, IsRefused, StopsAtCommand};
+
+use crate::commands::{do_step, look_up, show_count, show_trace, try_step};
+use crate::live::Live;
+use crate::progress::show_commands_done;
+use crate::putting::put_links;
+use command_line::Format;
+use control::{Progress, TurnGate};
+use faults::FaultKind;
+use lines::{Printer, print_report, print_state, show_held, show_next, show_queue, show_table};
+use network_model::Refusal;
+use plans::{Fault, Where};
+use script::{Command, Directory, Key, Place};
+use std::alloc::Global;
+use std::io::Write;
+
+/// What is told of a script or a shell, and how.
+#[derive(Clone, Copy)]
+pub struct PrintStyle {
+    /// Whether more is told of a machine's state, and of what cannot be done.
+    pub explain: bool,
+    /// Whether it is told what each step takes or sends.
+    pub moves: bool,
+    /// How what is printed is written.
+    pub format: Format,
+    /// Whether it is told how far a script is.
+    pub progress: bool,
+}
+
+/// How commands are done, and told of.
+#[derive(Drop)]
+pub struct Interpreter<'a, G> {
+    pub alloc: Global,
+    /// What threads call that settle.
+    pub gate: &'a G,
+    /// The routers' names.
+    pub directory: &'a Directory,
+    pub style: PrintStyle,
+}
+
+impl<'a, G> Interpreter<'a, G> {
+    /// What prints lines by these names in this format.
+    pub fn printer(&self) -> Printer<'a> {
+        Printer {
+            directory: self.directory,
+            format: self.style.format,
+        }
+    }
+}
+
+/// Does the commands in order, up to the first that is refused. Their steps make a run of lawful steps. After each,
+/// and while one goes on, it is told on `err` how far the run is, where that is asked for.
+pub fn do_commands<N, G, W, E>(
+    interpreter: &Interpreter<'_, G>,
+    net: &mut N,
+    commands: &[Command],
+    out: &mut W,
+    err: &mut E,
+) -> Result<(), Fault>
+where
+    N: Live,
+    G: TurnGate + Sync,
+    W: Write,
+    E: Write,
+    ensures all { OnOk result (AreDone N.meaning commands.now net.old net.new) }
+    ensures stop { IfErr result (StopsAtCommand N.meaning commands.now net.old net.new) }
+{
+    let mut progress = ScriptProgress {
+        asked: interpreter.style.progress,
+        done: 0,
+        all: commands.len(),
+        err,
+    };
+    progress.steps(0);
+    for (position, &command) in commands.iter().enumerate() {
+        match do_command(interpreter, net, command, out, &mut progress) {
+            Ok(()) => {
+                progress.done = position.saturating_add(1);
+                progress.steps(net.steps() as usize);
+            }
+            Err(kind) => {
+                let key = Key::Script;
+                return Err(Fault {
+                    kind,
+                    place: Some(Where::Scenario(Place { key, position })),
+                });
+            }
+        }
+    }
+    Ok(())
+}
+
+// How far a script is: so many of all its commands were done. It tells nothing where nobody asked.
+#[derive(Drop)]
+struct ScriptProgress<'a, E: Write> {
+    asked: bool,
+    done: usize,
+    all: usize,
+    err: &'a mut E,
+}
+
+impl<'a, E: Write> Progress for ScriptProgress<'a, E> {
+    fn steps(&mut self, steps: usize) {
+        show_commands_done(self.asked, self.done, self.all, steps, self.err);
+    }
+}
+
+/// Does one command, and tells `progress` how far it is. What it prints may be lost.
+pub fn do_command<N, G, W, P>(
+    interpreter: &Interpreter<'_, G>,
+    net: &mut N,
+    command: Command,
+    out: &mut W,
+    progress: &mut P,
+) -> Result<(), FaultKind>
+where
+    N: Live,
+    G: TurnGate + Sync,
+    W: Write,
+    P: Progress,
+    ensures ok { OnOk result (IsDone N.meaning command net.old net.new) }
+    ensures err { IfErr result (IsRefused N.meaning command net.old net.new) }
+{
+    let printer = interpreter.printer();
+    let alloc = interpreter.alloc;
+    match command {
+        Command::Step(step) => {
+            let done = do_step(net, &printer, interpreter.style.moves, step, out);
+            into_kind(done)
+        }
+        Command::Try(step) => {
+            try_step(net, &printer, step, out);
+            Ok(())
+        }
+        Command::Settle => into_kind(net.settle(interpreter.gate, None, progress)),
+        Command::SettleDrawn { seed } => {
+            into_kind(net.settle(interpreter.gate, Some(seed), progress))
+        }
+        Command::RouterUp { router } => into_kind(put_links(net, true, router)),
+        Command::RouterDown { router } => into_kind(put_links(net, false, router)),
+        Command::State { router, prefix } => {
+            let explain = interpreter.style.explain;
+            let done = print_state(net.world(), &printer, router, prefix, explain, out);
+            into_kind(done)
+        }
+        Command::Table { router } => into_kind(show_table(net.world(), &printer, router, out)),
+        Command::Next { router } => {
+            let links = net.network().links();
+            let done = show_next(net.world(), links, &printer, router, out);
+            into_kind(done)
+        }
+        Command::Queue { router, port } => {
+            let done = show_queue(alloc, net.world(), &printer, router, port, out);
+            into_kind(done)
+        }
+        Command::Held { router } => {
+            let done = show_held(alloc, net.world(), &printer, router, out);
+            into_kind(done)
+        }
+        Command::Lookup { router, addr } => into_kind(look_up(net, &printer, router, addr, out)),
+        Command::Trace { router, addr } => {
+            into_kind(show_trace(net, &printer, router, addr, false, out))
+        }
+        Command::TraceThrough { router, addr } => {
+            into_kind(show_trace(net, &printer, router, addr, true, out))
+        }
+        Command::Inject { router, addr } => net.inject(router, addr),
+        Command::Drain => net.drain(&printer, out),
+        Command::Count => {
+            show_count(net, &printer, out);
+            Ok(())
+        }
+        Command::Save => net.save(),
+        Command::Restore => net.restore(),
+        Command::Report => {
+            let _ = print_report(net.world(), &printer, out);
+            Ok(())
+        }
+    }
+}
+
+// Of which kind a refusal is.
+fn into_kind(done: Result<(), Refusal>) -> Result<(), FaultKind>
+    ensures { MatchResult done (λ _. IsOk result) (λ e. result ≡ Err (refusal_kind e)) }
+{
+    match done {
+        Ok(()) => Ok(()),
+        Err(refusal) => Err(FaultKind::from(refusal)),
+    }
+}

@@ -1,5 +1,0 @@
-use Rattle.sessions.specs.Commands.{ArePut}
-use Rattle.sessions.proofs.putting.put_links.Given as goal
-
-abbrev pub invariant-loop-place : goal.invariant-loop-place
-invariant-loop-place g l = ArePut g.N.Live.meaning l.up l.router l.place l.initial.net l.net

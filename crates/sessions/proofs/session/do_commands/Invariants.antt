@@ -1,6 +1,0 @@
-use Rattle.std.proofs.Common.{take}
-use Rattle.sessions.specs.Commands.{AreDone}
-use Rattle.sessions.proofs.session.do_commands.Given as goal
-
-abbrev pub invariant-loop-position : goal.invariant-loop-position
-invariant-loop-position g l = AreDone g.N.Live.meaning (take l.position l.commands) l.initial.net l.net
