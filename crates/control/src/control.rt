@@ -1,6 +1,6 @@
 //! A fabric under a lock.
 
-ghost use Rattle.std.specs.Prelude.{◌≡◌, ◌<◌, ◌≤◌, ◌+◌, ◌*◌, ◌^◌, ◌↔◌, if◌then◌else◌, None, Some, Ok, true, false, length, slice_get, sum_by, vec_len, IfOk, IfErr, IfSome, IsOk, OnErr, OnOk, MatchOption, MatchResult};
+ghost use Rattle.std.specs.Prelude.{◌≡◌, ◌<◌, ◌≤◌, ◌+◌, ◌↔◌, if◌then◌else◌, None, Some, Ok, true, false, length, slice_get, sum_by, vec_len, IfOk, IfErr, IfSome, IsOk, OnErr, OnOk, MatchOption, MatchResult};
 ghost use Rattle.network_model.specs.declared.step.Refusal.TheVariants.{WrongTicket as WithWrongTicket};
 ghost use Rattle.network_model.specs.Journal.{journal_sum, step_number, steps_in_sum};
 ghost use Rattle.network_model.specs.Step as steps;
@@ -10,16 +10,13 @@ ghost use Rattle.network_model.specs.Network.{most_routers};
 ghost use Rattle.world.specs.Steps.{IsDoneOr};
 ghost use Rattle.publication.specs.Lists.{image_of};
 ghost use Rattle.fabric.specs.Fabric.{Fabric as FabricState, count_lent, fabric_refusal};
-ghost use Rattle.control.specs.Names.{IsNamed};
-ghost use Rattle.control.specs.Served.{HasHeadline, IsFound, IsServed, IsTurn, IsTurnRefused, added_at_once};
-ghost use Rattle.control.specs.Shares.{IsBack, IsHolder, AreNew, owes};
+ghost use Rattle.guarded.specs.Names.{IsNamed};
+ghost use Rattle.guarded.specs.Served.{HasHeadline, IsFound, IsServed, IsTurn, IsTurnRefused, added_at_once};
+ghost use Rattle.guarded.specs.Shares.{IsBack, IsHolder, AreNew, owes};
 
-use crate::errand::Errand;
-use crate::guarded::{Guarded, UNIT};
-use crate::name::{ControlName, High, Low, Out};
 use crate::serve::{NoGate, TurnGate};
-use crate::share::{Opening, Share};
 use fabric::Fabric;
+use guarded::{ControlName, Errand, Guarded, Opening, Share};
 use network_model::{Refusal, Step};
 use publication::{FabricName, Job, Ticket};
 use std::alloc::Global;
@@ -47,35 +44,10 @@ impl<B: FabricName, N: ControlName> Control<B, N> {
             × AreNew (journal_sum fabric.journal) r.1.items) }
         ensures object { IfErr result (λ f. f ≡ fabric) }
     {
-        let sum = fabric.sum();
-        let Opening {
-            high,
-            low,
-            out,
-            shares,
-        } = opening;
-        let Ok(mut all) = Vec::with_capacity(alloc, usize::from(shares)) else {
-            return Err(fabric);
-        };
-        let (mut high_book, mut high_rest) = high.open::<High<N>>();
-        let (mut low_book, mut low_rest) = low.open::<Low<N>>();
-        let (out_book, mut out_rest) = out.open::<Out<N>>();
-        let mut sum_left = sum;
-        let mut high_left = (sum / UNIT) as u64;
-        let mut low_left = (sum % UNIT) as u64;
-        high_book.add(&mut high_rest, high_left);
-        low_book.add(&mut low_rest, low_left);
-        for number in 0..shares {
-            let high = high_rest.split_off(1, high_left);
-            let low = low_rest.split_off(1, low_left);
-            let out = out_rest.split_off(1, 0);
-            all.push_reserved(Share::new(number, sum_left, high, low, out));
-            sum_left = 0;
-            high_left = 0;
-            low_left = 0;
+        match Guarded::open(alloc, opening, fabric) {
+            Ok((guarded, shares)) => Ok((Control::of(guarded), shares)),
+            Err(fabric) => Err(fabric),
         }
-        let guarded = Guarded::new(fabric, high_book, low_book, out_book);
-        Ok((Control::of(guarded), all))
     }
 
     // A fabric has to be closed, so none is let go with the lock: `close` takes it out.
@@ -97,45 +69,8 @@ impl<B: FabricName, N: ControlName> Control<B, N> {
         ensures served { IsServed N.opened N.asked result }
         ensures lent { count_lent result.lent ≤ N.lent + sum_by owes shares.items }
     {
-        let mut shares = shares;
         let Control { guarded } = self;
-        let Guarded {
-            fabric,
-            watch: _watch,
-            mut high,
-            mut low,
-            mut out,
-        } = ManuallyDrop::into_inner(guarded.into_inner());
-        let Some(first) = shares.pop() else {
-            unreachable!()
-        };
-        let Share {
-            number: _,
-            sum: _,
-            halt: _,
-            high: mut all_high,
-            low: mut all_low,
-            out: mut all_out,
-        } = first;
-        while let Some(share) = shares.pop() {
-            let Share {
-                number: _,
-                sum: _,
-                halt: _,
-                high: its_high,
-                low: its_low,
-                out: its_out,
-            } = share;
-            all_high.merge(its_high);
-            all_low.merge(its_low);
-            all_out.merge(its_out);
-        }
-        high.audit(&mut all_high);
-        low.audit(&mut all_low);
-        out.audit(&mut all_out);
-        // The sum tells how long the journal is.
-        let _sum = fabric.sum();
-        fabric
+        ManuallyDrop::into_inner(guarded.into_inner()).close(shares)
     }
 
     /// Does a step, and adds its number to the share. Refused, as `Fabric::step` refuses it, it changes

@@ -1,6 +1,6 @@
 //! Threads that rest until there is enough to do for one more.
 
-use crate::crew::Thresholds;
+use guarded::Thresholds;
 use std::sync::Wait;
 use std::sync::atomic::{AtomicBool, AtomicU64, Ordering};
 

@@ -4,7 +4,7 @@ ghost use Rattle.std.specs.Prelude.{◌≡◌, IsTrue, IfErr, OnOk};
 ghost use Rattle.network_model.specs.Turns as turns;
 ghost use Rattle.network_model.specs.Forwarding.{is_quiet};
 ghost use Rattle.fabric.specs.Headline.{HasBestRows};
-ghost use Rattle.control.specs.Served.{IsServed, IsStopped, none_asked};
+ghost use Rattle.guarded.specs.Served.{IsServed, IsStopped, none_asked};
 
 use crate::progress::Progress;
 use crate::settling::report_steps;

@@ -3,13 +3,11 @@
 ghost use Rattle.std.specs.Prelude.{◌≡◌, ◌+◌, ◌<◌, ◌≤◌, true, nat_lt, if◌then◌else◌, Some, None, IfErr, OnOk, vec_len};
 ghost use Rattle.network_model.specs.Turns as turns;
 ghost use Rattle.network_model.specs.Network.{most_routers};
-ghost use Rattle.fabric.specs.Fabric.{Fabric as FabricState};
-ghost use Rattle.control.specs.Served.{IsFound, IsServed, IsTurn, IsTurnRefused};
-ghost use Rattle.control.specs.Shares.{AreUnrefused, HasServed, HaveServed, IsBack, IsHolder, OweAsBefore};
+ghost use Rattle.guarded.specs.Served.{IsTurnRefused};
+ghost use Rattle.guarded.specs.Shares.{AreUnrefused, HasServed, HaveServed, IsBack, IsHolder, OweAsBefore};
 
 use crate::control::Control;
-use crate::name::ControlName;
-use crate::share::{Halt, Share};
+use guarded::{ControlName, Share};
 use network_model::Refusal;
 use publication::FabricName;
 use std::sync::Wait;
@@ -104,7 +102,7 @@ impl<B: FabricName + Send + Sync, N: ControlName + Send + Sync> Control<B, N> {
         if done.is_err() {
             stop.store(true, Ordering::SeqCst);
         }
-        share.halt = Halt::of(done);
+        share.end(done);
     }
 
     fn take_turns<R: Wait, G: TurnGate>(

@@ -1,27 +1,24 @@
 //! Fabrics that are settled: by one thread, and where there is much to do by several.
 
-ghost use Rattle.std.specs.Prelude.{◌≡◌, ◌+◌, ◌<◌, ◌≤◌, ◌⊎◌, Err, IsTrue, IfErr, MatchResult, OnOk, false, sum_by, vec_len};
-ghost use Rattle.network_model.specs.declared.step.Refusal.TheVariants.{WrongTicket as WithWrongTicket};
+ghost use Rattle.std.specs.Prelude.{◌≡◌, ◌+◌, ◌<◌, ◌≤◌, ◌⊎◌, Err, IsTrue, IfErr, MatchResult, OnErr, OnOk, false, sum_by, vec_len};
+ghost use Rattle.network_model.specs.declared.step.Refusal.TheVariants.{NoMemory as OutOfMemory, WrongTicket as WithWrongTicket};
 ghost use Rattle.network_model.specs.Turns as turns;
 ghost use Rattle.network_model.specs.Forwarding.{is_quiet};
 ghost use Rattle.fabric.specs.Fabric.{Fabric as FabricState, count_lent};
 ghost use Rattle.fabric.specs.Headline.{HasBestRows};
-ghost use Rattle.control.specs.Names.{IsNamed};
-ghost use Rattle.control.specs.Served.{AreBack, IsServed, IsStopped, IsTurnRefused, none_asked};
-ghost use Rattle.control.specs.Shares.{HasServed, HaveServed, IsHolder, KeptTickets, owes};
+ghost use Rattle.guarded.specs.Names.{IsNamed};
+ghost use Rattle.guarded.specs.Served.{AreBack, IsServed, IsStopped, IsTurnRefused, none_asked};
+ghost use Rattle.guarded.specs.Shares.{HasServed, HaveServed, IsHolder, KeptTickets, owes};
 
 use crate::control::Control;
-use crate::crew::{Crew, Thresholds};
+use crate::crew::Crew;
 use crate::crowd::Crowd;
-use crate::errand::Errand;
-use crate::name::ControlName;
-use crate::pass::{MOST_TICKETS, Pass, publish_all, rows_due};
 use crate::progress::{Progress, STEPS_BETWEEN};
 use crate::serve::{TurnGate, first_refusal};
-use crate::share::{Halt, Opening, Share};
 use core::mem::replace_with;
 use course::{Order, Turns};
 use fabric::Fabric;
+use guarded::{ControlName, Errand, MOST_TICKETS, Opening, Pass, Share, Thresholds, rows_due};
 use network_model::{NoMemory, Refusal, Step};
 use publication::FabricName;
 use std::alloc::Global;
@@ -38,7 +35,7 @@ trait Origin {
 }
 
 impl Origin for Brand {
-    ghost use Rattle.control.specs.Served.{no_fabric};
+    ghost use Rattle.guarded.specs.Served.{no_fabric};
 
     ghost from = { no_fabric };
 }
@@ -311,7 +308,7 @@ impl<B: FabricName + Send + Sync, N: ControlName + Send + Sync> Control<B, N> {
         crowd.enter(rt);
         let done = self.passes(rt, share, &mut errands, crowd, gate);
         let answer = self.give_all_back(rt, share, errands, done);
-        share.halt = Halt::of(answer);
+        share.end(answer);
     }
 
     // The passes of a thread, until all is over.
@@ -332,7 +329,7 @@ impl<B: FabricName + Send + Sync, N: ControlName + Send + Sync> Control<B, N> {
         ensures err { IfErr result (IsTurnRefused N.opened N.asked) }
         ensures holder { IsHolder share.old share.new }
     {
-        let thread = share.number;
+        let thread = share.number();
         let mut router = 0;
         let mut turn: u64 = 1;
         for _ in rt.forever() {
@@ -386,7 +383,7 @@ impl<B: FabricName + Send + Sync, N: ControlName + Send + Sync> Control<B, N> {
         if thresholds.calls(pass.rows) {
             crowd.call();
         }
-        match publish_all(rt, share.number, errands, gate) {
+        match publish_all(rt, share.number(), errands, gate) {
             Ok(()) => Ok(pass),
             Err(NoMemory) => Err(Refusal::NoMemory),
         }
@@ -428,6 +425,25 @@ fn no_errands<B: FabricName, N: ControlName>(alloc: Global) -> Vec<Errand<B, N>>
         Ok(errands) => errands,
         Err(_) => Vec::new(alloc),
     }
+}
+
+// A thread publishes what errands are for, up to the first for which there is no memory.
+fn publish_all<B: FabricName, N: ControlName, R: Wait, G: TurnGate>(
+    rt: &R,
+    thread: u8,
+    errands: &mut Vec<Errand<B, N>>,
+    gate: &G,
+) -> Result<(), NoMemory>
+    ensures same { vec_len errands.new ≡ vec_len errands.old }
+    ensures cause { OnErr result (IsTurnRefused N.opened N.asked OutOfMemory) }
+{
+    for errand in errands.as_mut_slice() {
+        if !errand.is_published() {
+            gate.publishing(thread, errand.router());
+            errand.publish(rt)?;
+        }
+    }
+    Ok(())
 }
 
 // Whether a ticket was handed back to one of these holders.

@@ -3,7 +3,7 @@
 ghost use Rattle.std.specs.Prelude.{◌≡◌, ◌≤◌, ◌<◌, true, length, vec_len};
 ghost use Rattle.fabric.specs.Fabric.{count_lent};
 ghost use Rattle.fabric.specs.Writers.{opening_tables};
-ghost use Rattle.control.specs.Names.{IsNamed};
+ghost use Rattle.guarded.specs.Names.{IsNamed};
 
 use crate::equal_to::equal;
 use control::{Control, ControlName, Opening, Share, Step, TurnGate};

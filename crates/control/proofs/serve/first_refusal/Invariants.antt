@@ -1,4 +1,4 @@
-use Rattle.control.specs.Shares.{AreUnrefusedBefore}
+use Rattle.guarded.specs.Shares.{AreUnrefusedBefore}
 use Rattle.control.proofs.serve.first_refusal.Given as goal
 
 -- no refusal so far

@@ -1,4 +1,4 @@
-use Rattle.control.specs.Shares.{KeptTicketsBefore}
+use Rattle.guarded.specs.Shares.{KeptTicketsBefore}
 use Rattle.control.proofs.settling.has_lost_ticket.Given as goal
 
 -- no ticket was handed back so far

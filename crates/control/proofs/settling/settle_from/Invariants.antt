@@ -1,7 +1,7 @@
 use Rattle.std.proofs.Common.{◌≤◌}
 use Rattle.fabric.specs.Fabric.{count_lent}
-use Rattle.control.specs.Names.{high_name, low_name, out_name}
-use Rattle.control.specs.Served.{IsServed, none_asked}
+use Rattle.guarded.specs.Names.{high_name, low_name, out_name}
+use Rattle.guarded.specs.Served.{IsServed, none_asked}
 use Rattle.control.proofs.settling.settle_from.Given as goal
 
 abbrev pub invariant-loop : goal.invariant-loop

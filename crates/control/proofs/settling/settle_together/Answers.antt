@@ -1,6 +1,6 @@
 use Rattle.std.proofs.Common.{subst, sym}
-use Rattle.control.specs.Served.{IsServed}
-use Rattle.control.proofs.Shares.{new_home}
+use Rattle.guarded.specs.Served.{IsServed}
+use Rattle.guarded.proofs.Shares.{new_home}
 use Rattle.control.proofs.settling.settle_together.Goals as goal
 
 pub returns-in-Err-clause-turns : goal.returns-in-Err-clause-turns

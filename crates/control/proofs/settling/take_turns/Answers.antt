@@ -1,7 +1,7 @@
 use Rattle.std.proofs.Common.{◌≡◌, ◌∙◌, Some, ap, refl, sym, subst, inl, inr}
 use Rattle.fabric.specs.Fabric.{Fabric, fabric_refusal, next_fabric_step}
-use Rattle.control.specs.Served.{IsServed, IsStopped, none_asked}
-use Rattle.control.proofs.Served.{done_free, served_next, stopped, turn_next}
+use Rattle.guarded.specs.Served.{IsServed, IsStopped, none_asked}
+use Rattle.guarded.proofs.Served.{done_free, served_next, stopped, turn_next}
 use Rattle.course.proofs.Courses.{refused_as}
 use Rattle.control.proofs.settling.take_turns.Goals as goal
 

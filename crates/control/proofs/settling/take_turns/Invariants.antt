@@ -1,5 +1,5 @@
 use Rattle.std.proofs.Common.{◌≡◌}
-use Rattle.control.specs.Served.{IsServed, none_asked}
+use Rattle.guarded.specs.Served.{IsServed, none_asked}
 use Rattle.control.proofs.settling.take_turns.Given as goal
 
 abbrev pub invariant-loop : goal.invariant-loop

@@ -1,6 +1,6 @@
 use Rattle.std.proofs.Common.{subst, sym}
-use Rattle.control.specs.Served.{IsServed}
-use Rattle.control.proofs.Served.{served_none}
+use Rattle.guarded.specs.Served.{IsServed}
+use Rattle.guarded.proofs.Served.{served_none}
 use Rattle.fabric_tests.proofs.jobs.controlled.Goals as goal
 
 pub new-requires-clause-opened : goal.new-requires-clause-opened

@@ -1,5 +1,5 @@
 use Rattle.std.proofs.Common.{◌≡◌, ◌+◌, ◌≤◌, vec_len}
-use Rattle.control.specs.Shares.{IsHolder, owes}
+use Rattle.guarded.specs.Shares.{IsHolder, owes}
 use Rattle.control.proofs.control.Control.passes.Given as goal
 
 abbrev pub invariant-loop : goal.invariant-loop

@@ -1,6 +1,6 @@
 use Rattle.std.proofs.Common.{◌∙◌, inr, subst}
-use Rattle.control.specs.Shares.{KeptTickets}
-use Rattle.control.proofs.Shares.{owe_as_before, owe_in_all}
+use Rattle.guarded.specs.Shares.{KeptTickets}
+use Rattle.guarded.proofs.Shares.{owe_as_before, owe_in_all}
 use Rattle.control.proofs.control.Control.settle.Goals as goal
 
 pub returns-clause-back : goal.returns-clause-back

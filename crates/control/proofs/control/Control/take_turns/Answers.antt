@@ -1,4 +1,4 @@
-use Rattle.control.proofs.Shares.{turn_refused}
+use Rattle.guarded.proofs.Shares.{turn_refused}
 use Rattle.control.proofs.control.Control.take_turns.Goals as goal
 
 pub returns-in-Err-clause-err : goal.returns-in-Err-clause-err

@@ -1,5 +1,5 @@
 use Rattle.std.proofs.Common.{◌≡◌, ◌<◌}
-use Rattle.control.specs.Shares.{IsHolder, owes}
+use Rattle.guarded.specs.Shares.{IsHolder, owes}
 use Rattle.control.proofs.control.Control.take_turns.Given as goal
 
 -- the router is one of the network's

@@ -1,8 +1,8 @@
 use Rattle.std.proofs.Common.{◌≡◌, ◌∙◌, Err, false, ap, subst, sym, rules}
 use Rattle.std.proofs.lemmas.Result.{err_from_is_err_and}
 use Rattle.publication.specs.Outings.{Outing}
-use Rattle.control.specs.Served.{IsTurn}
-use Rattle.control.proofs.Shares.{began, handed_back, out_of_memory}
+use Rattle.guarded.specs.Served.{IsTurn}
+use Rattle.guarded.proofs.Shares.{began, handed_back, out_of_memory}
 use Rattle.control.proofs.control.Control.turn_with.Goals as goal
 
 pub returns-in-Err-clause-turn : goal.returns-in-Err-clause-turn

@@ -1,6 +1,0 @@
-use Rattle.std.proofs.Common.{◌≡◌, ◌+◌, vec_len}
-use Rattle.control.specs.Shares.{IsHolder, owes}
-use Rattle.control.proofs.guarded.Guarded.pass.Given as goal
-
-abbrev pub invariant-loop : goal.invariant-loop
-invariant-loop g l = (owes l.share + vec_len l.fn.errands ≡ owes l.fn.share + vec_len l.errands) × IsHolder l.fn.share l.share
