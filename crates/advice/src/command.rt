@@ -1,12 +1,12 @@
 //! Why a line is no command.
 
-use crate::number::{explain_number, explain_seed};
-use crate::shown::{SafeLetter, odd_space, shown};
+use crate::number::{why_no_cost, why_no_seed};
+use crate::shown::odd_space;
+use crate::why::{Why, Word};
 use network_model::LinkSpec;
 use script::Names;
 use std::alloc::Global;
 use std::io;
-use std::io::Write;
 use strsim::levenshtein;
 
 // The forms of all commands but `try STEP`. Of two forms of one verb, the first is that of a step.
@@ -43,64 +43,58 @@ const JOBS: [&str; 2] = ["inject A ADDR", "drain"];
 // The forms of those that a shell alone has.
 const OF_SHELL: [&str; 3] = ["say TEXT", "help", "quit"];
 
-/// Tells how a command of the shell alone is written, if the line begins as one; answers whether it does.
-pub fn explain_of_shell<W: Write>(line: &str, out: &mut W) -> io::Result<bool> {
+/// How a command of the shell alone is written, if the line begins as one.
+pub fn why_not_of_shell(line: &str) -> Option<Why<'_>> {
     let verb = word_at(line, 0);
     for form in OF_SHELL {
         if word_at(form, 0) == verb {
-            writeln!(out, "  wrong number of words: write `{form}`")?;
-            return Ok(true);
+            return Some(wrong_words(form));
         }
     }
-    Ok(false)
+    None
 }
 
-/// Tells why a line of the script is no command on this network.
-pub fn explain_command<W: Write>(
+fn wrong_words<'a>(form: &'static str) -> Why<'a> {
+    Why::of("wrong number of words: write `", Word::Text(form), "`")
+}
+
+/// Why a line of the script is no command on this network.
+pub fn why_no_command<'a>(
     alloc: Global,
     names: &Names,
     links: &[LinkSpec],
-    line: &str,
-    out: &mut W,
-) -> io::Result<()> {
-    if explain_spaces(line, out)? {
-        return Ok(());
+    line: &'a str,
+) -> io::Result<Why<'a>> {
+    if let Some(why) = why_spaces(line) {
+        return Ok(why);
     }
     let tried = line.strip_prefix("try ");
     let line = tried.unwrap_or(line);
     let count = line.split(' ').count();
     let Some(form) = form_of(line, if tried.is_some() { None } else { Some(count) }) else {
-        return explain_unknown(alloc, word_at(line, 0), out);
+        return why_unknown(alloc, word_at(line, 0));
     };
     if form.split(' ').count() != count {
-        return writeln!(out, "  wrong number of words: write `{form}`");
+        return Ok(wrong_words(form));
     }
-    explain_words(names, links, form, line, out)
+    Ok(why_no_words(names, links, form, line))
 }
 
-/// Tells of a line with nothing in it, of two spaces in a row, of one at an end, or of a character that looks
-/// like one; answers whether it told of any.
-pub fn explain_spaces<W: Write>(line: &str, out: &mut W) -> io::Result<bool> {
+/// Why a line cannot be taken that has nothing in it, two spaces in a row, one at an end, or a character that looks
+/// like one. None if it has none of these.
+pub fn why_spaces(line: &str) -> Option<Why<'_>> {
     if line.is_empty() {
-        writeln!(out, "  the line is empty")?;
-        return Ok(true);
+        return Some(Why::plain("the line is empty"));
     }
     if let Some(letter) = odd_space(line) {
-        writeln!(
-            out,
-            "  `{}` cannot stand here: write single spaces between words",
-            SafeLetter { letter }
-        )?;
-        return Ok(true);
+        let after = "` cannot stand here: write single spaces between words";
+        return Some(Why::of("`", Word::Letter(letter), after));
     }
     if line.split(' ').any(|word| word.is_empty()) {
-        writeln!(
-            out,
-            "  write single spaces between words, and none at an end"
-        )?;
-        return Ok(true);
+        let why = "write single spaces between words, and none at an end";
+        return Some(Why::plain(why));
     }
-    Ok(false)
+    None
 }
 
 // The form that the line's verb has with so many words; or else with the line's second word; or else its first.
@@ -131,14 +125,14 @@ fn word_at(line: &str, place: usize) -> &str {
     line.split(' ').nth(place).unwrap_or("")
 }
 
-// Tells of a word that is no command, and of the nearest one that is, if it is near.
-fn explain_unknown<W: Write>(alloc: Global, verb: &str, out: &mut W) -> io::Result<()> {
+// Why a word is no command, and the nearest one that is, if it is near.
+fn why_unknown(alloc: Global, verb: &str) -> io::Result<Why<'_>> {
     if verb.starts_with('#') {
-        return writeln!(out, "  a command cannot be a comment");
+        return Ok(Why::plain("a command cannot be a comment"));
     }
     for form in OF_SHELL {
         if word_at(form, 0) == verb {
-            return writeln!(out, "  `{verb}` is a command of the shell alone");
+            return Ok(Why::of("`", Word::Text(verb), "` is a command of the shell alone"));
         }
     }
     let mut nearest = ("", 3);
@@ -148,23 +142,20 @@ fn explain_unknown<W: Write>(alloc: Global, verb: &str, out: &mut W) -> io::Resu
     for form in JOBS {
         nearest = nearer(alloc, verb, form, nearest)?;
     }
-    match nearest.0 {
-        "" => writeln!(out, "  unknown command `{}`", shown(verb)),
-        word => writeln!(
-            out,
-            "  unknown command `{}`: did you mean `{word}`?",
-            shown(verb)
-        ),
-    }
+    let unknown = Word::Text(verb);
+    Ok(match nearest.0 {
+        "" => Why::of("unknown command `", unknown, "`"),
+        word => Why::of_two("unknown command `", unknown, "`: did you mean `", Word::Text(word), "`?"),
+    })
 }
 
 // The first word of the form, where it is nearer to the verb than the word before.
-fn nearer<'a>(
+fn nearer(
     alloc: Global,
     verb: &str,
-    form: &'a str,
-    before: (&'a str, usize),
-) -> io::Result<(&'a str, usize)> {
+    form: &'static str,
+    before: (&'static str, usize),
+) -> io::Result<(&'static str, usize)> {
     let word = word_at(form, 0);
     let distance = levenshtein(alloc, verb, word)?;
     Ok(if distance < before.1 {
@@ -174,37 +165,36 @@ fn nearer<'a>(
     })
 }
 
-// Tells of the first word that does not fit its form.
-fn explain_words<W: Write>(
+// Which is the first word that does not fit its form.
+fn why_no_words<'a>(
     names: &Names,
     links: &[LinkSpec],
-    form: &str,
-    line: &str,
-    out: &mut W,
-) -> io::Result<()> {
+    form: &'static str,
+    line: &'a str,
+) -> Why<'a> {
     let mut first = None;
     let mut prefix = None;
     for (wanted, word) in form.split(' ').zip(line.split(' ')) {
         match wanted {
             "A" | "B" => {
                 let Some(router) = names.number(word) else {
-                    return writeln!(out, "  unknown router `{}`", shown(word));
+                    return Why::of("unknown router `", Word::Text(word), "`");
                 };
                 if let Some(other) = first
                     && !links.iter().any(|link| link.joins(other, router))
                 {
-                    return writeln!(out, "  no link joins these two routers");
+                    return Why::plain("no link joins these two routers");
                 }
                 first = Some(router);
             }
             "C" | "COST" => {
-                if explain_number(word, out)? {
-                    return Ok(());
+                if let Some(why) = why_no_cost(word) {
+                    return why;
                 }
             }
             "N" => {
-                if explain_seed(word, out)? {
-                    return Ok(());
+                if let Some(why) = why_no_seed(word) {
+                    return why;
                 }
             }
             "PREFIX" => prefix = Some(word),
@@ -212,7 +202,7 @@ fn explain_words<W: Write>(
         }
     }
     match prefix {
-        Some(prefix) => writeln!(out, "  the scenario has no prefix `{}`", shown(prefix)),
-        None => writeln!(out, "  write `{form}`"),
+        Some(prefix) => Why::of("the scenario has no prefix `", Word::Text(prefix), "`"),
+        None => Why::of("write `", Word::Text(form), "`"),
     }
 }

@@ -1,7 +1,7 @@
 //! Why a text is no scenario.
 
-use crate::position::{key_at, position_at};
-use crate::shown::shown;
+use crate::position::{At, key_at, position_at};
+use crate::why::{Why, Word};
 use std::alloc::Global;
 use std::io;
 use std::io::Write;
@@ -24,15 +24,10 @@ pub fn explain_document<W: Write>(
     }
     match toml::table_from_str(alloc, text) {
         Ok(_) => Ok(()),
-        Err(error) => match error.span() {
-            Some(span) => writeln!(
-                out,
-                "  {file}:{}: {}",
-                position_at(text, span.start),
-                error.message()
-            ),
-            None => writeln!(out, "  {file}: {}", error.message()),
-        },
+        Err(error) => {
+            let at = error.span().map(|span| position_at(text, span.start));
+            writeln!(out, "  {}: {}", At { file, at }, error.message())
+        }
     }
 }
 
@@ -52,8 +47,8 @@ pub fn explain_keys<W: Write>(
     for (key, _) in table.iter() {
         let key = key.as_str();
         if !KEYS.contains(&key) {
-            print_place(file, text, key, out)?;
-            writeln!(out, "unknown key `{}`", shown(key))?;
+            let why = Why::of("unknown key `", Word::Text(key), "`");
+            explain_at_key(file, text, key, why, out)?;
         }
     }
     Ok(())
@@ -69,19 +64,23 @@ fn explain_key<W: Write>(
     match table.get(key) {
         None => writeln!(out, "  the key `{key}` is missing"),
         Some(value) if !is_list(value) => {
-            print_place(file, text, key, out)?;
-            writeln!(out, "`{key}` is not an array of strings")
+            let why = Why::of("`", Word::Text(key), "` is not an array of strings");
+            explain_at_key(file, text, key, why, out)
         }
         Some(_) => Ok(()),
     }
 }
 
-// Tells where a key stands, if it is written without quotes.
-fn print_place<W: Write>(file: &str, text: &str, key: &str, out: &mut W) -> io::Result<()> {
-    match key_at(text, key) {
-        Some(at) => write!(out, "  {file}:{at}: "),
-        None => write!(out, "  {file}: "),
-    }
+// Tells a reason, and where the key stands, if it is written without quotes.
+fn explain_at_key<W: Write>(
+    file: &str,
+    text: &str,
+    key: &str,
+    why: Why<'_>,
+    out: &mut W,
+) -> io::Result<()> {
+    let at = key_at(text, key);
+    writeln!(out, "  {}: {why}", At { file, at })
 }
 
 fn is_list(value: &Value) -> bool {

@@ -2,15 +2,16 @@
 
 use crate::asked::file_to_explain;
 use crate::bytes::explain_bytes;
-use crate::command::explain_command;
+use crate::command::why_no_command;
 use crate::document::{explain_document, explain_keys};
 use crate::journal_line::explain_journal;
-use crate::line::{explain_link, explain_prefix};
-use crate::name::explain_name;
+use crate::line::{why_no_link, why_no_prefix};
+use crate::name::why_no_name;
 use crate::others::explain_others;
-use crate::position::string_at;
+use crate::position::{At, string_at};
 use crate::shown::shown;
 use crate::times::explain_times;
+use crate::why::Why;
 use command_line::Words;
 use faults::{Brief, FaultKind};
 use plans::{Fault, Where};
@@ -106,11 +107,15 @@ pub fn explain_line<W: Write>(
     let Some(line) = line_at(lines, place) else {
         return Ok(());
     };
-    match string_at(faulty.text, key_text(place.key), place.position) {
-        Some(at) => writeln!(out, "  {}:{at}: {}", faulty.file, shown(line))?,
-        None => writeln!(out, "  {}: {}", faulty.file, shown(line))?,
+    let at = At {
+        file: faulty.file,
+        at: string_at(faulty.text, key_text(place.key), place.position),
+    };
+    writeln!(out, "  {at}: {}", shown(line))?;
+    match why(alloc, kind, lines, place, line)? {
+        Some(why) => writeln!(out, "  {why}"),
+        None => Ok(()),
     }
-    explain_reason(alloc, kind, lines, place, line, out)
 }
 
 fn line_at<'a>(lines: &'a Lines, place: Place) -> Option<&'a str> {
@@ -133,34 +138,34 @@ fn key_text(key: Key) -> &'static str {
     }
 }
 
-// Tells what a line lacks, where its fault leaves that open.
-fn explain_reason<W: Write>(
+// What a line lacks, where its fault leaves that open.
+fn why<'a>(
     alloc: Global,
     kind: FaultKind,
-    lines: &Lines,
+    lines: &'a Lines,
     place: Place,
-    line: &str,
-    out: &mut W,
-) -> io::Result<()> {
+    line: &'a str,
+) -> io::Result<Option<Why<'a>>> {
     let position = place.position;
     if place.key == Key::Routers {
-        return explain_name(&lines.routers, position, out);
+        return Ok(why_no_name(&lines.routers, position));
     }
     let none: &[String] = &[];
     let Ok(reading) = read_script(alloc, &lines.routers, &lines.links, none, none) else {
-        return Ok(());
+        return Ok(None);
     };
     let script = reading.script;
     match (kind, place.key) {
         (FaultKind::BadCommand | FaultKind::BadCost, Key::Script) => {
-            explain_command(alloc, &script.names, &script.links, line, out)
+            let why = why_no_command(alloc, &script.names, &script.links, line)?;
+            Ok(Some(why))
         }
         (FaultKind::BadLine | FaultKind::BadLink | FaultKind::BadCost, Key::Links) => {
-            explain_link(&script.names, &lines.links, position, out)
+            Ok(why_no_link(&script.names, &lines.links, position))
         }
         (FaultKind::BadLine | FaultKind::BadOwner | FaultKind::BadCost, Key::Prefixes) => {
-            explain_prefix(&script.names, &lines.prefixes, position, out)
+            Ok(why_no_prefix(&script.names, &lines.prefixes, position))
         }
-        _ => Ok(()),
+        _ => Ok(None),
     }
 }

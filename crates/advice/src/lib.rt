@@ -52,6 +52,7 @@ mod position;
 mod shown;
 mod times;
 mod typed;
+mod why;
 
 pub use asked::file_to_explain;
 pub use fault::explain;

@@ -1,47 +1,37 @@
 //! Why a line of links or of prefixes cannot be taken.
 
-use crate::command::explain_spaces;
-use crate::number::explain_number;
-use crate::shown::shown;
+use crate::command::why_spaces;
+use crate::number::why_no_cost;
+use crate::why::{Why, Word};
 use script::Names;
-use std::io;
-use std::io::Write;
 
 /// How many links a router has at most.
 const MOST_LINKS: usize = 32;
 
-/// Tells why the line of this number is no link of these routers.
-pub fn explain_link<W: Write>(
-    names: &Names,
-    links: &[String],
-    position: usize,
-    out: &mut W,
-) -> io::Result<()> {
-    let Some(line) = links.get(position) else {
-        return Ok(());
-    };
-    let line = line.as_str();
-    if explain_spaces(line, out)? {
-        return Ok(());
+/// Why the line of this number is no link of these routers.
+pub fn why_no_link<'a>(names: &Names, links: &'a [String], position: usize) -> Option<Why<'a>> {
+    let line = links.get(position)?.as_str();
+    if let Some(why) = why_spaces(line) {
+        return Some(why);
     }
     if line.split(' ').count() != 4 {
-        return writeln!(out, "  wrong number of words: write `A B C1 C2`");
+        return Some(Why::plain("wrong number of words: write `A B C1 C2`"));
     }
     for word in line.split(' ').skip(2) {
-        if explain_number(word, out)? {
-            return Ok(());
+        if let Some(why) = why_no_cost(word) {
+            return Some(why);
         }
     }
     for word in line.split(' ').take(2) {
         if names.number(word).is_none() {
-            return writeln!(out, "  unknown router `{}`", shown(word));
+            return Some(Why::of("unknown router `", Word::Text(word), "`"));
         }
     }
     let (a, b) = ends(line);
     if a == b {
-        return writeln!(out, "  both ends are the same router");
+        return Some(Why::plain("both ends are the same router"));
     }
-    explain_earlier(links, position, a, b, out)
+    Some(why_no_place(links, position, a, b))
 }
 
 // The two ends of a link.
@@ -50,47 +40,35 @@ fn ends(line: &str) -> (&str, &str) {
     (words.next().unwrap_or(""), words.next().unwrap_or(""))
 }
 
-// Tells which of the earlier links leaves no place for one of these two routers.
-fn explain_earlier<W: Write>(
-    links: &[String],
-    position: usize,
-    a: &str,
-    b: &str,
-    out: &mut W,
-) -> io::Result<()> {
+// Which of the earlier links leaves no place for one of these two routers.
+fn why_no_place<'a>(links: &[String], position: usize, a: &'a str, b: &'a str) -> Why<'a> {
     let mut at_a = 0usize;
     let mut at_b = 0usize;
     for (place, line) in links.iter().take(position).enumerate() {
         let (c, d) = ends(line.as_str());
         if (a, b) == (c, d) || (a, b) == (d, c) {
-            return writeln!(
-                out,
-                "  an earlier link joins these two routers: links {place}"
-            );
+            let before = "an earlier link joins these two routers: links ";
+            return Why::of(before, Word::Number(place), "");
         }
         at_a = at_a.saturating_add(usize::from(a == c || a == d));
         at_b = at_b.saturating_add(usize::from(b == c || b == d));
     }
-    let full = if at_a >= MOST_LINKS { a } else { b };
-    if at_a >= MOST_LINKS || at_b >= MOST_LINKS {
-        return writeln!(out, "  `{full}` has 32 links already");
+    if at_a < MOST_LINKS && at_b < MOST_LINKS {
+        return Why::plain("there are 1024 links already");
     }
-    writeln!(out, "  there are 1024 links already")
+    let full = if at_a >= MOST_LINKS { a } else { b };
+    Why::of("`", Word::Text(full), "` has 32 links already")
 }
 
-/// Tells why the line of this number attaches no router to a prefix.
-pub fn explain_prefix<W: Write>(
+/// Why the line of this number attaches no router to a prefix.
+pub fn why_no_prefix<'a>(
     names: &Names,
-    prefixes: &[String],
+    prefixes: &'a [String],
     position: usize,
-    out: &mut W,
-) -> io::Result<()> {
-    let Some(line) = prefixes.get(position) else {
-        return Ok(());
-    };
-    let line = line.as_str();
-    if explain_spaces(line, out)? {
-        return Ok(());
+) -> Option<Why<'a>> {
+    let line = prefixes.get(position)?.as_str();
+    if let Some(why) = why_spaces(line) {
+        return Some(why);
     }
     let mut words = line.split(' ');
     let (Some(prefix), Some(router), cost, None) = (
@@ -99,26 +77,30 @@ pub fn explain_prefix<W: Write>(
         words.next(),
         words.next(),
     ) else {
-        return writeln!(out, "  wrong number of words: write `PREFIX ROUTER COST`");
+        let form = "wrong number of words: write `PREFIX ROUTER COST`";
+        return Some(Why::plain(form));
     };
     if names.number(router).is_none() {
         if names.number(prefix).is_some() {
-            return writeln!(out, "  the prefix comes first: `PREFIX ROUTER COST`");
+            let form = "the prefix comes first: `PREFIX ROUTER COST`";
+            return Some(Why::plain(form));
         }
-        return writeln!(out, "  unknown router `{}`", shown(router));
+        return Some(Why::of("unknown router `", Word::Text(router), "`"));
     }
     if let Some(cost) = cost
-        && explain_number(cost, out)?
+        && let Some(why) = why_no_cost(cost)
     {
-        return Ok(());
+        return Some(why);
     }
-    for (place, other) in prefixes.iter().take(position).enumerate() {
-        if ends(other.as_str()) == (prefix, router) {
-            return writeln!(
-                out,
-                "  this router has the prefix already: prefixes {place}"
-            );
+    let earlier = prefixes
+        .iter()
+        .take(position)
+        .position(|other| ends(other.as_str()) == (prefix, router));
+    Some(match earlier {
+        Some(place) => {
+            let before = "this router has the prefix already: prefixes ";
+            Why::of(before, Word::Number(place), "")
         }
-    }
-    writeln!(out, "  there are as many prefixes as there can be")
+        None => Why::plain("there are as many prefixes as there can be"),
+    })
 }

@@ -1,39 +1,37 @@
 //! Why a word is no cost, or no seed.
 
-use crate::shown::shown;
-use std::io;
-use std::io::Write;
+use crate::why::{Why, Word};
 use texts::read_number;
 
-/// Tells why a word is no number, or none that a cost can be; answers whether it told of any.
-pub fn explain_number<W: Write>(word: &str, out: &mut W) -> io::Result<bool> {
-    explain_outside(word, 1, 65535, out)
+/// Why a word is no number, or none that a cost can be. None if it is a cost.
+pub fn why_no_cost(word: &str) -> Option<Why<'_>> {
+    why_outside(word, 1, 65535)
 }
 
-/// Tells why a word is no number of 32 bits; answers whether it told of any.
-pub fn explain_seed<W: Write>(word: &str, out: &mut W) -> io::Result<bool> {
-    explain_outside(word, 0, u32::MAX, out)
+/// Why a word is no number of 32 bits. None if it is one.
+pub fn why_no_seed(word: &str) -> Option<Why<'_>> {
+    why_outside(word, 0, u32::MAX)
 }
 
-// Tells why a word is no number of `least` to `most`.
-fn explain_outside<W: Write>(word: &str, least: u32, most: u32, out: &mut W) -> io::Result<bool> {
+// Why a word is no number of `least` to `most`.
+fn why_outside(word: &str, least: u32, most: u32) -> Option<Why<'_>> {
     if is_within(word, least, most) {
-        return Ok(false);
+        return None;
     }
     let digits = word.strip_prefix('+').or(word.strip_prefix('-'));
     let are_digits = !word.is_empty() && word.bytes().all(|byte| byte.is_ascii_digit());
-    if digits.is_some() {
-        writeln!(out, "  `{}` has a sign: write only digits", shown(word))?;
+    let shown = Word::Text(word);
+    Some(if digits.is_some() {
+        Why::of("`", shown, "` has a sign: write only digits")
     } else if !are_digits {
-        writeln!(out, "  `{}` is not a whole number", shown(word))?;
+        Why::of("`", shown, "` is not a whole number")
     } else if word == "0" {
-        writeln!(out, "  `0` is below {least}")?;
+        Why::of("`0` is below ", Word::Number(least as usize), "")
     } else if word.starts_with('0') {
-        writeln!(out, "  `{}` begins with a zero", shown(word))?;
+        Why::of("`", shown, "` begins with a zero")
     } else {
-        writeln!(out, "  `{}` is above {most}", shown(word))?;
-    }
-    Ok(true)
+        Why::of_two("`", shown, "` is above ", Word::Number(most as usize), "")
+    })
 }
 
 fn is_within(word: &str, least: u32, most: u32) -> bool {

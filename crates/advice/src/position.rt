@@ -15,6 +15,22 @@ impl fmt::Display for Position {
     }
 }
 
+/// A file, and a place in it if one is known, as `ring.toml:8:5`.
+#[derive(Clone, Copy)]
+pub struct At<'a> {
+    pub file: &'a str,
+    pub at: Option<Position>,
+}
+
+impl fmt::Display for At<'_> {
+    fn fmt<W: fmt::Write>(&self, f: &mut fmt::Formatter<W>) -> fmt::Result {
+        match self.at {
+            Some(at) => write!(f, "{}:{at}", self.file),
+            None => write!(f, "{}", self.file),
+        }
+    }
+}
+
 /// The position of a byte of a text.
 pub fn position_at(text: &str, byte: usize) -> Position {
     let mut at = Position { line: 1, column: 1 };

@@ -25,23 +25,12 @@ impl fmt::Display for SafeText<'_> {
     }
 }
 
-fn show<W: fmt::Write>(letter: char, f: &mut fmt::Formatter<W>) -> fmt::Result {
+/// Writes a character of a file, safe to print.
+pub fn show<W: fmt::Write>(letter: char, f: &mut fmt::Formatter<W>) -> fmt::Result {
     if is_hidden(letter) {
         write!(f, "\\u{{{:x}}}", u32::from(letter))
     } else {
         write!(f, "{letter}")
-    }
-}
-
-/// A character of a file, safe to print.
-#[derive(Clone, Copy)]
-pub struct SafeLetter {
-    pub letter: char,
-}
-
-impl fmt::Display for SafeLetter {
-    fn fmt<W: fmt::Write>(&self, f: &mut fmt::Formatter<W>) -> fmt::Result {
-        show(self.letter, f)
     }
 }
 

@@ -2,7 +2,7 @@
 
 use crate::bytes::explain_bytes;
 use crate::document::explain_document;
-use crate::position::string_at;
+use crate::position::{At, string_at};
 use crate::shown::shown;
 use faults::{Brief, FaultKind};
 use plans::TimesKey;
@@ -55,8 +55,6 @@ fn explain_string<W: Write>(
         return Ok(());
     };
     let line = value.as_str().unwrap_or("");
-    match string_at(text, key.name(), position) {
-        Some(at) => writeln!(out, "  {file}:{at}: {}", shown(line)),
-        None => writeln!(out, "  {file}: {}", shown(line)),
-    }
+    let at = string_at(text, key.name(), position);
+    writeln!(out, "  {}: {}", At { file, at }, shown(line))
 }

@@ -1,6 +1,6 @@
 //! Why a line that was typed into a shell is not done.
 
-use crate::command::{explain_command, explain_of_shell};
+use crate::command::{why_no_command, why_not_of_shell};
 use crate::shown::shown;
 use faults::{Brief, FaultKind};
 use network_model::LinkSpec;
@@ -28,8 +28,12 @@ pub fn explain_typed<W: Write>(alloc: Global, typed: &Typed<'_>, out: &mut W) ->
         Ok(line) => {
             writeln!(out, "  line {number}: {}", shown(line))?;
             let is_command = matches!(typed.kind, FaultKind::BadCommand | FaultKind::BadCost);
-            if is_command && !explain_of_shell(line, out)? {
-                explain_command(alloc, typed.names, typed.links, line, out)?;
+            if is_command {
+                let why = match why_not_of_shell(line) {
+                    Some(why) => why,
+                    None => why_no_command(alloc, typed.names, typed.links, line)?,
+                };
+                writeln!(out, "  {why}")?;
             }
         }
         Err(_) => writeln!(out, "  line {number} is not UTF-8")?,
