@@ -7,10 +7,11 @@ use Rattle.ipv4_prefix.specs.Prefix.{Prefix, IsPrefix, covers}
 use Rattle.ipv4_prefix.specs.LongestMatch.{longest_match}
 use Rattle.ipv4_prefix.proofs.TableRows.{longest_in_table}
 use Rattle.array_bitmap.specs.Words.{nothing, found, len_of, entry_of, answer_word, word_answer, IsRowWord, IsReadBack}
-use Rattle.array_bitmap.specs.Greatest.{GreatestBelow}
+use Rattle.bitmaps.specs.Greatest.{GreatestBelow}
 use Rattle.array_bitmap.specs.Tree.{Cells, word_at, entry_in, rows_of_cells, IsSound}
 use Rattle.array_bitmap.proofs.ShortRows.{some_found}
-use Rattle.array_bitmap.proofs.LongestRow.{found-row, GreatestBelow-end}
+use Rattle.bitmaps.proofs.Finds.{GreatestBelow-end}
+use Rattle.array_bitmap.proofs.LongestRow.{found-row}
 use Rattle.array_bitmap.proofs.PrefixRows.{longest_on_path, none_on_path}
 
 -- the prefix of so many bits that covers an address

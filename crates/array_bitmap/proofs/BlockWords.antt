@@ -2,10 +2,10 @@
 use Rattle.std.proofs.Common.{ℕ, ◌≡◌, ◌≢◌, ◌⊎◌, inl, inr, ◌+◌, ◌^◌, ◌<◌, ◌≤◌, List, slice_index, Some, None, count_ones, arith, sym, ap, subst, ◌∙◌}
 use Rattle.std.specs.Int.{bit_at}
 use Rattle.std.proofs.lemmas.Bool.{cases_eq, cases_order}
-use Rattle.array_bitmap.specs.Bits.{rank}
+use Rattle.bitmaps.specs.Bits.{rank}
 use Rattle.array_bitmap.specs.Blocks.{rows_of, kids_of, row_index, kid_index, size_for, row_in, kid_in, IsBlock}
 use Rattle.array_bitmap.specs.Changes.{ChangesRow, ChangesKid, IsInserted, IsReplaced, IsRemoved}
-use Rattle.array_bitmap.proofs.Ranks.{rank_lt, rank_le, rank_mono, rank_mono_lt, bit_at-add_same, bit_at-add_other, ones-add, add_lt, rank-add_below, rank-add_above}
+use Rattle.bitmaps.proofs.Ranks.{rank_lt, rank_le, rank_mono, rank_mono_lt, bit_at-add_same, bit_at-add_other, ones-add, add_lt, rank-add_below, rank-add_above}
 use Rattle.array_bitmap.proofs.Covering.{row-set, row-clear}
 use Rattle.array_bitmap.proofs.Walks.{kid-set, kid-clear}
 

@@ -10,12 +10,13 @@ use Rattle.ipv4_prefix.proofs.TableRows.{table_rows-empty}
 use Rattle.array_bitmap.specs.Bits.{depth_of, five_bits, path_start, row_bit, level_of, more_of}
 use Rattle.array_bitmap.specs.Words.{nothing, entry_of, found}
 use Rattle.array_bitmap.specs.Blocks.{size_for, row_in, kid_in, IsBlock}
-use Rattle.array_bitmap.specs.Greatest.{GreatestBelow}
+use Rattle.bitmaps.specs.Greatest.{GreatestBelow}
 use Rattle.array_bitmap.specs.Tree.{Cells, words_of, words_at, block_at, short_word, long_word, word_at, named, entry_in, rows_of_cells, IsSound}
 use Rattle.array_bitmap.specs.declared.tree.Top.{Top}
 use Rattle.array_bitmap.proofs.ShortRows.{nothing_shown, nothing_found}
 use Rattle.array_bitmap.proofs.ShortSet.{array_cells}
-use Rattle.array_bitmap.proofs.Walks.{zeros, none≢some, Some_same, no_kid_none, row-nowhere, gone, block-first, word-short, word-long}
+use Rattle.bitmaps.proofs.Options.{none≢some, Some_same}
+use Rattle.array_bitmap.proofs.Walks.{zeros, no_kid_none, row-nowhere, gone, block-first, word-short, word-long}
 
 -- what is read of copies of a value is the value, also past their end
 pub copies_are : {T : Type 0} (n k : ℕ) (a : T) → get_or (replicate n a) k a ≡ a

@@ -1,12 +1,14 @@
 -- What the code reads of an image.
 use Rattle.std.proofs.Common.{ℕ, suc, ◌≡◌, ◌↔◌, ◌+◌, ◌-◌, ◌^◌, ◌<◌, ◌≤◌, min, bit_and, Option, true, is_some, arith, sym, ap, subst, ◌∙◌}
 use Rattle.std.specs.Int.{bit_at}
-use Rattle.array_bitmap.specs.Bits.{depth_of, five_bits, row_bit, width, IsHighest}
+use Rattle.bitmaps.specs.Bits.{IsHighest}
+use Rattle.array_bitmap.specs.Bits.{depth_of, five_bits, row_bit, width}
 use Rattle.array_bitmap.specs.Words.{found}
 use Rattle.array_bitmap.specs.Blocks.{rows_of, kid_in, word_after, IsBlock}
-use Rattle.array_bitmap.specs.Greatest.{GreatestBelow}
+use Rattle.bitmaps.specs.Greatest.{GreatestBelow}
 use Rattle.array_bitmap.specs.Tree.{Cells, words_of, kid_at, block_at, word_at, IsSound}
-use Rattle.array_bitmap.proofs.Walks.{some-from, block-next}
+use Rattle.bitmaps.proofs.Options.{some-from}
+use Rattle.array_bitmap.proofs.Walks.{block-next}
 use Rattle.array_bitmap.proofs.OnePath.{block_used}
 use Rattle.array_bitmap.proofs.LongestRow.{best_after, best_at_end}
 
@@ -33,7 +35,7 @@ next_block c path level five block kid low at f k =
 pub longest_next : (c : Cells) (sound : IsSound c) (path level five block best cover word : ℕ) → path < 2 ^ 34 → c.first ≤ level → level ≤ 5 → block ≡ block_at c path (level - c.first)
     → five ≡ five_bits path level → ((k : ℕ) → bit_at cover k ≡ 1 ↔ ((more : ℕ) × (more < width level) × (k ≡ row_bit five more)))
     → GreatestBelow (word_at c path) (depth_of level + 1) (found best)
-    → ((bit : Option ℕ) × IsHighest (bit_and (rows_of (words_of (c.heap block))) cover) bit × (word ≡ word_after (words_of (c.heap block)) best bit))
+    → ((bit : Option ℕ) × IsHighest 64 (bit_and (rows_of (words_of (c.heap block))) cover) bit × (word ≡ word_after (words_of (c.heap block)) best bit))
     → GreatestBelow (word_at c path) (min (depth_of (level + 1) + 1) 33) (found word)
 longest_next c sound path level five block best cover word fits low deep at f covered above read =
     let steps : ℕ = level - c.first in
@@ -43,7 +45,7 @@ longest_next c sound path level five block best cover word fits low deep at f co
     subst (λ x. (k : ℕ) → bit_at cover k ≡ 1 ↔ ((more : ℕ) × (more < width x) × (k ≡ row_bit (five_bits path x) more))) l
     (subst (λ x. (k : ℕ) → bit_at cover k ≡ 1 ↔ ((more : ℕ) × (more < width level) × (k ≡ row_bit x more))) f covered) in
     let after = best_after c sound path fits (level - c.first) cover best read.0 (omega (arith, l, deep)) cover'
-    (subst (λ b. IsHighest (bit_and (rows_of (words_of (c.heap b))) cover) read.0) at read.1)
+    (subst (λ b. IsHighest 64 (bit_and (rows_of (words_of (c.heap b))) cover) read.0) at read.1)
     (subst (λ x. GreatestBelow (word_at c path) (depth_of x + 1) (found best)) l above) in
     subst (λ x. GreatestBelow (word_at c path) x (found word)) n
     (subst (λ x. GreatestBelow (word_at c path) (depth_of x + 1 + width x) (found word)) (sym l)

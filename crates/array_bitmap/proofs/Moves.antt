@@ -4,7 +4,7 @@ use Rattle.std.proofs.lemmas.Bool.{cond-true, cond-false, eq-eqb, ne_eqb, cases_
 use Rattle.array_bitmap.specs.Bits.{depth_of, five_bits, path_start, row_bit, level_of, more_of}
 use Rattle.array_bitmap.specs.Words.{IsRowWord, found}
 use Rattle.array_bitmap.specs.Blocks.{row_in, kid_in, IsBlock}
-use Rattle.array_bitmap.specs.Greatest.{GreatestBelow}
+use Rattle.bitmaps.specs.Greatest.{GreatestBelow}
 use Rattle.array_bitmap.specs.Tree.{Cells, words_of, words_at, kid_at, block_at, short_word, long_word, word_at, named, IsSound, SetsWord}
 use Rattle.array_bitmap.specs.Changes.{IsReworded, WritesName, ChangesRow, ChangesKid}
 use Rattle.array_bitmap.proofs.PathBits.{parts_from_first, first_from_parts, row_bit_same}

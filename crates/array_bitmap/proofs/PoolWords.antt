@@ -1,15 +1,14 @@
 -- What the calls of a pool leave of the words of its blocks.
-use Rattle.std.proofs.Common.{ℕ, ◌≡◌, ◌≢◌, inl, inr, ⊎_elim, ◌+◌, ◌-◌, ◌*◌, ◌/◌, ◌^◌, ◌<◌, ◌≤◌, List, length, slice_index, Option, Some, None, Bool, true, cond, nat_lt, nat_le, ◌==◌, ◌&&◌, is_some, count_ones, arith, refl, sym, ap, subst, ◌∙◌}
-use Rattle.std.proofs.lemmas.List.{get_or-set_same, get_or-set_other, length-set, get_or-take, length-take}
+use Rattle.std.proofs.Common.{ℕ, ◌≡◌, ◌≢◌, inl, inr, ◌+◌, ◌-◌, ◌*◌, ◌/◌, ◌^◌, ◌<◌, ◌≤◌, List, length, slice_index, Option, Some, None, Bool, true, cond, nat_lt, nat_le, ◌==◌, ◌&&◌, is_some, count_ones, arith, refl, sym, ap, subst, ◌∙◌}
 use Rattle.std.specs.Int.{bit_at}
-use Rattle.std.proofs.lemmas.Bool.{cases_eq, cases_lt, cond-true, cond-false, lt-ltb, le-ltb, leb-true, eqb-true, and_parts, agree_below_at, false≢true}
+use Rattle.std.proofs.lemmas.Bool.{cases_lt, cond-true, cond-false, lt-ltb, le-ltb, leb-true, eqb-true, and_parts, agree_below_at, false≢true}
 use Rattle.std.proofs.lemmas.Nat.{ones-le}
-use Rattle.std.proofs.lemmas.Nat.Bits.{bit_at-lt}
-use Rattle.word_pool.specs.Heap.{Heap, size_of, word_of, with_word, is_size, first_of, IsWritten, IsTaken, IsGiven, IsShortened, SameOthers}
+use Rattle.word_pool.specs.Heap.{Heap, size_of, word_of, is_size, IsWritten, IsTaken, IsGiven, IsShortened, SameOthers}
+use Rattle.word_pool.proofs.Reading.{word-with_word_same, word-with_word_other, size-with_word, word-first_of, size-first_of}
 use Rattle.array_bitmap.specs.Blocks.{rows_of, kids_of, size_for, used_words, IsBlock}
 use Rattle.array_bitmap.specs.Tree.{words_of}
 use Rattle.array_bitmap.specs.Changes.{Copies, GetsRoom, ShiftsIn, PutsWord, ShiftsOut, TakesWord, IsReworded, IsInserted, Narrows}
-use Rattle.array_bitmap.proofs.Ranks.{ones-add, add_lt}
+use Rattle.bitmaps.proofs.Ranks.{ones-add, add_lt}
 
 -- a word and the size of a block, by the list of its words
 pub word_listed : (o : Option (List ℕ)) (i : ℕ) → word_of o i ≡ slice_index (words_of o) i
@@ -30,27 +29,15 @@ is_words None h = absurd (false≢true h)
 is_words (Some ws) h = refl
 
 -- ---- a word is written
-word_here : (o : Option (List ℕ)) (i w : ℕ) → i < size_of o → word_of (with_word o i w) i ≡ w
-word_here None i w h = absurd (omega arith)
-word_here (Some ws) i w h = get_or-set_same ws i w 0 h
-
-word_other : (o : Option (List ℕ)) (i w k : ℕ) → k ≢ i → word_of (with_word o i w) k ≡ word_of o k
-word_other None i w k n = refl
-word_other (Some ws) i w k n = get_or-set_other ws i k w 0 n
-
-size_same : (o : Option (List ℕ)) (i w : ℕ) → size_of (with_word o i w) ≡ size_of o
-size_same None i w = refl
-size_same (Some ws) i w = length-set ws i w
-
 module _ (old new : Heap) (b i w : ℕ) (wr : IsWritten old new b i w) where
   pub written_here : i < size_of (old b) → word_of (new b) i ≡ w
-  written_here h = ap (λ o. word_of o i) wr.here ∙ word_here (old b) i w h
+  written_here h = ap (λ o. word_of o i) wr.here ∙ word-with_word_same (old b) i w h
 
   pub written_other : (k : ℕ) → k ≢ i → word_of (new b) k ≡ word_of (old b) k
-  written_other k n = ap (λ o. word_of o k) wr.here ∙ word_other (old b) i w k n
+  written_other k n = ap (λ o. word_of o k) wr.here ∙ word-with_word_other (old b) i w k n
 
   pub written_size : size_of (new b) ≡ size_of (old b)
-  written_size = ap size_of wr.here ∙ size_same (old b) i w
+  written_size = ap size_of wr.here ∙ size-with_word (old b) i w
 
 -- ---- sizes, computed for each number of words
 
@@ -123,12 +110,6 @@ module _ (heap : Heap) (b : ℕ) (block : IsBlock (words_of (heap b))) where
 
   pub all_kids : count_ones (kids_of (words_of (heap b))) ≤ 32
   all_kids = ones-le 32 (kids_of (words_of (heap b))) block.few_kids
-
--- a bit that is not set is 0
-pub clear_bit : (n k : ℕ) → (bit_at n k ≡ 1 → ⊥) → bit_at n k ≡ 0
-clear_bit n k h =
-    let l : bit_at n k < 2 = bit_at-lt n k in
-    ⊎_elim (λ e. absurd (h e)) (λ e. omega arith) (cases_eq (bit_at n k) 1)
 
 -- ---- a block gets room
 pub room_there : (old : Heap) (block used : ℕ) → block ≢ 0 → used ≤ 96 → size_of (old block) ≡ size_for used → used < size_for used → GetsRoom old old block block used
@@ -204,15 +185,6 @@ module _ (old mid new : Heap) (block place used at word : ℕ) (put : PutsWord o
 
 -- ---- a block loses a word
 
--- the words that a half keeps
-pub first_word : (o : Option (List ℕ)) (n i : ℕ) → i < n → word_of (first_of o n) i ≡ word_of o i
-first_word None n i l = refl
-first_word (Some ws) n i l = get_or-take n ws i 0 l
-
-pub first_size : (o : Option (List ℕ)) (n : ℕ) → n ≤ size_of o → size_of (first_of o n) ≡ n
-first_size None n l = omega arith
-first_size (Some ws) n l = length-take n ws ∙ omega (arith, l)
-
 -- one word fewer has the same size, or half of it
 pub size_before : (n : ℕ) → 4 ≤ n → n ≤ 97 → size_for n ≤ size_for (n - 1) → size_for (n - 1) ≡ size_for n
 size_before n some few l =
@@ -243,8 +215,8 @@ narrow_halved old new block half used some size fits h =
       fresh = λ n. absurd (n refl);
       gone = λ n. absurd (n refl);
       others = λ p n m. h.others p n;
-      size = ap size_of h.here ∙ first_size (old block) (2 * half / 2) (omega (arith, size)) ∙ e;
-      words = λ i l. ap (λ o. word_of o i) h.here ∙ first_word (old block) (2 * half / 2) i (omega (arith, l, fits));
+      size = ap size_of h.here ∙ size-first_of (old block) (2 * half / 2) (omega (arith, size)) ∙ e;
+      words = λ i l. ap (λ o. word_of o i) h.here ∙ word-first_of (old block) (2 * half / 2) i (omega (arith, l, fits));
     }
 
 -- or goes into another one

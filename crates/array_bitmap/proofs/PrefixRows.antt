@@ -1,25 +1,20 @@
 -- Rows of an image by prefixes.
-use Rattle.std.specs.FinMap.{put, find as row_of}
+use Rattle.std.specs.FinMap.{find as row_of}
 use Rattle.std.specs.FinMap.Entries.{is_sorted-where_key, find-where_key}
-use Rattle.std.proofs.Common.{List, [], ◌∷◌, ◌++◌, length, take, get_or, ℕ, ◌≡◌, ◌≢◌, inl, inr, ◌+◌, ◌-◌, ◌*◌, ◌/◌, ◌^◌, ◌<◌, ◌≤◌, Bool, true, false, cond, not, Option, Some, None, IfSome, is_some, option_map, arith, refl, sym, ap, subst, ◌∙◌, Result, Err, IsOk, shr-shr}
-use Rattle.std.specs.Result.{is_ok}
-use Rattle.std.proofs.lemmas.List.{take_more}
-use Rattle.std.proofs.Math.Seq.{take-length}
-use Rattle.std.proofs.lemmas.Bool.{eq-eqb, eqb-true, false≢true, cases_lt}
+use Rattle.std.proofs.Common.{ℕ, ◌≡◌, ◌≢◌, inl, inr, ◌+◌, ◌-◌, ◌*◌, ◌/◌, ◌^◌, ◌<◌, ◌≤◌, Bool, true, false, cond, not, Option, Some, None, is_some, option_map, arith, refl, sym, ap, subst, ◌∙◌, shr-shr}
+use Rattle.std.proofs.lemmas.Bool.{eq-eqb, eqb-true, cases_lt}
 use Rattle.ipv4_prefix.specs.Prefix.{Prefix, IsPrefix, covers, prefix_cmp, prefix_eq}
-use Rattle.ipv4_prefix.specs.LongestMatch.{IsLongestIn, IsLongestMatch, longest_match}
+use Rattle.ipv4_prefix.specs.LongestMatch.{IsLongestIn}
 use Rattle.ipv4_prefix.specs.Tables.{table_rows}
 use Rattle.ipv4_prefix.proofs.PrefixOrder.{prefix_eq-Decides, prefix_cmp-tied}
 use Rattle.ipv4_prefix.proofs.TableRows.{table_rows-sorted, table_rows_unique, row_of-table, row_of-unwritable}
 use Rattle.array_bitmap.specs.Removal.{without_row}
-use Rattle.ipv4_prefix.proofs.LongestMatches.{covering_same, longest_match-found}
+use Rattle.ipv4_prefix.proofs.LongestMatches.{covering_same}
 use Rattle.network_model.specs.declared.route.Entry.{Entry}
-use Rattle.network_model.specs.Publication.{with_rows}
-use Rattle.network_model.proofs.RowLaws.{with_rows-push}
 use Rattle.array_bitmap.specs.Bits.{depth_of, five_bits, path_start, row_bit, level_of, more_of}
 use Rattle.array_bitmap.specs.Words.{nothing, entry_of, len_of, found}
 use Rattle.array_bitmap.specs.Blocks.{row_in}
-use Rattle.array_bitmap.specs.Greatest.{GreatestBelow}
+use Rattle.bitmaps.specs.Greatest.{GreatestBelow}
 use Rattle.array_bitmap.specs.Tree.{Cells, words_at, block_at, word_at, row_at, entry_in, SetsWord}
 use Rattle.array_bitmap.proofs.PathBits.{parts_from_first}
 use Rattle.array_bitmap.proofs.Walks.{word-short, word_in, block-same}
@@ -103,27 +98,6 @@ sets_entry old new q word path len valid_q is_path is_len given p valid = by_tes
         let fits = valid.fits in
         ap (option_map entry_of) (sets.miss (p.addr * 4) p.len (omega (arith, fits)) short
         (λ len bits. absurd (cc (apart, (prefix_eq-Decides p q).1 (same_bits len bits)))))
-
--- ---- rows set in order
-
--- with one row more, that row is put
-pub with_one_more : (rows : List (Prefix × Entry)) (i : ℕ) (r : Prefix × Entry) (table : List (Prefix × Entry)) → i < length rows → r ≡ get_or rows i r
-    → with_rows (take (i + 1) rows) table ≡ put prefix_cmp r.0 r.1 (with_rows (take i rows) table)
-with_one_more rows i r table within is =
-    ap (λ xs. with_rows xs table) (take_more rows i r within ∙ ap (λ x. take i rows ++ x ∷ []) (sym is)) ∙ with_rows-push (take i rows) r table
-
--- with all, the rows are set
-pub with_all : (rows table : List (Prefix × Entry)) → with_rows (take (length rows) rows) table ≡ with_rows rows table
-with_all rows table = ap (λ xs. with_rows xs table) (take-length rows)
-
--- a refusal is no success
-pub not_ok : {T E : Type 0} {r : Result T E} {e : E} → r ≡ Err e → IsOk r → ⊥
-not_ok {T} {E} is ok = false≢true (subst (λ (x : Result T E). is_ok x ≡ true) is ok)
-
--- what is found by the longest match is one
-pub longest_where_some : (addr : ℕ) (rows : List (Prefix × Entry)) (found : Option (Prefix × Entry)) → found ≡ longest_match addr rows → IfSome found (IsLongestMatch addr rows)
-longest_where_some addr rows None e = tt
-longest_where_some addr rows (Some f) e = longest_match-found addr rows f (sym e)
 
 -- ---- a row taken out
 

@@ -5,10 +5,10 @@ use Rattle.std.specs.Int.RustNames.{count_ones}
 use Rattle.std.proofs.lemmas.Bool.{cases_eq, false≢true}
 use Rattle.std.proofs.lemmas.Nat.Bits.{bit_at-zero}
 use Rattle.word_pool.specs.Heap.{Heap, size_of, IsWritten, IsTaken, SameOthers}
+use Rattle.bitmaps.proofs.Ranks.{ones_of_zero, rank_lt}
 use Rattle.array_bitmap.specs.Blocks.{rows_of, kids_of, row_index, kid_index, size_for, used_words, row_in, kid_in, IsBlock}
 use Rattle.array_bitmap.specs.Tree.{Cells, words_of, words_at, named}
 use Rattle.array_bitmap.specs.Changes.{PutsWord, PutsRow, PutsKid, TakesBlank, ChangesKid, IsReplaced, IsReworded, IsInserted, WritesName}
-use Rattle.array_bitmap.proofs.Ranks.{rank_lt}
 use Rattle.array_bitmap.proofs.BlockWords.{row_inserted, row_inserted_block, kid_inserted, kid_inserted_block, row_replaced, row_replaced_block, kid_replaced, kid_replaced_block}
 use Rattle.array_bitmap.proofs.OnePath.{named-kid}
 use Rattle.array_bitmap.proofs.PoolWords.{word_listed, size_listed, there, is_words, written_here, written_other, written_size, size_least, block_holds, WritesHead, put_reworded, put_inserted}
@@ -123,11 +123,6 @@ module _ (old mid new : Heap) (block place five kid used index kids : ℕ) (b : 
         changes = kid_inserted (words_of (old block)) (words_of (new place)) five kid clear rows_left kids_written inserted;
         is_block = kid_inserted_block (words_of (old block)) (words_of (new place)) five kid clear rows_left kids_written inserted small some b;
       }
-
--- no bits count as none
-pub ones_of_zero : count_ones 0 ≡ 0
-unfolding count_ones
-ones_of_zero = refl
 
 -- three words want the least size
 pub four : 4 ≡ size_for 3

@@ -1,5 +1,5 @@
 -- Where a path has no block, it has no row there or below, so a row that is refused is not one that is set again.
-use Rattle.std.proofs.Common.{ℕ, ◌≡◌, ◌-◌, ◌/◌, ◌%◌, ◌<◌, ◌≤◌, None, Result, Ok, Err, OnErr, refl, arith, ◌∙◌}
+use Rattle.std.proofs.Common.{ℕ, ◌≡◌, ◌-◌, ◌/◌, ◌%◌, ◌<◌, ◌≤◌, None, refl, arith, ◌∙◌}
 use Rattle.array_bitmap.specs.Bits.{depth_of, five_bits, row_bit}
 use Rattle.array_bitmap.specs.Tree.{Cells, block_at, word_at, IsSound}
 use Rattle.array_bitmap.proofs.Walks.{row-nowhere}
@@ -11,8 +11,3 @@ no_word_below c sound path len d low long none =
     word_of_len c path len 0 (five_bits path ((len - 5) / 5)) (row_bit (five_bits path ((len - 5) / 5)) ((len - 5) % 5)) (omega (arith, low, long))
     (walk_ends c sound path ((len - 5) / 5) d low (omega (arith, long)) none) refl refl
     ∙ row-nowhere c sound.nowhere (row_bit (five_bits path ((len - 5) / 5)) ((len - 5) % 5))
-
--- what holds, holds at a refusal
-pub refused : {T E P : Type 0} (r : Result T E) → P → OnErr r P
-refused (Ok x) p = tt
-refused (Err e) p = p

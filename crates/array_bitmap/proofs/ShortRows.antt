@@ -5,11 +5,12 @@ use Rattle.std.proofs.lemmas.Nat.{shr-shr, shr_below, pow-add}
 use Rattle.std.proofs.Math.Nat.{pow-le-pow_right}
 use Rattle.array_bitmap.specs.Bits.{depth_of, five_bits, path_start, row_bit, level_of, more_of}
 use Rattle.array_bitmap.specs.Words.{nothing, kind_of, len_of, shown, found, IsRowWord}
-use Rattle.array_bitmap.specs.Greatest.{GreatestBelow}
+use Rattle.bitmaps.specs.Greatest.{GreatestBelow}
 use Rattle.array_bitmap.specs.Blocks.{row_in}
 use Rattle.array_bitmap.specs.Tree.{Cells, words_at, kid_at, block_at, short_word, long_word, word_at, IsSound, SetsWord}
 use Rattle.array_bitmap.proofs.PathBits.{start_above}
-use Rattle.array_bitmap.proofs.Walks.{block-first, block-next, word-short, word-long, none≢some}
+use Rattle.bitmaps.proofs.Options.{none≢some}
+use Rattle.array_bitmap.proofs.Walks.{block-first, block-next, word-short, word-long}
 use Rattle.array_bitmap.proofs.SetsWords.{row_words_stay, GreatestBelow-same}
 use Rattle.array_bitmap.proofs.LongestRow.{found-row}
 

@@ -4,14 +4,15 @@ use Rattle.std.proofs.lemmas.List.{get_or-set_same, get_or-set_other, get_or_rea
 use Rattle.std.proofs.lemmas.Nat.{pow_pos}
 use Rattle.array_bitmap.specs.Bits.{depth_of, path_start}
 use Rattle.array_bitmap.specs.Words.{nothing, len_of, shown, found, IsRowWord}
-use Rattle.array_bitmap.specs.Greatest.{GreatestBelow}
+use Rattle.bitmaps.specs.Greatest.{GreatestBelow}
 use Rattle.array_bitmap.specs.Tree.{Cells, short_word, word_at, IsSound, SetsWord}
 use Rattle.array_bitmap.specs.Image.{top_at}
 use Rattle.array_bitmap.specs.declared.tree.Top.{Top}
 use Rattle.array_bitmap.proofs.Arrays.{best_covered, best_uncovered, blocks_stay, arrays_kept}
 use Rattle.array_bitmap.proofs.ShortRows.{short_set_sound, short_set_sets, short_gone_sound, short_gone_sets, nothing_shown}
 use Rattle.array_bitmap.proofs.Walks.{word-short}
-use Rattle.array_bitmap.proofs.LongestRow.{found-row, GreatestBelow-end}
+use Rattle.bitmaps.proofs.Finds.{GreatestBelow-end}
+use Rattle.array_bitmap.proofs.LongestRow.{found-row}
 use Rattle.std.proofs.lemmas.Bool.{cond-false, ne_eqb}
 
 -- the words of an image, by its arrays and its blocks

@@ -13,11 +13,13 @@ use Rattle.array_bitmap.specs.Changes.{IsReworded, WritesName, PutsRow, PutsKid,
 use Rattle.array_bitmap.specs.Image.{IsStand, LosesBlock}
 use Rattle.array_bitmap.specs.declared.tree.Stand.{Stand}
 use Rattle.array_bitmap.proofs.Covering.{row-clear}
-use Rattle.array_bitmap.proofs.Walks.{some-from, kid-clear, kid_is_set, block-first, block-next, word_in, gone}
+use Rattle.bitmaps.proofs.Options.{some-from}
+use Rattle.array_bitmap.proofs.Walks.{kid-clear, kid_is_set, block-first, block-next, word_in, gone}
 use Rattle.array_bitmap.proofs.ShortRows.{start_small}
 use Rattle.array_bitmap.proofs.PrefixRows.{word_covers}
 use Rattle.array_bitmap.proofs.Drops.{unnamed_sound, unnamed_words, unnamed_gone, has_no_name, given_sound, given_words, given_walks}
-use Rattle.array_bitmap.proofs.Puts.{ones_of_zero, four}
+use Rattle.bitmaps.proofs.Ranks.{ones_of_zero}
+use Rattle.array_bitmap.proofs.Puts.{four}
 use Rattle.array_bitmap.proofs.OnePath.{named-kid, holder, index_in, name_of, named_used, not_its_own}
 use Rattle.array_bitmap.proofs.PoolWords.{is_words}
 use Rattle.array_bitmap.proofs.Moves.{row_sets, row_sound, kid_words, kid_place, kid_sound, lost_sound, lost_words, lost_unnamed, lost_stays, lost_gone}

@@ -4,7 +4,7 @@
 -- stand behind the places of the kids, in the order of the rows' bits, and then no word of today would move.
 use Rattle.std.specs.Prelude.{ℕ, ◌≡◌, ◌≢◌, ◌+◌, ◌*◌, ◌^◌, ◌<◌, List, length, slice_index, Option, Some, None, cond, eqb, nat_le, count_ones}
 use Rattle.std.specs.Int.{bit_at}
-use Rattle.array_bitmap.specs.Bits.{rank}
+use Rattle.bitmaps.specs.Bits.{rank}
 use Rattle.array_bitmap.specs.declared.blocks.Head.{Head}
 
 -- the rows' bits, and the kids'

@@ -3,7 +3,7 @@ use Rattle.std.specs.Prelude.{ℕ, zero, suc, ◌≡◌, ◌≢◌, ◌+◌, ◌
 use Rattle.array_bitmap.specs.Bits.{depth_of, five_bits, path_start, row_bit, level_of, more_of}
 use Rattle.array_bitmap.specs.Words.{shown, found, entry_of, IsRowWord}
 use Rattle.array_bitmap.specs.Blocks.{row_in, kid_in, IsBlock}
-use Rattle.array_bitmap.specs.Greatest.{GreatestBelow}
+use Rattle.bitmaps.specs.Greatest.{GreatestBelow}
 use Rattle.network_model.specs.declared.route.Entry.{Entry}
 use Rattle.ipv4_prefix.specs.Prefix.{Prefix}
 use Rattle.ipv4_prefix.specs.Tables.{table_rows}

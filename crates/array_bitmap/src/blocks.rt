@@ -2,7 +2,7 @@
 
 ghost use Rattle.std.specs.Prelude.{◌≡◌, ◌≢◌, ℕ, ◌+◌, ◌*◌, ◌^◌, ◌<◌, ◌≤◌, bit_and, is_some, true, IsTrue, Option, None, IfOk, OnErr};
 ghost use Rattle.std.specs.Int.{bit_at};
-ghost use Rattle.array_bitmap.specs.Bits.{IsHighest};
+ghost use Rattle.bitmaps.specs.Bits.{IsHighest};
 ghost use Rattle.array_bitmap.specs.Blocks.{rows_of, kids_of, row_in, kid_in, word_after, size_for, IsBlock, IsHead};
 ghost use Rattle.array_bitmap.specs.Changes.{Copies, GetsRoom, ShiftsIn, PutsWord, PutsRow, PutsKid, TakesBlank, GetsKid, ShiftsOut, Narrows, TakesWord, TakesRow, TakesKid};
 ghost use Rattle.array_bitmap.specs.Tree.{words_of};
@@ -113,7 +113,7 @@ pub(crate) fn word_after<A: Allocator>(
     requires is_block { IsBlock (words_of (blocks pool.now block)) }
     requires head { IsHead (words_of (blocks pool.now block)) head }
     ensures { let ws = words_of (blocks pool.now block) in (bit : Option ℕ)
-        × IsHighest (bit_and (rows_of ws) cover) bit
+        × IsHighest 64 (bit_and (rows_of ws) cover) bit
         × (result ≡ word_after ws best bit) }
 {
     let hits = head.rows & cover;

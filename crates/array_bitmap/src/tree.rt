@@ -3,9 +3,8 @@
 ghost use Rattle.std.specs.Prelude.{◌≡◌, ◌≢◌, ℕ, ◌+◌, ◌-◌, ◌*◌, ◌^◌, ◌<◌, ◌≤◌, min, ◌==◌, vec_len, replicate, [], cond, nat_le, is_some, true, false, Option, Some, None, MatchOption, IfOk, OnOk, OnErr};
 ghost use Rattle.std.specs.Int.{bit_at};
 ghost use Rattle.array_bitmap.specs.Bits.{depth_of};
-ghost use Rattle.array_bitmap.specs.Words.{found, len_of};
-ghost use Rattle.array_bitmap.specs.Greatest.{GreatestBelow};
-ghost use Rattle.array_bitmap.specs.Words.{IsRowWord};
+ghost use Rattle.array_bitmap.specs.Words.{found, len_of, IsRowWord};
+ghost use Rattle.bitmaps.specs.Greatest.{GreatestBelow};
 ghost use Rattle.array_bitmap.specs.Blocks.{rows_of, kids_of, IsBlock, IsHead};
 ghost use Rattle.array_bitmap.specs.Tree.{words_of, block_at, word_at, SetsWord};
 ghost use Rattle.array_bitmap.specs.Changes.{WritesName};

@@ -1,27 +1,22 @@
 -- What the calls of a tree leave, as its code computes it.
-use Rattle.std.proofs.Common.{ℕ, suc, ◌≡◌, ◌≢◌, ⊎_elim, ◌+◌, ◌*◌, ◌^◌, ◌<◌, ◌≤◌, Option, Some, true, is_some, count_ones, arith, refl, sym, ap, subst, ◌∙◌, Result, Ok, Err, OnErr}
+use Rattle.std.proofs.Common.{ℕ, suc, ◌≡◌, ◌≢◌, ◌+◌, ◌*◌, ◌^◌, ◌<◌, ◌≤◌, Option, Some, true, is_some, count_ones, arith, refl, sym, ap, subst, ◌∙◌}
 use Rattle.std.specs.Int.{bit_at}
 use Rattle.std.proofs.lemmas.Nat.{ones-le}
-use Rattle.std.proofs.lemmas.Nat.Bits.{bit_at-lt}
-use Rattle.std.proofs.lemmas.Bool.{cases_order}
 use mathlib.Core.Path.{fun_ext}
 use Rattle.node_pool.specs.Pool.{IsGrown, IsWritten}
-use Rattle.tree_bitmap.specs.Bits.{rank, nibble, path_start, internal_bit}
+use Rattle.bitmaps.specs.Bits.{rank}
+use Rattle.bitmaps.proofs.HighestBit.{clear_bit}
+use Rattle.tree_bitmap.specs.Bits.{nibble, path_start, internal_bit}
 use Rattle.tree_bitmap.specs.Tree.{blank, node_at, row_at, IsLaidOut, SetsRow, with_child, with_result, IsChild, IsResult}
 use Rattle.tree_bitmap.specs.declared.node.Node.{Node}
 use Rattle.network_model.specs.declared.route.Entry.{Entry}
-use Rattle.tree_bitmap.proofs.Ranks.{ones-add, add_lt, bit_at-add_same, rank-add_below}
-use Rattle.tree_bitmap.proofs.Paths.{child_in_block, Some_same, ones_of_zero, step_yes, result_in_block}
+use Rattle.bitmaps.proofs.Ranks.{ones-add, add_lt, bit_at-add_same, rank-add_below, ones_of_zero}
+use Rattle.bitmaps.proofs.Options.{Some_same}
+use Rattle.tree_bitmap.proofs.Paths.{child_in_block, step_yes, result_in_block}
 use Rattle.tree_bitmap.proofs.NewChild.{gap_cell, new_child}
 use Rattle.tree_bitmap.proofs.MovedChildren.{MovesChildren, moved_sound, moved_rows, index_on}
 use Rattle.tree_bitmap.proofs.MovedResults.{SetsBit}
 use Rattle.tree_bitmap.proofs.NewResult.{row_hit, row_miss, replace_sets, replace_sound, insert_sets, insert_sound}
-
--- a bit that is not set is 0
-pub clear_bit : (n k : ℕ) → bit_at n k ≢ 1 → bit_at n k ≡ 0
-clear_bit n k h =
-    let l : bit_at n k < 2 = bit_at-lt n k in
-    ⊎_elim (λ e. absurd (h e)) (λ e. omega arith) (cases_order (bit_at n k) 1)
 
 -- where there is room for one bit more, at most 15 are set
 pub few_from : (n k m : ℕ) → m < 2 ^ 16 → m ≡ n + 2 ^ k → bit_at n k ≢ 1 → count_ones n ≤ 15
@@ -45,11 +40,6 @@ blank_count o a e f = ap (λ x. count_ones x.external) (Some_same o a blank e f)
 -- cells with the same contents are as sound
 pub same_sound : (N N' : ℕ → Option Node) (G G' : ℕ → Option Entry) → ((k : ℕ) → N' k ≡ N k) → ((k : ℕ) → G' k ≡ G k) → IsLaidOut N G → IsLaidOut N' G'
 same_sound N N' G G' e f s = subst (λ n. IsLaidOut n G') (fun_ext (λ k. sym (e k))) (subst (λ g. IsLaidOut N g) (fun_ext (λ k. sym (f k))) s)
-
--- what holds holds on a refusal
-pub on_err_from : {T E P : Type 0} (r : Result T E) → P → OnErr r P
-on_err_from (Ok x) p = tt
-on_err_from (Err e) p = p
 
 -- where the child of the node on a path stands
 pub child_place_after : (N : ℕ → Option Node) (path depth index : ℕ) (a : Node) (four below : ℕ) → node_at N path depth ≡ Some index → N index ≡ Some a

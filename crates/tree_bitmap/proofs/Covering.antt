@@ -1,36 +1,17 @@
 -- The longest prefix of an address that ends in a node.
-use Rattle.std.proofs.Common.{ℕ, zero, suc, ◌≡◌, ◌⊎◌, inl, inr, ⊎_elim, ◌↔◌, ◌+◌, ◌-◌, ◌*◌, ◌/◌, ◌%◌, ◌^◌, ◌<◌, ◌≤◌, min, max, bit_and, bit_or, [], ◌∷◌, slice_index_or, Bool, true, ◌==◌, ◌&&◌, Option, Some, None, arith, refl, sym, ap, subst, ◌∙◌}
+use Rattle.std.proofs.Common.{ℕ, zero, suc, ◌≡◌, ◌⊎◌, inl, inr, ⊎_elim, ◌↔◌, ◌+◌, ◌/◌, ◌^◌, ◌<◌, ◌≤◌, max, bit_and, bit_or, [], ◌∷◌, slice_index_or, Bool, true, ◌==◌, ◌&&◌, Option, Some, None, arith, refl, sym, ap, ◌∙◌}
 use Rattle.std.specs.Int.{bit_at}
-use Rattle.std.specs.Int.Count.{count_leading_zeros}
 use Rattle.std.proofs.lemmas.Bool.{cases_eq, lt-ltb, le-ltb, and_parts, eqb-true}
-use Rattle.std.proofs.lemmas.Nat.{leading_top, pow-add, shr_high}
-use Rattle.std.proofs.lemmas.Nat.Bits.{bit_at-zero, bit_at-lt, bit_at_and, bit_at_or, bit_at_above, bit_at-pow_same, bit_at-pow_other}
-use Rattle.tree_bitmap.specs.Greatest.{GreatestBelow}
-use Rattle.tree_bitmap.specs.Bits.{internal_bit, length_of, IsHighest, width}
+use Rattle.std.proofs.lemmas.Nat.Bits.{bit_at-zero, bit_at-lt, bit_at_and, bit_at_or, bit_at-pow_same, bit_at-pow_other}
+use Rattle.bitmaps.specs.Greatest.{GreatestBelow}
+use Rattle.bitmaps.specs.Bits.{IsHighest}
+use Rattle.bitmaps.proofs.HighestBit.{both_bits}
+use Rattle.tree_bitmap.specs.Bits.{internal_bit, length_of, width}
 use Rattle.tree_bitmap.specs.Hit.{bit_place}
 use Rattle.tree_bitmap.specs.Tree.{result_place}
 use Rattle.tree_bitmap.specs.declared.node.Node.{Node}
 use Rattle.tree_bitmap.proofs.FirstBits.{internal_bit_small}
 use Rattle.tree_bitmap.proofs.Paths.{place-set, place-clear}
-
--- ---- the greatest bit
-
--- a number from 2 ^ j up to 2 ^ (j + 1) has bit j
-top_bit : (a j : ℕ) → 2 ^ j ≤ a → a < 2 ^ suc j → bit_at a j ≡ 1
-top_bit a j low high =
-    let next : suc j ≡ 1 + j = omega arith in
-    let two : 2 ^ suc j ≡ 2 ^ 1 * 2 ^ j = ap (λ m. 2 ^ m) next ∙ pow-add 2 1 j in
-    let rest : a - 2 ^ j < 2 ^ j = omega (arith, high, two) in
-    let whole : 1 * 2 ^ j + (a - 2 ^ j) ≡ a = omega (arith, low) in
-    ap (λ m. m % 2) (ap (λ m. m / 2 ^ j) (sym whole) ∙ shr_high 1 j (a - 2 ^ j) rest)
-
--- the greatest bit of a number of 16 bits, by its leading zeros
-pub highest_bit : (a : ℕ) → 0 < a → a < 2 ^ 16 → IsHighest a (Some (15 - count_leading_zeros 16 a))
-highest_bit a some small =
-    let top = leading_top 16 a some small in
-    let j = top.0 in
-    let at : j ≡ 15 - count_leading_zeros 16 a = omega (arith, top.1) in
-    subst (λ bit. IsHighest a (Some bit)) at (omega (arith, top.1), top_bit a j top.2 top.3, λ k l. bit_at_above a (suc j) k top.3 (omega (arith, l)))
 
 -- ---- bits of covering prefixes
 
@@ -162,14 +143,6 @@ longer_is_greater four l (suc (suc (suc (suc n)))) h a b = absurd (omega arith)
 
 -- ---- the longest prefix in a node
 
--- a bit of both bitmaps is one of either
-pub both_bits : (m n k : ℕ) → bit_at (bit_and m n) k ≡ 1 → (bit_at m k ≡ 1) × (bit_at n k ≡ 1)
-both_bits m n k h =
-    let both : bit_at (bit_and m n) k ≡ min (bit_at m k) (bit_at n k) = bit_at_and m n k in
-    let a : bit_at m k < 2 = bit_at-lt m k in
-    let b : bit_at n k < 2 = bit_at-lt n k in
-    (omega (arith, both, h, a), omega (arith, both, h, b))
-
 module _ (a : Node) (four depth cover : ℕ) (small : four < 16)
     (covered : (k : ℕ) → k < 16 → bit_at cover k ≡ 1 ↔ ((len : ℕ) × (len < width depth) × (k ≡ internal_bit four len))) where
   -- at most four lengths end in a node
@@ -185,14 +158,14 @@ module _ (a : Node) (four depth cover : ℕ) (small : four < 16)
       omega (arith, bit_at_and a.internal cover k, h, c)
 
   -- where no masked bit is set, no prefix of the address ends in the node
-  none_in : IsHighest (bit_and a.internal cover) None → GreatestBelow (λ len. result_place (internal_bit four len) (Some a)) (width depth) None
+  none_in : IsHighest 16 (bit_and a.internal cover) None → GreatestBelow (λ len. result_place (internal_bit four len) (Some a)) (width depth) None
   none_in z len l = place-clear (internal_bit four len) a (λ h.
       let one : bit_at (bit_and a.internal cover) (internal_bit four len) ≡ 1 = masked len l h in
       let none : bit_at (bit_and a.internal cover) (internal_bit four len) ≡ 0 = ap (λ m. bit_at m (internal_bit four len)) z ∙ bit_at-zero (internal_bit four len) in
       omega (arith, one, none))
 
   -- else the greatest is that of the longest
-  some_in : (bit : ℕ) → IsHighest (bit_and a.internal cover) (Some bit)
+  some_in : (bit : ℕ) → IsHighest 16 (bit_and a.internal cover) (Some bit)
       → GreatestBelow (λ len. result_place (internal_bit four len) (Some a)) (width depth) (bit_place a (Some bit))
   some_in bit top =
       let both = both_bits a.internal cover bit top.1 in
@@ -209,6 +182,6 @@ module _ (a : Node) (four depth cover : ℕ) (small : four < 16)
       )
 
   -- so it is the longest, if there is one
-  pub longest_in : (bit : Option ℕ) → IsHighest (bit_and a.internal cover) bit → GreatestBelow (λ len. result_place (internal_bit four len) (Some a)) (width depth) (bit_place a bit)
+  pub longest_in : (bit : Option ℕ) → IsHighest 16 (bit_and a.internal cover) bit → GreatestBelow (λ len. result_place (internal_bit four len) (Some a)) (width depth) (bit_place a bit)
   longest_in None top = none_in top
   longest_in (Some bit) top = some_in bit top

@@ -14,7 +14,8 @@ use Rattle.tree_bitmap.specs.declared.lanes.Hit.{Hit}
 use Rattle.tree_bitmap.specs.declared.lanes.Lane.{Lane}
 use Rattle.tree_bitmap.proofs.Covering.{longest_in}
 use Rattle.tree_bitmap.proofs.LongestRow.{best_after, best_last}
-use Rattle.tree_bitmap.proofs.Paths.{root_at, none≢some}
+use Rattle.bitmaps.proofs.Options.{none≢some}
+use Rattle.tree_bitmap.proofs.Paths.{root_at}
 
 module _ {A : Type 0} (tree : Tree A) where
   -- after nine levels the longest row is found

@@ -4,7 +4,8 @@ use Rattle.std.proofs.lemmas.Bool.{cases_lt}
 use Rattle.tree_bitmap.specs.Tree.{blank, node_at, row_at, IsChild, IsResult, IsLaidOut}
 use Rattle.tree_bitmap.specs.declared.node.Node.{Node}
 use Rattle.network_model.specs.declared.route.Entry.{Entry}
-use Rattle.tree_bitmap.proofs.Paths.{is_some-from, none≢some, Some_same, empty_has_no_child, empty_has_no_result, root_at, blank_ends, entry-blank, row-some, row-none}
+use Rattle.bitmaps.proofs.Options.{none≢some, Some_same}
+use Rattle.tree_bitmap.proofs.Paths.{is_some-from, empty_has_no_child, empty_has_no_result, root_at, blank_ends, entry-blank, row-some, row-none}
 use Rattle.tree_bitmap.proofs.LongestRow.{gone}
 
 -- a tree whose root is blank has no rows

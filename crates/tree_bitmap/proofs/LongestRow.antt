@@ -1,42 +1,18 @@
 -- The longest row on a path.
-use Rattle.std.proofs.Common.{ℕ, zero, suc, ◌≡◌, ◌≢◌, ◌⊎◌, inl, inr, ⊎_elim, ◌+◌, ◌-◌, ◌*◌, ◌/◌, ◌%◌, ◌^◌, ◌<◌, ◌≤◌, min, Option, Some, None, is_some, true, option_and_then, arith, refl, sym, ap, subst, ◌∙◌}
+use Rattle.std.proofs.Common.{ℕ, zero, suc, ◌≡◌, ◌≢◌, ◌⊎◌, inl, inr, ◌+◌, ◌-◌, ◌*◌, ◌/◌, ◌%◌, ◌^◌, ◌<◌, ◌≤◌, min, Option, Some, None, is_some, true, option_and_then, arith, sym, ap, subst, ◌∙◌}
 use Rattle.std.specs.Int.{bit_at}
-use Rattle.std.proofs.lemmas.Bool.{cases_lt, cases_eq}
-use Rattle.tree_bitmap.specs.Bits.{rank, nibble, path_start, internal_bit, width}
-use Rattle.tree_bitmap.specs.Greatest.{GreatestBelow, longer}
+use Rattle.std.proofs.lemmas.Bool.{cases_eq}
+use Rattle.bitmaps.specs.Bits.{rank}
+use Rattle.bitmaps.proofs.Finds.{GreatestBelow-end, GreatestBelow-longer}
+use Rattle.tree_bitmap.specs.Bits.{nibble, path_start, internal_bit, width}
+use Rattle.bitmaps.specs.Greatest.{GreatestBelow, longer}
 use Rattle.tree_bitmap.specs.Tree.{node_at, entry_at_bit, result_place, place_at, row_at, node_cell, IsLaidOut}
 use Rattle.tree_bitmap.specs.declared.node.Node.{Node}
 use Rattle.network_model.specs.declared.route.Entry.{Entry}
-use Rattle.tree_bitmap.proofs.Paths.{cases_option, some-from, none≢some, Some_same, node_used, step_none, step_no, place-some, place-none, place-set, place-clear, result_in_block}
+use Rattle.bitmaps.proofs.Options.{cases_option, some-from, none≢some, Some_same}
+use Rattle.tree_bitmap.proofs.Paths.{node_used, step_none, step_no, place-some, place-none, place-set, place-clear, result_in_block}
 use Rattle.tree_bitmap.proofs.FirstBits.{parts_from_first}
 use Rattle.tree_bitmap.proofs.OnePath.{node_at-same}
-
--- where nothing is among the next w numbers, there is nothing
-longer-none : {X : Type 0} (f g : ℕ → Option X) (n w : ℕ) → ((k : ℕ) → k < w → f (n + k) ≡ g k) → ((k : ℕ) → k < w → g k ≡ None)
-    → (k : ℕ) → n ≤ k → k < n + w → f k ≡ None
-longer-none f g n w s o k l h =
-    let e : n + (k - n) ≡ k = omega arith in
-    ap f (sym e) ∙ s (k - n) (omega arith) ∙ o (k - n) (omega arith)
-
--- what is found within the next w bits, where there is any, is the longest so far
-pub GreatestBelow-longer : {X : Type 0} (f g : ℕ → Option X) (n w : ℕ) (own above : Option (ℕ × X)) → ((k : ℕ) → k < w → f (n + k) ≡ g k)
-    → GreatestBelow g w own → (own ≡ None → GreatestBelow f n above) → GreatestBelow f (n + w) (longer own n above)
-GreatestBelow-longer f g n w None None s o a = λ k h.
-    ⊎_elim (λ l. a refl k l) (λ l. longer-none f g n w s o k l h) (cases_lt k n)
-GreatestBelow-longer f g n w None (Some r) s o a =
-    let b = a refl in
-    (omega (arith, b.0), b.1, λ k l h. ⊎_elim (λ below. b.2 k l below) (λ past. longer-none f g n w s o k past h) (cases_lt k n))
-GreatestBelow-longer f g n w (Some own) above s o a = (
-  omega (arith, o.0),
-  s own.0 o.0 ∙ o.1,
-  λ k l h. let e : n + (k - n) ≡ k = omega arith in
-      ap f (sym e) ∙ s (k - n) (omega arith) ∙ o.2 (k - n) (omega arith) (omega arith),
-)
-
--- the greatest find stays the greatest where nothing comes after
-pub GreatestBelow-end : {X : Type 0} (f : ℕ → Option X) (n m : ℕ) (best : Option (ℕ × X)) → n ≤ m → ((k : ℕ) → n ≤ k → k < m → f k ≡ None) → GreatestBelow f n best → GreatestBelow f m best
-GreatestBelow-end f n m None h e b = λ k l. ⊎_elim (λ q. b k q) (λ q. e k q l) (cases_lt k n)
-GreatestBelow-end f n m (Some r) h e b = (omega (arith, b.0), b.1, λ k l q. ⊎_elim (λ below. b.2 k l below) (λ past. e k past q) (cases_lt k n))
 
 -- where the walk has ended it stays ended
 pub gone : (nodes : ℕ → Option Node) (path depth more : ℕ) → node_at nodes path depth ≡ None → node_at nodes path (more + depth) ≡ None

@@ -3,13 +3,14 @@ use Rattle.std.proofs.Common.{ℕ, zero, suc, ◌≡◌, ◌≢◌, ◌⊎◌, i
 use Rattle.std.specs.Int.{bit_at}
 use Rattle.std.proofs.lemmas.Bool.{cases_eq}
 use Rattle.node_pool.specs.Pool.{IsWritten}
-use Rattle.tree_bitmap.specs.Bits.{rank}
+use Rattle.bitmaps.specs.Bits.{rank}
 use Rattle.tree_bitmap.specs.Tree.{nibble, IsChild, IsResult, child_by, child_under, node_at, entry_at_bit, IsLaidOut, with_results}
 use Rattle.tree_bitmap.specs.declared.node.Node.{Node}
 use Rattle.network_model.specs.declared.route.Entry.{Entry}
 use Rattle.node_pool.proofs.Blocks.{none≢is_some}
 use Rattle.tree_bitmap.proofs.MovedBlock.{IsMoved, block_bit}
-use Rattle.tree_bitmap.proofs.Paths.{is_some-from, Some_same, entry-set, entry-clear, result_in_block}
+use Rattle.bitmaps.proofs.Options.{Some_same}
+use Rattle.tree_bitmap.proofs.Paths.{is_some-from, entry-set, entry-clear, result_in_block}
 
 -- what changed: the entry at one bit of the node at `index`
 pub record SetsBit (N N' : ℕ → Option Node) (G G' : ℕ → Option Entry) (index bit : ℕ) (entry : Option Entry) (a a' : Node) : Type 0 where

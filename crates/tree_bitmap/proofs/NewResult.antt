@@ -3,14 +3,15 @@ use Rattle.std.proofs.Common.{ℕ, ◌≡◌, ◌≢◌, ◌⊎◌, inl, inr, �
 use Rattle.std.specs.Int.{bit_at}
 use Rattle.std.proofs.lemmas.Bool.{cases_eq, cases_order}
 use Rattle.node_pool.specs.Pool.{IsGrown, IsWritten}
-use Rattle.tree_bitmap.specs.Bits.{rank}
+use Rattle.bitmaps.specs.Bits.{rank}
 use Rattle.tree_bitmap.specs.Tree.{nibble, path_start, internal_bit, IsResult, node_at, entry_at_bit, row_at, IsLaidOut, with_result}
 use Rattle.tree_bitmap.specs.declared.node.Node.{Node}
 use Rattle.network_model.specs.declared.route.Entry.{Entry}
-use Rattle.tree_bitmap.proofs.Ranks.{rank_mono_lt, bit_at-add_same, bit_at-add_other, add_lt, rank-add_below}
+use Rattle.bitmaps.proofs.Ranks.{rank_mono_lt, bit_at-add_same, bit_at-add_other, add_lt, rank-add_below}
 use Rattle.tree_bitmap.proofs.MovedBlock.{IsMoved, moved_by_growth}
 use Rattle.tree_bitmap.proofs.MovedResults.{SetsBit, entry_kept, moved_sets, results_sound}
-use Rattle.tree_bitmap.proofs.Paths.{cases_option, is_some-from, some-from, node_used, row-some, row-none, entry-set, result_in_block}
+use Rattle.bitmaps.proofs.Options.{cases_option, some-from}
+use Rattle.tree_bitmap.proofs.Paths.{is_some-from, node_used, row-some, row-none, entry-set, result_in_block}
 use Rattle.tree_bitmap.proofs.FirstBits.{parts_from_first, first_from_parts, internal_bit_same}
 use Rattle.tree_bitmap.proofs.OnePath.{node_at-same, IsSameWalk, walk_unique}
 

@@ -2,12 +2,13 @@
 use Rattle.std.proofs.Common.{ℕ, zero, suc, ◌≡◌, ◌⊎◌, inl, inr, ⊎_elim, ◌<◌, Option, Some, arith, refl, sym, ap, subst, ◌∙◌}
 use Rattle.std.specs.Int.{bit_at}
 use Rattle.std.proofs.lemmas.Bool.{cases_eq, cases_order, cases_lt}
-use Rattle.tree_bitmap.specs.Bits.{rank}
+use Rattle.bitmaps.specs.Bits.{rank}
 use Rattle.tree_bitmap.specs.Tree.{nibble, child, HasChild, IsChild, child_under, node_at, IsLaidOut}
 use Rattle.tree_bitmap.specs.declared.node.Node.{Node}
 use Rattle.network_model.specs.declared.route.Entry.{Entry}
-use Rattle.tree_bitmap.proofs.Ranks.{rank_mono_lt}
-use Rattle.tree_bitmap.proofs.Paths.{Some_same, child_in_block, root_at, IsStep, step_of}
+use Rattle.bitmaps.proofs.Ranks.{rank_mono_lt}
+use Rattle.bitmaps.proofs.Options.{Some_same}
+use Rattle.tree_bitmap.proofs.Paths.{child_in_block, root_at, IsStep, step_of}
 
 -- set bits of one rank are one bit
 pub rank_same : (n f g : ℕ) → bit_at n f ≡ 1 → bit_at n g ≡ 1 → rank n f ≡ rank n g → f ≡ g

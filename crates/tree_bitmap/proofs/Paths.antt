@@ -2,35 +2,18 @@
 use Rattle.std.proofs.Common.{ℕ, zero, suc, ◌≡◌, ◌≢◌, ◌⊎◌, inl, inr, ◌+◌, ◌/◌, ◌%◌, Option, Some, None, true, cond, eqb, is_some, option_and_then, arith, refl, ap, subst, ◌∙◌}
 use Rattle.std.specs.Int.{bit_at}
 use Rattle.std.specs.Int.RustNames.{count_ones}
-use Rattle.std.proofs.lemmas.Bool.{cond-true, cond-false, eq-eqb, ne_eqb, cases_eq, false≢true}
+use Rattle.std.proofs.lemmas.Bool.{cond-true, cond-false, eq-eqb, ne_eqb, cases_eq}
 use Rattle.std.proofs.lemmas.Nat.Bits.{bit_at-zero}
-use Rattle.tree_bitmap.specs.Bits.{rank}
+use Rattle.bitmaps.specs.Bits.{rank}
+use Rattle.bitmaps.proofs.Options.{Some_same, cases_option, none≢some, some-from}
+use Rattle.bitmaps.proofs.Ranks.{ones_of_zero, rank_lt}
 use Rattle.tree_bitmap.specs.Tree.{IsEmpty, blank, nibble, child, HasChild, internal_bit, IsChild, IsResult, child_by, child_under, node_at, result_place, entry_at_bit, node_cell, place_at, row_at, IsLaidOut, with_children}
 use Rattle.tree_bitmap.specs.declared.node.Node.{Node}
 use Rattle.network_model.specs.declared.route.Entry.{Entry}
-use Rattle.tree_bitmap.proofs.Ranks.{rank_lt}
-
--- there is something or nothing
-pub cases_option : {A : Type 0} (o : Option A) → (o ≡ None) ⊎ ((x : A) × (o ≡ Some x))
-cases_option None = inl refl
-cases_option (Some x) = inr (x, refl)
 
 -- where there is something, it is some
 pub is_some-from : {A : Type 0} (o : Option A) (x : A) → o ≡ Some x → is_some o ≡ true
 is_some-from o x e = ap is_some e
-
--- what is some is something
-pub some-from : {A : Type 0} (o : Option A) → is_some o ≡ true → (x : A) × (o ≡ Some x)
-some-from None h = absurd (false≢true h)
-some-from (Some x) h = (x, refl)
-
--- nothing is not something
-pub none≢some : {A : Type 0} (o : Option A) (x : A) → o ≡ None → o ≡ Some x → ⊥
-none≢some o x n s = cc
-
--- one option holds one thing
-pub Some_same : {A : Type 0} (o : Option A) (x y : A) → o ≡ Some x → o ≡ Some y → x ≡ y
-Some_same o x y a b = cc
 
 -- a child stands in the block of the children
 pub child_in_block : (a : Node) (four : ℕ) → HasChild a four → IsChild a (child a four)
@@ -137,11 +120,6 @@ unfolding row_at place_at node_cell
 row-none nodes results path len e =
     ap (λ o. entry_at_bit results (internal_bit (nibble path (len / 4)) (len % 4)) (node_cell nodes o)) e
     ∙ entry-none results (internal_bit (nibble path (len / 4)) (len % 4))
-
--- zero has no set bits
-pub ones_of_zero : count_ones 0 ≡ 0
-unfolding count_ones
-ones_of_zero = refl
 
 -- an empty node has no child
 pub empty_has_no_child : (a : Node) → IsEmpty a → (k : ℕ) → IsChild a k → ⊥

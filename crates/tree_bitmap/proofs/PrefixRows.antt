@@ -1,21 +1,15 @@
 -- Rows of a tree by prefixes.
-use Rattle.std.specs.FinMap.{put}
-use Rattle.std.proofs.Common.{List, [], ◌∷◌, ◌++◌, length, take, get_or, ℕ, ◌≡◌, ◌+◌, ◌-◌, ◌*◌, ◌/◌, ◌^◌, ◌<◌, ◌≤◌, Bool, true, false, cond, Option, Some, None, IfSome, arith, refl, sym, ap, subst, ◌∙◌, Result, Err, IsOk, shr-shr}
-use Rattle.std.specs.Result.{is_ok}
-use Rattle.std.proofs.lemmas.List.{take_more}
-use Rattle.std.proofs.Math.Seq.{take-length}
-use Rattle.std.proofs.lemmas.Bool.{eq-eqb, eqb-true, false≢true}
+use Rattle.std.proofs.Common.{ℕ, ◌≡◌, ◌+◌, ◌-◌, ◌*◌, ◌/◌, ◌^◌, ◌≤◌, Bool, true, false, cond, Option, Some, None, arith, refl, sym, ap, subst, ◌∙◌, shr-shr}
+use Rattle.std.proofs.lemmas.Bool.{eq-eqb, eqb-true}
 use mathlib.Core.Path.{fun_ext}
-use Rattle.ipv4_prefix.specs.Prefix.{Prefix, IsPrefix, covers, prefix_cmp, prefix_eq}
-use Rattle.ipv4_prefix.specs.LongestMatch.{IsLongestIn, IsLongestMatch, longest_match}
+use Rattle.ipv4_prefix.specs.Prefix.{Prefix, IsPrefix, covers, prefix_eq}
+use Rattle.ipv4_prefix.specs.LongestMatch.{IsLongestIn}
 use Rattle.ipv4_prefix.specs.Tables.{table_rows}
 use Rattle.ipv4_prefix.proofs.PrefixOrder.{prefix_eq-Decides}
-use Rattle.ipv4_prefix.proofs.LongestMatches.{covering_same, longest_match-found}
+use Rattle.ipv4_prefix.proofs.LongestMatches.{covering_same}
 use Rattle.network_model.specs.declared.route.Entry.{Entry}
-use Rattle.network_model.specs.Publication.{with_rows}
-use Rattle.network_model.proofs.RowLaws.{with_rows-push}
 use Rattle.tree_bitmap.specs.Bits.{path_start}
-use Rattle.tree_bitmap.specs.Greatest.{GreatestBelow}
+use Rattle.bitmaps.specs.Greatest.{GreatestBelow}
 use Rattle.tree_bitmap.specs.Tree.{row_at, SetsRow}
 use Rattle.tree_bitmap.specs.declared.node.Node.{Node}
 use Rattle.tree_bitmap.proofs.LongestRow.{row_covers}
@@ -82,18 +76,6 @@ pub sets_entry_at : (old new : ℕ → ℕ → Option Entry) (q : Prefix) (entry
 sets_entry_at old new q entry path len valid at same sets =
     sets_entry old new q entry valid (subst (λ k. SetsRow old new (q.addr * 16) k entry) same (subst (λ x. SetsRow old new x len entry) at sets))
 
--- ---- rows set in order
-
--- with one row more, that row is put
-pub with_one_more : (rows : List (Prefix × Entry)) (i : ℕ) (r : Prefix × Entry) (table : List (Prefix × Entry)) → i < length rows → r ≡ get_or rows i r
-    → with_rows (take (i + 1) rows) table ≡ put prefix_cmp r.0 r.1 (with_rows (take i rows) table)
-with_one_more rows i r table within is =
-    ap (λ xs. with_rows xs table) (take_more rows i r within ∙ ap (λ x. take i rows ++ x ∷ []) (sym is)) ∙ with_rows-push (take i rows) r table
-
--- with all, the rows are set
-pub with_all : (rows table : List (Prefix × Entry)) → with_rows (take (length rows) rows) table ≡ with_rows rows table
-with_all rows table = ap (λ xs. with_rows xs table) (take-length rows)
-
 -- cells with the same contents have the same rows
 pub same_rows_in : (N N' : ℕ → Option Node) (G G' : ℕ → Option Entry) → ((k : ℕ) → N' k ≡ N k) → ((k : ℕ) → G' k ≡ G k)
     → table_rows (λ p. row_at N' G' (p.addr * 16) p.len) ≡ table_rows (λ p. row_at N G (p.addr * 16) p.len)
@@ -101,12 +83,3 @@ same_rows_in N N' G G' same_nodes same_results =
     let nodes : N' ≡ N = fun_ext same_nodes in
     let results : G' ≡ G = fun_ext same_results in
     λ i. table_rows (λ (p : Prefix). row_at (nodes i) (results i) (p.addr * 16) p.len)
-
--- a refusal is no success
-pub not_ok : {T E : Type 0} {r : Result T E} {e : E} → r ≡ Err e → IsOk r → ⊥
-not_ok {T} {E} is ok = false≢true (subst (λ (x : Result T E). is_ok x ≡ true) is ok)
-
--- what is found by the longest match is one
-pub longest_where_some : (addr : ℕ) (rows : List (Prefix × Entry)) (found : Option (Prefix × Entry)) → found ≡ longest_match addr rows → IfSome found (IsLongestMatch addr rows)
-longest_where_some addr rows None e = tt
-longest_where_some addr rows (Some f) e = longest_match-found addr rows f (sym e)

@@ -1,15 +1,5 @@
 -- Bitmaps, and the bits of a path: an address of 32 bits and four zeros after it.
-use Rattle.std.specs.Prelude.{ℕ, ◌≡◌, ◌+◌, ◌-◌, ◌*◌, ◌/◌, ◌%◌, ◌^◌, ◌<◌, Option, Some, None, count_ones, min, nat_lt, if◌then◌else◌}
-use Rattle.std.specs.Int.{bit_at}
-
--- the number of set bits below bit k
-abbrev pub rank : ℕ → ℕ → ℕ
-rank n k = count_ones (n % 2 ^ k)
-
--- the greatest bit that is set, or none where no bit is
-abbrev pub IsHighest : ℕ → Option ℕ → Type 0
-IsHighest n None = n ≡ 0
-IsHighest n (Some bit) = (bit < 16) × (bit_at n bit ≡ 1) × ((k : ℕ) → bit < k → bit_at n k ≡ 0)
+use Rattle.std.specs.Prelude.{ℕ, ◌+◌, ◌-◌, ◌*◌, ◌/◌, ◌%◌, ◌^◌, min, nat_lt, if◌then◌else◌}
 
 -- the four bits that the node at a depth (0 to 8) reads of a path
 abbrev pub nibble : ℕ → ℕ → ℕ

@@ -1,7 +1,8 @@
 -- What the cells of a tree mean. The cells are functions: `nodes j` is the node at j, or none where the cell is free.
 use Rattle.std.specs.Prelude.{◌*◌, List, ℕ, zero, suc, ◌≡◌, ◌≢◌, ◌⊎◌, ◌+◌, ◌/◌, ◌%◌, ◌^◌, ◌<◌, ◌≤◌, Option, Some, None, true, cond, eqb, is_some, option_and_then, count_ones}
 use Rattle.std.specs.Int.{bit_at}
-pub use Rattle.tree_bitmap.specs.Bits.{rank, nibble, path_start, internal_bit}
+use Rattle.bitmaps.specs.Bits.{rank}
+pub use Rattle.tree_bitmap.specs.Bits.{nibble, path_start, internal_bit}
 use Rattle.node_pool.specs.Pool.{cell, room}
 use Rattle.tree_bitmap.specs.declared.tree.Tree.{Tree}
 use Rattle.tree_bitmap.specs.declared.node.Node.{Node}

@@ -3,7 +3,7 @@
 ghost use Rattle.std.specs.Prelude.{◌≡◌, ◌+◌, ◌*◌, ◌^◌, ◌<◌, ◌≤◌, true};
 ghost use Rattle.ipv4_prefix.specs.LongestMatch.{longest_match};
 ghost use Rattle.tree_bitmap.specs.Tree.{IsSoundTree, rows, rows_in};
-ghost use Rattle.tree_bitmap.specs.Greatest.{GreatestBelow};
+ghost use Rattle.bitmaps.specs.Greatest.{GreatestBelow};
 ghost use Rattle.tree_bitmap.specs.Lane.{IsLane, root_lane, longer_hit};
 
 use crate::node::{Node, covers, highest, is_set, length_of, nibble, rank};

@@ -2,11 +2,11 @@ use Rattle.std.proofs.Common.{◌≡◌, ◌+◌, arith, ap, sym, ◌∙◌, sli
 use Rattle.std.specs.Int.{bit_at}
 use Rattle.word_pool.specs.Heap.{size_of, word_of}
 use Rattle.word_pool.specs.Pool.{blocks}
-use Rattle.array_bitmap.specs.Bits.{rank}
+use Rattle.bitmaps.specs.Bits.{rank}
 use Rattle.array_bitmap.specs.Blocks.{kids_of, kid_index}
 use Rattle.array_bitmap.specs.Tree.{words_of}
 use Rattle.array_bitmap.proofs.Picks.{times_one, picked_inside}
-use Rattle.array_bitmap.proofs.Ranks.{rank_lt}
+use Rattle.bitmaps.proofs.Ranks.{rank_lt}
 use Rattle.array_bitmap.proofs.Walks.{kid-set, kid-clear}
 use Rattle.array_bitmap.proofs.PoolWords.{block_head, block_holds, word_listed}
 use Rattle.array_bitmap.proofs.blocks.read_kid.Goals as goal

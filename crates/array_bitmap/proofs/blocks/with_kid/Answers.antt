@@ -1,10 +1,10 @@
 use Rattle.std.proofs.Common.{◌≡◌, ◌+◌, ◌≤◌, ◌^◌, arith, ap, ◌∙◌, count_ones}
 use Rattle.std.specs.Int.{bit_at}
 use Rattle.word_pool.specs.Pool.{blocks}
-use Rattle.array_bitmap.specs.Bits.{rank}
+use Rattle.bitmaps.specs.Bits.{rank}
 use Rattle.array_bitmap.specs.Blocks.{kids_of, kid_index, used_words}
 use Rattle.array_bitmap.specs.Tree.{words_of}
-use Rattle.array_bitmap.proofs.Ranks.{rank_le, add_lt}
+use Rattle.bitmaps.proofs.Ranks.{rank_le, add_lt}
 use Rattle.array_bitmap.proofs.PoolWords.{block_head, few_kids, all_rows}
 use Rattle.array_bitmap.proofs.Puts.{kid_new}
 use Rattle.array_bitmap.proofs.blocks.with_kid.Goals as goal

@@ -3,13 +3,14 @@ use Rattle.std.specs.Int.{bit_at}
 use Rattle.std.proofs.lemmas.Bool.{both_ways}
 use Rattle.word_pool.specs.Heap.{Heap, size_of}
 use Rattle.word_pool.specs.Pool.{blocks}
-use Rattle.array_bitmap.specs.Bits.{rank}
+use Rattle.bitmaps.specs.Bits.{rank}
 use Rattle.array_bitmap.specs.Blocks.{rows_of, kids_of, size_for, used_words, IsBlock}
 use Rattle.array_bitmap.specs.Tree.{words_of}
 use Rattle.array_bitmap.proofs.Covering.{row-clear}
-use Rattle.array_bitmap.proofs.Refusals.{refused}
-use Rattle.array_bitmap.proofs.Ranks.{rank_lt, rank_le}
-use Rattle.array_bitmap.proofs.PoolWords.{block_head, block_holds, few_rows, all_kids, clear_bit, size_least, written_size}
+use Rattle.bitmaps.proofs.Options.{refused}
+use Rattle.bitmaps.proofs.Ranks.{rank_lt, rank_le}
+use Rattle.bitmaps.proofs.HighestBit.{clear_bit}
+use Rattle.array_bitmap.proofs.PoolWords.{block_head, block_holds, few_rows, all_kids, size_least, written_size}
 use Rattle.array_bitmap.proofs.Puts.{row_over, row_new}
 use Rattle.array_bitmap.proofs.blocks.with_row.Goals as goal
 

@@ -1,10 +1,10 @@
 use Rattle.std.proofs.Common.{ℕ, ◌≡◌, ◌+◌, ◌-◌, ◌/◌, ◌%◌, ◌<◌, ◌≤◌, refl, arith, ap, sym, ◌∙◌, count_ones}
 use Rattle.word_pool.specs.Heap.{size_of}
 use Rattle.word_pool.specs.Pool.{blocks}
-use Rattle.array_bitmap.specs.Bits.{rank}
+use Rattle.bitmaps.specs.Bits.{rank}
 use Rattle.array_bitmap.specs.Blocks.{rows_of, size_for, used_words}
 use Rattle.array_bitmap.specs.Tree.{words_of}
-use Rattle.array_bitmap.proofs.Ranks.{rank_lt}
+use Rattle.bitmaps.proofs.Ranks.{rank_lt}
 use Rattle.array_bitmap.proofs.PoolWords.{block_head, few_words, size_least, written_size}
 use Rattle.array_bitmap.proofs.Takes.{row_taken}
 use Rattle.array_bitmap.proofs.blocks.without_row.Goals as goal

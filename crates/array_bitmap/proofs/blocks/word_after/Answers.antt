@@ -2,12 +2,12 @@ use Rattle.std.proofs.Common.{◌≡◌, inl, inr, ◌+◌, arith, ap, sym, subs
 use Rattle.std.specs.Int.{bit_at}
 use Rattle.std.proofs.lemmas.Bool.{cases_eq}
 use Rattle.word_pool.specs.Pool.{blocks}
-use Rattle.array_bitmap.specs.Bits.{rank, IsHighest}
+use Rattle.bitmaps.specs.Bits.{rank, IsHighest}
 use Rattle.array_bitmap.specs.Blocks.{rows_of, row_index}
 use Rattle.array_bitmap.specs.Tree.{words_of}
 use Rattle.array_bitmap.proofs.Picks.{pick_none, pick_some}
-use Rattle.array_bitmap.proofs.Ranks.{rank_lt}
-use Rattle.array_bitmap.proofs.Covering.{both_bits}
+use Rattle.bitmaps.proofs.Ranks.{rank_lt}
+use Rattle.bitmaps.proofs.HighestBit.{both_bits}
 use Rattle.array_bitmap.proofs.PoolWords.{block_head, block_holds, word_listed}
 use Rattle.array_bitmap.proofs.blocks.word_after.Goals as goal
 
@@ -32,7 +32,7 @@ returns g c =
       | inr some ↦
           let index : 3 + c.rank.result ≡ row_index ws c.highest.result = omega (arith, c.rank.ensures.value, ap (λ n. rank n c.highest.result) c.requires.head.rows) in (
             Some c.highest.result,
-            subst (λ n. IsHighest n (Some c.highest.result)) rows (c.highest.ensures.some some),
+            subst (λ n. IsHighest 64 n (Some c.highest.result)) rows (c.highest.ensures.some some),
             c.chosen.ensures.one (pick_some (bit_and c.args.head.rows c.args.cover) c.from.result c.from.ensures some)
                 ∙ c.word-word.ensures ∙ word_listed (blocks c.args.pool.now c.args.block) (3 + c.rank.result) ∙ ap (slice_index ws) index,
           )

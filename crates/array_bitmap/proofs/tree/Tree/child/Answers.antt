@@ -4,7 +4,7 @@ use Rattle.array_bitmap.specs.Bits.{depth_of}
 use Rattle.array_bitmap.specs.Tree.{IsSound}
 use Rattle.array_bitmap.specs.Image.{cells_of}
 use Rattle.array_bitmap.proofs.Lookups.{next_block}
-use Rattle.array_bitmap.proofs.Refusals.{refused}
+use Rattle.bitmaps.proofs.Options.{refused}
 use Rattle.array_bitmap.proofs.Stands.{holder_index, same_cells, kid_stand, kid_holder_block, kid_holder_bit, kid_put_words, kid_put_sound, kid_put_stand}
 use Rattle.array_bitmap.proofs.tree.Tree.child.Goals as goal
 

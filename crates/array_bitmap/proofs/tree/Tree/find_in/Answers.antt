@@ -2,7 +2,8 @@ use Rattle.std.proofs.Common.{◌≡◌, ◌+◌, ◌-◌, ◌*◌, ◌/◌, ◌
 use Rattle.std.specs.Int.{bit_at}
 use Rattle.std.proofs.lemmas.Bool.{both_ways}
 use Rattle.word_pool.specs.Pool.{blocks}
-use Rattle.array_bitmap.specs.Bits.{depth_of, five_bits, path_start, rank, row_bit}
+use Rattle.bitmaps.specs.Bits.{rank}
+use Rattle.array_bitmap.specs.Bits.{depth_of, five_bits, path_start, row_bit}
 use Rattle.array_bitmap.specs.Blocks.{rows_of, row_index}
 use Rattle.array_bitmap.specs.Cursor.{IsFoundAt}
 use Rattle.array_bitmap.specs.Tree.{words_of, block_at, word_at, entry_in}
@@ -12,7 +13,7 @@ use Rattle.array_bitmap.proofs.BlockSteps.{no_five_after, none_until_block_end, 
 use Rattle.array_bitmap.proofs.Covering.{row-set}
 use Rattle.array_bitmap.proofs.Lookups.{block_is}
 use Rattle.array_bitmap.proofs.PoolWords.{block_head, block_holds, word_listed}
-use Rattle.array_bitmap.proofs.Ranks.{rank_lt}
+use Rattle.bitmaps.proofs.Ranks.{rank_lt}
 use Rattle.array_bitmap.proofs.Stands.{word_of_len}
 use Rattle.array_bitmap.proofs.tree.Tree.find_in.Goals as goal
 

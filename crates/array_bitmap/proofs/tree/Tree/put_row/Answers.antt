@@ -4,7 +4,7 @@ use Rattle.array_bitmap.specs.Bits.{depth_of, five_bits, row_bit}
 use Rattle.array_bitmap.specs.Blocks.{row_in}
 use Rattle.array_bitmap.specs.Tree.{words_of, words_at, IsSound}
 use Rattle.array_bitmap.specs.Image.{cells_of}
-use Rattle.array_bitmap.proofs.Refusals.{refused}
+use Rattle.bitmaps.proofs.Options.{refused}
 use Rattle.array_bitmap.proofs.Stands.{holder_stays_block, holder_stays_bit, holder_index, put_sets, put_sound, same_cells, word_of_stand}
 use Rattle.array_bitmap.proofs.tree.Tree.put_row.Goals as goal
 

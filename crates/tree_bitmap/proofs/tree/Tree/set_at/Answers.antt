@@ -1,9 +1,10 @@
 use Rattle.std.proofs.Common.{Some, arith, subst}
 use Rattle.node_pool.specs.Pool.{cell, IsWritten}
 use Rattle.tree_bitmap.specs.Tree.{with_result}
-use Rattle.tree_bitmap.proofs.Ranks.{rank_le}
+use Rattle.bitmaps.proofs.Ranks.{rank_le}
 use Rattle.tree_bitmap.proofs.Paths.{node_used}
-use Rattle.tree_bitmap.proofs.Calls.{few_results, sets_row, put_sound, put_sets, result_used, over_sound, over_sets, on_err_from}
+use Rattle.bitmaps.proofs.Options.{refused}
+use Rattle.tree_bitmap.proofs.Calls.{few_results, sets_row, put_sound, put_sets, result_used, over_sound, over_sets}
 use Rattle.std.proofs.lemmas.Bool.{both_ways}
 use Rattle.tree_bitmap.proofs.tree.Tree.set_at.Goals as goal
 
@@ -73,7 +74,7 @@ returns-then-is_set-clause-sound g c =
 pub returns-in_err-base-clause-full : goal.returns-in_err-base-clause-full
 returns-in_err-base-clause-full g c =
     let few = (few_results c.get-node.result.internal c.args.bit (c.requires.sound.fifteen_bits c.args.index c.get-node.result c.get-node.ensures) c.requires.small (λ h. both_ways c.is_set.result c.if-is_set.false (c.is_set.ensures.1 h))) in
-    on_err_from c.from_residual.result (omega (arith, few, c.count.ensures.value, c.in_err-base.ensures.full))
+    refused c.from_residual.result (omega (arith, few, c.count.ensures.value, c.in_err-base.ensures.full))
 
 pub returns-in_err-base-clause-cost : goal.returns-in_err-base-clause-cost
 returns-in_err-base-clause-cost g c =

@@ -3,7 +3,7 @@ use Rattle.std.specs.FinMap.{put}
 use Rattle.ipv4_prefix.specs.Prefix.{prefix_cmp}
 use Rattle.network_model.specs.Publication.{with_rows}
 use Rattle.tree_bitmap.specs.Tree.{rows_in}
-use Rattle.tree_bitmap.proofs.PrefixRows.{with_one_more, with_all, not_ok}
+use Rattle.bitmaps.proofs.RowsSet.{with_one_more, with_all, not_ok}
 use Rattle.tree_bitmap.proofs.tree.Tree.set_rows.Goals as goal
 
 pub loop-prefix-init : goal.loop-prefix-init
