@@ -7,7 +7,7 @@ use Rattle.bitmaps.specs.Greatest.{GreatestBelow}
 use Rattle.bitmaps.specs.Bits.{IsHighest}
 use Rattle.bitmaps.proofs.HighestBit.{both_bits}
 use Rattle.array_bitmap.specs.Bits.{row_bit, width}
-use Rattle.array_bitmap.specs.Blocks.{rows_of, row_index, row_in}
+use Rattle.array_bitmap.specs.Blocks.{row_map, row_index, row_in}
 use Rattle.array_bitmap.proofs.PathBits.{longer_is_greater}
 
 -- ---- bits of covering prefixes
@@ -55,11 +55,11 @@ covers_level five level k = (covering_set five (width level) k, λ h. subst (λ 
 -- ---- the longest prefix in a block
 
 -- a row whose bit is set, and one whose bit is not
-pub row-set : (ws : List ℕ) (bit : ℕ) → bit_at (rows_of ws) bit ≡ 1 → row_in ws bit ≡ Some (slice_index ws (row_index ws bit))
+pub row-set : (ws : List ℕ) (bit : ℕ) → bit_at (row_map ws) bit ≡ 1 → row_in ws bit ≡ Some (slice_index ws (row_index ws bit))
 unfolding row_in
 row-set ws bit h = cond-true _ _ _ (eq-eqb _ 1 h)
 
-pub row-clear : (ws : List ℕ) (bit : ℕ) → (bit_at (rows_of ws) bit ≡ 1 → ⊥) → row_in ws bit ≡ None
+pub row-clear : (ws : List ℕ) (bit : ℕ) → (bit_at (row_map ws) bit ≡ 1 → ⊥) → row_in ws bit ≡ None
 unfolding row_in
 row-clear ws bit h = cond-false _ _ _ (ne_eqb _ 1 h)
 
@@ -70,33 +70,33 @@ module _ (ws : List ℕ) (five level cover : ℕ) (small : five < 32)
   few = omega arith
 
   -- a covering prefix has its row where its bit is one of those masked
-  masked : (more : ℕ) → more < width level → bit_at (rows_of ws) (row_bit five more) ≡ 1 → bit_at (bit_and (rows_of ws) cover) (row_bit five more) ≡ 1
+  masked : (more : ℕ) → more < width level → bit_at (row_map ws) (row_bit five more) ≡ 1 → bit_at (bit_and (row_map ws) cover) (row_bit five more) ≡ 1
   masked more l h =
       let k = row_bit five more in
       let c : bit_at cover k ≡ 1 = (covered k).1 (more, l, refl) in
-      omega (arith, bit_at_and (rows_of ws) cover k, h, c)
+      omega (arith, bit_at_and (row_map ws) cover k, h, c)
 
   -- where no masked bit is set, no prefix of the path ends in the block
-  pub none_in : IsHighest 64 (bit_and (rows_of ws) cover) None → GreatestBelow (λ more. row_in ws (row_bit five more)) (width level) None
+  pub none_in : IsHighest 64 (bit_and (row_map ws) cover) None → GreatestBelow (λ more. row_in ws (row_bit five more)) (width level) None
   none_in z more l = row-clear ws (row_bit five more) (λ h.
-      let one : bit_at (bit_and (rows_of ws) cover) (row_bit five more) ≡ 1 = masked more l h in
-      let none : bit_at (bit_and (rows_of ws) cover) (row_bit five more) ≡ 0 = ap (λ m. bit_at m (row_bit five more)) z ∙ bit_at-zero (row_bit five more) in
+      let one : bit_at (bit_and (row_map ws) cover) (row_bit five more) ≡ 1 = masked more l h in
+      let none : bit_at (bit_and (row_map ws) cover) (row_bit five more) ≡ 0 = ap (λ m. bit_at m (row_bit five more)) z ∙ bit_at-zero (row_bit five more) in
       omega (arith, one, none))
 
   -- else the greatest is that of the longest
-  pub some_in : (bit : ℕ) → IsHighest 64 (bit_and (rows_of ws) cover) (Some bit)
+  pub some_in : (bit : ℕ) → IsHighest 64 (bit_and (row_map ws) cover) (Some bit)
       → (more : ℕ) × GreatestBelow (λ more. row_in ws (row_bit five more)) (width level) (Some (more, slice_index ws (row_index ws bit)))
   some_in bit top =
-      let both = both_bits (rows_of ws) cover bit top.1 in
+      let both = both_bits (row_map ws) cover bit top.1 in
       let at = (covered bit).0 both.1 in (
         at.0,
         (
           at.1,
           ap (row_in ws) (sym at.2) ∙ row-set ws bit both.0,
           λ more l h. row-clear ws (row_bit five more) (λ x.
-              let one : bit_at (bit_and (rows_of ws) cover) (row_bit five more) ≡ 1 = masked more h x in
+              let one : bit_at (bit_and (row_map ws) cover) (row_bit five more) ≡ 1 = masked more h x in
               let above : row_bit five at.0 < row_bit five more = longer_is_greater five five at.0 more small l (omega (arith, h, few)) in
-              let none : bit_at (bit_and (rows_of ws) cover) (row_bit five more) ≡ 0 = top.2 (row_bit five more) (omega (arith, above, at.2)) in
+              let none : bit_at (bit_and (row_map ws) cover) (row_bit five more) ≡ 0 = top.2 (row_bit five more) (omega (arith, above, at.2)) in
               omega (arith, one, none)),
         ),
       )

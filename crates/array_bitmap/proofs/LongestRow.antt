@@ -6,9 +6,9 @@ use Rattle.bitmaps.specs.Bits.{IsHighest}
 use Rattle.bitmaps.proofs.Finds.{GreatestBelow-end, GreatestBelow-longer}
 use Rattle.array_bitmap.specs.Bits.{depth_of, five_bits, row_bit, width}
 use Rattle.array_bitmap.specs.Words.{kind_of, found, nothing, IsRowWord}
-use Rattle.array_bitmap.specs.Blocks.{rows_of, row_in, word_after}
+use Rattle.array_bitmap.specs.Blocks.{row_map, row_in, word_after}
 use Rattle.bitmaps.specs.Greatest.{GreatestBelow}
-use Rattle.array_bitmap.specs.Tree.{Cells, words_at, kid_at, block_at, word_at, IsSound}
+use Rattle.array_bitmap.specs.Tree.{Cells, words_at, kid_at, block_at, word_at, IsSoundCells}
 use Rattle.array_bitmap.proofs.Covering.{none_in, some_in}
 use Rattle.array_bitmap.proofs.Walks.{word_in, block-next, none_after}
 
@@ -18,7 +18,7 @@ found-row len w r =
     let kind = r.of_row in
     cond-false _ _ _ (ne_eqb w nothing (λ e. let k : kind_of w ≡ 3 = ap kind_of e in omega (arith, k, kind))) ∙ ap (λ l. Some (l, w)) r.of_length
 
-module _ (c : Cells) (sound : IsSound c) (path : ℕ) (fits : path < 2 ^ 34) where
+module _ (c : Cells) (sound : IsSoundCells c) (path : ℕ) (fits : path < 2 ^ 34) where
   -- the rows of the lengths that end in a block are those of the path
   rows_in : (steps : ℕ) → c.first + steps ≤ 5 → (more : ℕ) → more < width (c.first + steps)
       → word_at c path (depth_of (c.first + steps) + 1 + more) ≡ row_in (words_at c (block_at c path steps)) (row_bit (five_bits path (c.first + steps)) more)
@@ -29,7 +29,7 @@ module _ (c : Cells) (sound : IsSound c) (path : ℕ) (fits : path < 2 ^ 34) whe
   -- one block more is read
   pub best_after : (steps cover best : ℕ) (bit : Option ℕ) → c.first + steps ≤ 5
       → ((k : ℕ) → bit_at cover k ≡ 1 ↔ ((more : ℕ) × (more < width (c.first + steps)) × (k ≡ row_bit (five_bits path (c.first + steps)) more)))
-      → IsHighest 64 (bit_and (rows_of (words_at c (block_at c path steps))) cover) bit
+      → IsHighest 64 (bit_and (row_map (words_at c (block_at c path steps))) cover) bit
       → GreatestBelow (word_at c path) (depth_of (c.first + steps) + 1) (found best)
       → GreatestBelow (word_at c path) (depth_of (c.first + steps) + 1 + width (c.first + steps)) (found (word_after (words_at c (block_at c path steps)) best bit))
   best_after steps cover best None deep covered top above =
@@ -46,7 +46,7 @@ module _ (c : Cells) (sound : IsSound c) (path : ℕ) (fits : path < 2 ^ 34) whe
       (sym (found-row (depth_of (c.first + steps) + 1 + own.0) word (sound.row_words path (depth_of (c.first + steps) + 1 + own.0) word fits short best'.1))) best'
 
 -- where there is no kid, nothing longer is found
-pub best_at_end : (c : Cells) (sound : IsSound c) (path steps best : ℕ) → c.first + steps ≤ 5 → kid_at c (block_at c path steps) (five_bits path (c.first + steps)) ≡ 0
+pub best_at_end : (c : Cells) (sound : IsSoundCells c) (path steps best : ℕ) → c.first + steps ≤ 5 → kid_at c (block_at c path steps) (five_bits path (c.first + steps)) ≡ 0
     → GreatestBelow (word_at c path) (depth_of (c.first + steps) + 1 + width (c.first + steps)) (found best) → GreatestBelow (word_at c path) 33 (found best)
 best_at_end c sound path steps best deep none above =
     GreatestBelow-end (word_at c path) (depth_of (c.first + steps) + 1 + width (c.first + steps)) 33 (found best) (omega (arith, deep))

@@ -12,7 +12,7 @@ use Rattle.array_bitmap.specs.Removal.{without_row}
 use Rattle.ipv4_prefix.proofs.LongestMatches.{covering_same}
 use Rattle.network_model.specs.declared.route.Entry.{Entry}
 use Rattle.array_bitmap.specs.Bits.{depth_of, five_bits, path_start, row_bit, level_of, more_of}
-use Rattle.array_bitmap.specs.Words.{nothing, entry_of, len_of, found}
+use Rattle.array_bitmap.specs.Words.{nothing, word_entry, len_of, found}
 use Rattle.array_bitmap.specs.Blocks.{row_in}
 use Rattle.bitmaps.specs.Greatest.{GreatestBelow}
 use Rattle.array_bitmap.specs.Tree.{Cells, words_at, block_at, word_at, row_at, entry_in, SetsWord}
@@ -56,29 +56,29 @@ module _ (c : Cells) where
   pub entry_on_path : (p : Prefix) (addr : ℕ) → IsPrefix p → covers p addr ≡ true → entry_in c p ≡ row_at c (addr * 4) p.len
   entry_on_path p addr valid covered =
       let short = valid.short in
-      ap (option_map entry_of) (word_covers (p.addr * 4) (addr * 4) p.len (omega (arith, short)) (covering_bits p addr short covered))
+      ap (option_map word_entry) (word_covers (p.addr * 4) (addr * 4) p.len (omega (arith, short)) (covering_bits p addr short covered))
 
   -- the longest row of the path is the longest match
   pub longest_on_path : (addr word : ℕ) (p : Prefix) → word ≢ nothing → IsPrefix p → p.len ≡ len_of word → covers p addr ≡ true → GreatestBelow (word_at c (addr * 4)) 33 (found word)
-      → IsLongestIn (entry_in c) addr (Some (p, entry_of word))
+      → IsLongestIn (entry_in c) addr (Some (p, word_entry word))
   longest_on_path addr word p some valid at covered best =
       let g = subst (GreatestBelow (word_at c (addr * 4)) 33) (some_found word some) best in (
         valid,
         covered,
-        entry_on_path p addr valid covered ∙ ap (row_at c (addr * 4)) at ∙ ap (option_map entry_of) g.1,
+        entry_on_path p addr valid covered ∙ ap (row_at c (addr * 4)) at ∙ ap (option_map word_entry) g.1,
         λ q valid_q covered_q longer. let short = valid_q.short in
-            entry_on_path q addr valid_q covered_q ∙ ap (option_map entry_of) (g.2 q.len (omega (arith, at, longer)) (omega (arith, short))),
+            entry_on_path q addr valid_q covered_q ∙ ap (option_map word_entry) (g.2 q.len (omega (arith, at, longer)) (omega (arith, short))),
       )
 
   -- where the path has no row, there is no match
   pub none_on_path : (addr word : ℕ) → word ≡ nothing → GreatestBelow (word_at c (addr * 4)) 33 (found word) → IsLongestIn (entry_in c) addr None
   none_on_path addr word e best =
       let g = subst (GreatestBelow (word_at c (addr * 4)) 33) (nothing_found word e) best in
-      λ p valid covered. let short = valid.short in entry_on_path p addr valid covered ∙ ap (option_map entry_of) (g p.len (omega (arith, short)))
+      λ p valid covered. let short = valid.short in entry_on_path p addr valid covered ∙ ap (option_map word_entry) (g p.len (omega (arith, short)))
 
 -- where the word of a prefix's path was set, or taken out, the prefix has its entry, or none, and every other prefix the one it had
 pub sets_entry : (old new : ℕ → ℕ → Option ℕ) (q : Prefix) (word : Option ℕ) (path len : ℕ) → IsPrefix q → path ≡ q.addr * 4 → len ≡ q.len → SetsWord old new path len word
-    → (p : Prefix) → IsPrefix p → option_map entry_of (new (p.addr * 4) p.len) ≡ cond (prefix_eq p q) (option_map entry_of word) (option_map entry_of (old (p.addr * 4) p.len))
+    → (p : Prefix) → IsPrefix p → option_map word_entry (new (p.addr * 4) p.len) ≡ cond (prefix_eq p q) (option_map word_entry word) (option_map word_entry (old (p.addr * 4) p.len))
 sets_entry old new q word path len valid_q is_path is_len given p valid = by_test (prefix_eq p q) refl
   where
     sets : SetsWord old new (q.addr * 4) q.len word
@@ -89,14 +89,14 @@ sets_entry old new q word path len valid_q is_path is_len given p valid = by_tes
         let short = valid.short in
         covering_same q.addr p q valid valid_q (eq-eqb _ _ (sym (path_bits p.addr p.len short) ∙ bits ∙ path_bits q.addr p.len short)) (eq-eqb _ _ refl) len
 
-    by_test : (b : Bool) → prefix_eq p q ≡ b → option_map entry_of (new (p.addr * 4) p.len) ≡ cond b (option_map entry_of word) (option_map entry_of (old (p.addr * 4) p.len))
+    by_test : (b : Bool) → prefix_eq p q ≡ b → option_map word_entry (new (p.addr * 4) p.len) ≡ cond b (option_map word_entry word) (option_map word_entry (old (p.addr * 4) p.len))
     by_test true same =
         let e : p ≡ q = (prefix_eq-Decides p q).0 same in
-        ap (λ x. option_map entry_of (new (x.addr * 4) x.len)) e ∙ ap (option_map entry_of) (sets.hit (q.addr * 4) refl)
+        ap (λ x. option_map word_entry (new (x.addr * 4) x.len)) e ∙ ap (option_map word_entry) (sets.hit (q.addr * 4) refl)
     by_test false apart =
         let short = valid.short in
         let fits = valid.fits in
-        ap (option_map entry_of) (sets.miss (p.addr * 4) p.len (omega (arith, fits)) short
+        ap (option_map word_entry) (sets.miss (p.addr * 4) p.len (omega (arith, fits)) short
         (λ len bits. absurd (cc (apart, (prefix_eq-Decides p q).1 (same_bits len bits)))))
 
 -- ---- a row taken out
@@ -122,6 +122,6 @@ table_rows-without entry p after taken =
         ∙ turned (prefix_eq q p) (row_of prefix_cmp q (table_rows entry))
 
 -- a word shows whether there is an entry
-pub is_some-map : (o : Option ℕ) → is_some (option_map entry_of o) ≡ is_some o
+pub is_some-map : (o : Option ℕ) → is_some (option_map word_entry o) ≡ is_some o
 is_some-map None = refl
 is_some-map (Some w) = refl

@@ -4,7 +4,7 @@ use Rattle.receipts.specs.Logs.{Log}
 use Rattle.ipv4_prefix.specs.Prefix.{Prefix}
 use Rattle.row_words.specs.Rows.{WordTable}
 use Rattle.row_words.specs.declared.cells.Marked.{Marked}
-use Rattle.lookup_calls.specs.Images.{new_rows, patched}
+use Rattle.lookup_calls.specs.Images.{new_rows, patched_table}
 use Rattle.lookup_calls.specs.Prefixes.{withdrawn}
 use Rattle.lookup_calls.specs.declared.change.Change.{Change}
 use Rattle.lookup_calls.specs.declared.prefixes.Block.{Block}
@@ -25,9 +25,9 @@ last_image (i ∷ is) = Some (last_or i is)
 
 -- the image in which rows were set, in order, and then those of prefixes taken out, of another generation
 abbrev pub changed : ℕ → List (Prefix × Marked) → List Block → WordTable → WordTable
-changed generation rows blocks image = withdrawn generation blocks (patched generation rows image)
+changed generation rows blocks image = withdrawn generation blocks (patched_table generation rows image)
 
 -- an image that may be wanting a change
-abbrev pub followed : Option Change → WordTable → WordTable
-followed None image = image
-followed (Some c) image = withdrawn c.patch.generation c.blocks.items (patched c.patch.generation (new_rows c.patch.rows) image)
+abbrev pub with_missed : Option Change → WordTable → WordTable
+with_missed None image = image
+with_missed (Some c) image = withdrawn c.patch.generation c.blocks.items (patched_table c.patch.generation (new_rows c.patch.rows) image)

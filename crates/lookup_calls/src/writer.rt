@@ -3,7 +3,7 @@
 ghost use Rattle.std.specs.Prelude.{◌≡◌, ◌⊎◌, ◌<◌, ◌≤◌, ◌∷◌, [], All, IfErr, IfOk, IfSome, IsOkUnless, MatchResult, OnErr, OnOk, Some, length};
 ghost use Rattle.lookup_calls.specs.Faults.{IsPatchFault};
 ghost use Rattle.receipts.specs.Logs.{head_of, with_element};
-ghost use Rattle.lookup_calls.specs.Histories.{followed, last_image};
+ghost use Rattle.lookup_calls.specs.Histories.{with_missed, last_image};
 
 use crate::board::{Board, clear_side, fill_side, make_places};
 use crate::change::Change;
@@ -38,7 +38,7 @@ impl Model for ImageWriter {
     ghost use Rattle.std.specs.Prelude.{◌≡◌, ◌<◌, All, IfSome, Some};
     ghost use Rattle.std.specs.Arc.{arc_value};
     ghost use Rattle.receipts.specs.Logs.{head_of};
-    ghost use Rattle.lookup_calls.specs.Histories.{Published, followed, last_image};
+    ghost use Rattle.lookup_calls.specs.Histories.{Published, with_missed, last_image};
 
     ghost Value = { Published };
 
@@ -48,7 +48,7 @@ impl Model for ImageWriter {
         × All (λ p. p.page.book ≡ w.past.book) (arc_value w.board).places.items
         × (last_image w.past.elements ≡ Some w.shown)
         × (w.side < 2)
-        × IfSome w.hidden (λ h. followed w.missed h ≡ w.shown) };
+        × IfSome w.hidden (λ h. with_missed w.missed h ≡ w.shown) };
 }
 
 // Has an image follow, and then changes it. Refused, it may be wanting nothing.
@@ -58,8 +58,8 @@ fn follow(
     change: &Change,
 ) -> Result<(), (CallFault, Option<Change>)>
     ensures { MatchResult result
-        (λ _. image.new ≡ followed (Some change.now) (followed missed image.old))
-        (λ e. IsPatchFault e.0 × (followed e.1 image.new ≡ followed missed image.old)) }
+        (λ _. image.new ≡ with_missed (Some change.now) (with_missed missed image.old))
+        (λ e. IsPatchFault e.0 × (with_missed e.1 image.new ≡ with_missed missed image.old)) }
 {
     if let Some(last) = &missed
         && let Err(fault) = last.make(image)
@@ -93,7 +93,7 @@ fn show(board: &Board, side: usize, head: &Head, past: &Past, image: &Shared) ->
 fn turn(writer: ImageWriter, change: Change) -> (ImageWriter, Result<(), CallFault>)
     ensures { MatchResult result.1
         (λ _. IfSome (last_image writer.elements)
-        (λ i. result.0 ≡ with_element writer (followed (Some change) i)))
+        (λ i. result.0 ≡ with_element writer (with_missed (Some change) i)))
         (λ f. IsPatchFault f × (result.0 ≡ writer)) }
 {
     let ImageWriter {
@@ -202,7 +202,7 @@ impl ImageWriter {
     /// a reader is still in a look-up that began before the publication before, or for want of memory.
     pub(crate) fn publish(&mut self, change: Change) -> Result<(), CallFault>
         ensures ok { OnOk result (IfSome (last_image self.old.elements)
-            (λ i. self.new ≡ with_element self.old (followed (Some change) i))) }
+            (λ i. self.new ≡ with_element self.old (with_missed (Some change) i))) }
         ensures unchanged { OnErr result (self.new ≡ self.old) }
         ensures err { IfErr result IsPatchFault }
     {

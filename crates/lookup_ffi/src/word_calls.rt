@@ -9,7 +9,7 @@ ghost use Rattle.c_interface.specs.Faults.{IsStatusBy, first_of, fault_number};
 ghost use Rattle.lookup_calls.specs.Faults.{IsApplyStatus, IsLookupStatus};
 ghost use Rattle.receipts.specs.Logs.{GrowsTo, with_element};
 ghost use Rattle.lookup_calls.specs.Histories.{changed, last_image};
-ghost use Rattle.lookup_calls.specs.Images.{new_image, patched};
+ghost use Rattle.lookup_calls.specs.Images.{new_image, patched_table};
 ghost use Rattle.lookup_calls.specs.Prefixes.{cursor_fault, cursor_prefix, first_block_fault, listed_row, listed_word, rows_status, IsFilledIn};
 ghost use Rattle.lookup_calls.specs.Readers.{IsPublishStatus, IsReadStatus};
 ghost use Rattle.lookup_calls.specs.Rows.{answer_words, count_fault, words_fault};
@@ -72,7 +72,7 @@ fn apply(
     ensures ok { OnOk result
         (IsApplyStatus (words_fault rows.now words.now) (handle_image image.old) 0) }
     ensures patched { OnOk result (handle_image image.new
-        ≡ option_map (patched generation (worded_rows rows.now words.now)) (handle_image image.old)) }
+        ≡ option_map (patched_table generation (worded_rows rows.now words.now)) (handle_image image.old)) }
     ensures unchanged { OnErr result (handle_image image.new ≡ handle_image image.old) }
     ensures err { IfErr result (λ f.
         IsApplyStatus (words_fault rows.now words.now) (handle_image image.old) (fault_number f)) }
@@ -98,7 +98,7 @@ pub extern "C" fn tuhvondi_image_apply_words(
 ) -> u32
     ensures status { IsApplyStatus (words_fault rows.now words.now) (handle_image image.old) result }
     ensures done { result ≡ 0 → handle_image image.new
-        ≡ option_map (patched generation (worded_rows rows.now words.now)) (handle_image image.old) }
+        ≡ option_map (patched_table generation (worded_rows rows.now words.now)) (handle_image image.old) }
     ensures refused { result ≢ 0 → handle_image image.new ≡ handle_image image.old }
 {
     status(apply(alloc, image, generation, rows, words))

@@ -3,11 +3,11 @@ use Rattle.std.proofs.Common.{ℕ, suc, ◌≡◌, ◌≢◌, ◌+◌, ◌*◌, 
 use Rattle.std.specs.Int.{bit_at}
 use Rattle.std.proofs.lemmas.Nat.{ones-le}
 use mathlib.Core.Path.{fun_ext}
-use Rattle.node_pool.specs.Pool.{IsGrown, IsWritten}
+use Rattle.node_pool.specs.Pool.{IsGrown, IsCellWritten}
 use Rattle.bitmaps.specs.Bits.{rank}
 use Rattle.bitmaps.proofs.HighestBit.{clear_bit}
-use Rattle.tree_bitmap.specs.Bits.{nibble, path_start, internal_bit}
-use Rattle.tree_bitmap.specs.Tree.{blank, node_at, row_at, IsLaidOut, SetsRow, with_child, with_result, IsChild, IsResult}
+use Rattle.tree_bitmap.specs.Bits.{nibble, path_top, internal_bit}
+use Rattle.tree_bitmap.specs.Tree.{blank, path_node, path_entry, IsLaidOut, SetsRow, with_child, with_result, IsChild, IsResult}
 use Rattle.tree_bitmap.specs.declared.node.Node.{Node}
 use Rattle.network_model.specs.declared.route.Entry.{Entry}
 use Rattle.bitmaps.proofs.Ranks.{ones-add, add_lt, bit_at-add_same, rank-add_below, ones_of_zero}
@@ -29,7 +29,7 @@ few_results n k l b h = omega (arith, ones-le 15 (n + 2 ^ k) (add_lt n k 15 l b 
 -- the same rows before the change
 pub sets_from : (f g h : ℕ → ℕ → Option Entry) (path len len' : ℕ) (entry : Option Entry) → ((q m : ℕ) → g q m ≡ f q m) → len' ≡ len → SetsRow g h path len' entry → SetsRow f h path len entry
 sets_from f g h path len len' entry same e w = record {
-  hit = λ q p. subst (λ m. path_start q m ≡ path_start path m → h q m ≡ entry) e (w.hit q) p;
+  hit = λ q p. subst (λ m. path_top q m ≡ path_top path m → h q m ≡ entry) e (w.hit q) p;
   miss = λ q m l b out. w.miss q m l b (λ x. out (x ∙ e)) ∙ same q m;
 }
 
@@ -42,12 +42,12 @@ pub same_sound : (N N' : ℕ → Option Node) (G G' : ℕ → Option Entry) → 
 same_sound N N' G G' e f s = subst (λ n. IsLaidOut n G') (fun_ext (λ k. sym (e k))) (subst (λ g. IsLaidOut N g) (fun_ext (λ k. sym (f k))) s)
 
 -- where the child of the node on a path stands
-pub child_place_after : (N : ℕ → Option Node) (path depth index : ℕ) (a : Node) (four below : ℕ) → node_at N path depth ≡ Some index → N index ≡ Some a
-    → four ≡ nibble path depth → below ≡ rank a.external four → bit_at a.external four ≡ 1 → node_at N path (depth + 1) ≡ Some (a.child_base + below)
+pub child_place_after : (N : ℕ → Option Node) (path depth index : ℕ) (a : Node) (four below : ℕ) → path_node N path depth ≡ Some index → N index ≡ Some a
+    → four ≡ nibble path depth → below ≡ rank a.external four → bit_at a.external four ≡ 1 → path_node N path (depth + 1) ≡ Some (a.child_base + below)
 child_place_after N path depth index a four below at here f b has =
     let d : suc depth ≡ depth + 1 = omega arith in
     let h : bit_at a.external (nibble path depth) ≡ 1 = subst (λ k. bit_at a.external k ≡ 1) f has in
-    ap (node_at N path) (sym d) ∙ step_yes N path depth index a at here h
+    ap (path_node N path) (sym d) ∙ step_yes N path depth index a at here h
     ∙ ap (λ r. Some (a.child_base + r)) (ap (rank a.external) (sym f) ∙ sym b)
 
 -- the child of a node is in use
@@ -67,11 +67,11 @@ pub same_cells : {T : Type 0} (f g : ℕ → Option T) → ((k : ℕ) → g k �
 same_cells f g h = fun_ext h
 
 module _ (N M N' : ℕ → Option Node) (G : ℕ → Option Entry) (index path depth : ℕ) (a : Node) (four below size external base : ℕ)
-    (sound : IsLaidOut N G) (at : node_at N path depth ≡ Some index) (here : N index ≡ Some a)
+    (sound : IsLaidOut N G) (at : path_node N path depth ≡ Some index) (here : N index ≡ Some a)
     (f : four ≡ nibble path depth) (b : below ≡ rank a.external four) (s : size ≡ count_ones a.external) (x : external ≡ a.external + 2 ^ four)
     (unset : bit_at a.external four ≢ 1)
     (grown : IsGrown N M a.child_base size below blank base)
-    (written : IsWritten M N' index (record { internal = a.internal; external = external; child_base = base; result_base = a.result_base })) where
+    (written : IsCellWritten M N' index (record { internal = a.internal; external = external; child_base = base; result_base = a.result_base })) where
   -- the bit is clear
   clear : bit_at a.external four ≡ 0
   clear = clear_bit a.external four unset
@@ -81,8 +81,8 @@ module _ (N M N' : ℕ → Option Node) (G : ℕ → Option Entry) (index path d
   grown' = subst (λ r. IsGrown N M a.child_base (count_ones a.external) r blank base) b (subst (λ n. IsGrown N M a.child_base n below blank base) s grown)
 
   -- the node has the child more
-  written' : IsWritten M N' index (with_child a four base)
-  written' = subst (λ e. IsWritten M N' index (record { internal = a.internal; external = e; child_base = base; result_base = a.result_base })) x written
+  written' : IsCellWritten M N' index (with_child a four base)
+  written' = subst (λ e. IsCellWritten M N' index (record { internal = a.internal; external = e; child_base = base; result_base = a.result_base })) x written
 
   -- the children have moved
   moved : MovesChildren N N' index a (with_child a four base)
@@ -93,7 +93,7 @@ module _ (N M N' : ℕ → Option Node) (G : ℕ → Option Entry) (index path d
   made_sound = moved_sound N N' G index (a.external + 2 ^ four) base a sound moved
 
   -- no row has changed
-  pub made_rows : (q m : ℕ) → row_at N' G q m ≡ row_at N G q m
+  pub made_rows : (q m : ℕ) → path_entry N' G q m ≡ path_entry N G q m
   made_rows = moved_rows N N' G index (a.external + 2 ^ four) base a sound moved
 
   -- the new child is blank
@@ -101,7 +101,7 @@ module _ (N M N' : ℕ → Option Node) (G : ℕ → Option Entry) (index path d
   made_blank = ap (λ r. N' (base + r)) b ∙ gap_cell N M N' G index four base a sound here clear grown' written'
 
   -- the new child stands on the path
-  pub made_place : node_at N' path (depth + 1) ≡ Some (base + below)
+  pub made_place : path_node N' path (depth + 1) ≡ Some (base + below)
   made_place =
       let has : bit_at (a.external + 2 ^ four) four ≡ 1 = bit_at-add_same a.external four clear in
       child_place_after N' path depth index (with_child a four base) four below (index_on N N' G index (a.external + 2 ^ four) base a sound moved path depth at) written'.here f
@@ -109,8 +109,8 @@ module _ (N M N' : ℕ → Option Node) (G : ℕ → Option Entry) (index path d
 
 -- what a change of one bit of the node of a path makes of the rows
 pub sets_row : (N N' : ℕ → Option Node) (G G' : ℕ → Option Entry) (index bit : ℕ) (entry : Option Entry) (a a' : Node) (path depth len : ℕ)
-    → IsLaidOut N G → depth ≤ 8 → len < 4 → path < 2 ^ 36 → node_at N path depth ≡ Some index → bit ≡ internal_bit (nibble path depth) len
-    → SetsBit N N' G G' index bit entry a a' → SetsRow (row_at N G) (row_at N' G') path (4 * depth + len) entry
+    → IsLaidOut N G → depth ≤ 8 → len < 4 → path < 2 ^ 36 → path_node N path depth ≡ Some index → bit ≡ internal_bit (nibble path depth) len
+    → SetsBit N N' G G' index bit entry a a' → SetsRow (path_entry N G) (path_entry N' G') path (4 * depth + len) entry
 sets_row N N' G G' index bit entry a a' path depth len sound deep short p at b sets =
     let sets' = subst (λ k. SetsBit N N' G G' index k entry a a') b sets in
     record {
@@ -123,7 +123,7 @@ module _ (N N' : ℕ → Option Node) (G G' : ℕ → Option Entry) (index bit :
     (b : below ≡ rank a.internal bit) (s : size ≡ count_ones a.internal) (x : internal ≡ a.internal + 2 ^ bit)
     (unset : bit_at a.internal bit ≢ 1)
     (grown : IsGrown G G' a.result_base size below entry base)
-    (written : IsWritten N N' index (record { internal = internal; external = a.external; child_base = a.child_base; result_base = base })) where
+    (written : IsCellWritten N N' index (record { internal = internal; external = a.external; child_base = a.child_base; result_base = base })) where
   -- the bit is clear
   clear' : bit_at a.internal bit ≡ 0
   clear' = clear_bit a.internal bit unset
@@ -133,8 +133,8 @@ module _ (N N' : ℕ → Option Node) (G G' : ℕ → Option Entry) (index bit :
   grown'' = subst (λ r. IsGrown G G' a.result_base (count_ones a.internal) r entry base) b (subst (λ n. IsGrown G G' a.result_base n below entry base) s grown)
 
   -- the node has the result more
-  written'' : IsWritten N N' index (with_result a bit base)
-  written'' = subst (λ e. IsWritten N N' index (record { internal = e; external = a.external; child_base = a.child_base; result_base = base })) x written
+  written'' : IsCellWritten N N' index (with_result a bit base)
+  written'' = subst (λ e. IsCellWritten N N' index (record { internal = e; external = a.external; child_base = a.child_base; result_base = base })) x written
 
   -- the tree is sound with the new result
   pub put_sound : bit < 15 → IsLaidOut N' G'
@@ -147,13 +147,13 @@ module _ (N N' : ℕ → Option Node) (G G' : ℕ → Option Entry) (index bit :
 module _ (N : ℕ → Option Node) (G G' : ℕ → Option Entry) (index bit : ℕ) (entry : Entry) (a : Node) (below : ℕ)
     (sound : IsLaidOut N G) (here : N index ≡ Some a) (b : below ≡ rank a.internal bit) (has : bit_at a.internal bit ≡ 1) where
   -- its cell is written
-  written_over : IsWritten G G' (a.result_base + below) entry → IsWritten G G' (a.result_base + rank a.internal bit) entry
-  written_over w = subst (λ r. IsWritten G G' (a.result_base + r) entry) b w
+  written_over : IsCellWritten G G' (a.result_base + below) entry → IsCellWritten G G' (a.result_base + rank a.internal bit) entry
+  written_over w = subst (λ r. IsCellWritten G G' (a.result_base + r) entry) b w
 
   -- the tree is sound with the other result
-  pub over_sound : IsWritten G G' (a.result_base + below) entry → IsLaidOut N G'
+  pub over_sound : IsCellWritten G G' (a.result_base + below) entry → IsLaidOut N G'
   over_sound w = replace_sound N G G' index bit entry a sound here has (written_over w)
 
   -- the result is set, and nothing else
-  pub over_sets : IsWritten G G' (a.result_base + below) entry → SetsBit N N G G' index bit (Some entry) a a
+  pub over_sets : IsCellWritten G G' (a.result_base + below) entry → SetsBit N N G G' index bit (Some entry) a a
   over_sets w = replace_sets N G G' index bit entry a sound here has (written_over w)

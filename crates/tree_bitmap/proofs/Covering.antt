@@ -6,7 +6,7 @@ use Rattle.std.proofs.lemmas.Nat.Bits.{bit_at-zero, bit_at-lt, bit_at_and, bit_a
 use Rattle.bitmaps.specs.Greatest.{GreatestBelow}
 use Rattle.bitmaps.specs.Bits.{IsHighest}
 use Rattle.bitmaps.proofs.HighestBit.{both_bits}
-use Rattle.tree_bitmap.specs.Bits.{internal_bit, length_of, width}
+use Rattle.tree_bitmap.specs.Bits.{internal_bit, length_of, lengths_within}
 use Rattle.tree_bitmap.specs.Hit.{bit_place}
 use Rattle.tree_bitmap.specs.Tree.{result_place}
 use Rattle.tree_bitmap.specs.declared.node.Node.{Node}
@@ -68,16 +68,16 @@ four_bits_has a b c k is = by_case is
 
 -- the internal bits that four bits of an address begin with are these four
 pub covers_four : (four depth k : ℕ) → four < 16 → depth < 8
-    → bit_at (four_bits (1 + four / 2 ^ 3) (3 + four / 2 ^ 2) (7 + four / 2 ^ 1)) k ≡ 1 ↔ ((len : ℕ) × (len < width depth) × (k ≡ internal_bit four len))
+    → bit_at (four_bits (1 + four / 2 ^ 3) (3 + four / 2 ^ 2) (7 + four / 2 ^ 1)) k ≡ 1 ↔ ((len : ℕ) × (len < lengths_within depth) × (k ≡ internal_bit four len))
 covers_four four depth k small deep = (λ h. to (four_bits_set (1 + four / 2 ^ 3) (3 + four / 2 ^ 2) (7 + four / 2 ^ 1) k h), λ h. four_bits_has (1 + four / 2 ^ 3) (3 + four / 2 ^ 2) (7 + four / 2 ^ 1) k (from h.0 h.1 h.2))
   where
-    to : (k ≡ 0) ⊎ ((k ≡ 1 + four / 2 ^ 3) ⊎ ((k ≡ 3 + four / 2 ^ 2) ⊎ (k ≡ 7 + four / 2 ^ 1))) → (len : ℕ) × (len < width depth) × (k ≡ internal_bit four len)
+    to : (k ≡ 0) ⊎ ((k ≡ 1 + four / 2 ^ 3) ⊎ ((k ≡ 3 + four / 2 ^ 2) ⊎ (k ≡ 7 + four / 2 ^ 1))) → (len : ℕ) × (len < lengths_within depth) × (k ≡ internal_bit four len)
     to (inl e) = (0, omega arith, omega arith)
     to (inr (inl e)) = (1, omega arith, omega arith)
     to (inr (inr (inl e))) = (2, omega arith, omega arith)
     to (inr (inr (inr e))) = (3, omega arith, omega arith)
 
-    from : (len : ℕ) → len < width depth → k ≡ internal_bit four len → (k ≡ 0) ⊎ ((k ≡ 1 + four / 2 ^ 3) ⊎ ((k ≡ 3 + four / 2 ^ 2) ⊎ (k ≡ 7 + four / 2 ^ 1)))
+    from : (len : ℕ) → len < lengths_within depth → k ≡ internal_bit four len → (k ≡ 0) ⊎ ((k ≡ 1 + four / 2 ^ 3) ⊎ ((k ≡ 3 + four / 2 ^ 2) ⊎ (k ≡ 7 + four / 2 ^ 1)))
     from zero l e = inl (omega arith)
     from (suc zero) l e = inr (inl (omega arith))
     from (suc (suc zero)) l e = inr (inr (inl (omega arith)))
@@ -105,14 +105,14 @@ pub table_entry : (four : ℕ) → four < 16 → table four ≡ computed four
 table_entry = agree_at 16 refl
 
 -- at depth 8 it is the first alone
-pub covers_one : (four k : ℕ) → four < 16 → bit_at 1 k ≡ 1 ↔ ((len : ℕ) × (len < width 8) × (k ≡ internal_bit four len))
+pub covers_one : (four k : ℕ) → four < 16 → bit_at 1 k ≡ 1 ↔ ((len : ℕ) × (len < lengths_within 8) × (k ≡ internal_bit four len))
 covers_one four k small = (to (one_bit 0 k), λ h. from h.0 h.1 h.2)
   where
-    to : ((k ≡ 0) × (bit_at (2 ^ 0) k ≡ 1)) ⊎ ((k ≡ 0 → ⊥) × (bit_at (2 ^ 0) k ≡ 0)) → bit_at 1 k ≡ 1 → (len : ℕ) × (len < width 8) × (k ≡ internal_bit four len)
+    to : ((k ≡ 0) × (bit_at (2 ^ 0) k ≡ 1)) ⊎ ((k ≡ 0 → ⊥) × (bit_at (2 ^ 0) k ≡ 0)) → bit_at 1 k ≡ 1 → (len : ℕ) × (len < lengths_within 8) × (k ≡ internal_bit four len)
     to (inl x) h = (0, omega arith, omega (arith, x.0))
     to (inr x) h = absurd (let z : bit_at 1 k ≡ 0 = x.1 in omega (arith, z, h))
 
-    from : (len : ℕ) → len < width 8 → k ≡ internal_bit four len → bit_at 1 k ≡ 1
+    from : (len : ℕ) → len < lengths_within 8 → k ≡ internal_bit four len → bit_at 1 k ≡ 1
     from zero l e = let z : k ≡ 0 = omega arith in ap (bit_at 1) z ∙ bit_at-pow_same 0
     from (suc n) l e = absurd (omega arith)
 
@@ -144,13 +144,13 @@ longer_is_greater four l (suc (suc (suc (suc n)))) h a b = absurd (omega arith)
 -- ---- the longest prefix in a node
 
 module _ (a : Node) (four depth cover : ℕ) (small : four < 16)
-    (covered : (k : ℕ) → k < 16 → bit_at cover k ≡ 1 ↔ ((len : ℕ) × (len < width depth) × (k ≡ internal_bit four len))) where
+    (covered : (k : ℕ) → k < 16 → bit_at cover k ≡ 1 ↔ ((len : ℕ) × (len < lengths_within depth) × (k ≡ internal_bit four len))) where
   -- at most four lengths end in a node
-  few : width depth ≤ 4
+  few : lengths_within depth ≤ 4
   few = omega arith
 
   -- a covering prefix has its result where its bit is one of those masked
-  masked : (len : ℕ) → len < width depth → bit_at a.internal (internal_bit four len) ≡ 1 → bit_at (bit_and a.internal cover) (internal_bit four len) ≡ 1
+  masked : (len : ℕ) → len < lengths_within depth → bit_at a.internal (internal_bit four len) ≡ 1 → bit_at (bit_and a.internal cover) (internal_bit four len) ≡ 1
   masked len l h =
       let k = internal_bit four len in
       let bound : k < 15 = internal_bit_small four len small (omega (arith, l, few)) in
@@ -158,7 +158,7 @@ module _ (a : Node) (four depth cover : ℕ) (small : four < 16)
       omega (arith, bit_at_and a.internal cover k, h, c)
 
   -- where no masked bit is set, no prefix of the address ends in the node
-  none_in : IsHighest 16 (bit_and a.internal cover) None → GreatestBelow (λ len. result_place (internal_bit four len) (Some a)) (width depth) None
+  none_in : IsHighest 16 (bit_and a.internal cover) None → GreatestBelow (λ len. result_place (internal_bit four len) (Some a)) (lengths_within depth) None
   none_in z len l = place-clear (internal_bit four len) a (λ h.
       let one : bit_at (bit_and a.internal cover) (internal_bit four len) ≡ 1 = masked len l h in
       let none : bit_at (bit_and a.internal cover) (internal_bit four len) ≡ 0 = ap (λ m. bit_at m (internal_bit four len)) z ∙ bit_at-zero (internal_bit four len) in
@@ -166,7 +166,7 @@ module _ (a : Node) (four depth cover : ℕ) (small : four < 16)
 
   -- else the greatest is that of the longest
   some_in : (bit : ℕ) → IsHighest 16 (bit_and a.internal cover) (Some bit)
-      → GreatestBelow (λ len. result_place (internal_bit four len) (Some a)) (width depth) (bit_place a (Some bit))
+      → GreatestBelow (λ len. result_place (internal_bit four len) (Some a)) (lengths_within depth) (bit_place a (Some bit))
   some_in bit top =
       let both = both_bits a.internal cover bit top.1 in
       let at = (covered bit top.0).0 both.1 in
@@ -182,6 +182,6 @@ module _ (a : Node) (four depth cover : ℕ) (small : four < 16)
       )
 
   -- so it is the longest, if there is one
-  pub longest_in : (bit : Option ℕ) → IsHighest 16 (bit_and a.internal cover) bit → GreatestBelow (λ len. result_place (internal_bit four len) (Some a)) (width depth) (bit_place a bit)
+  pub longest_in : (bit : Option ℕ) → IsHighest 16 (bit_and a.internal cover) bit → GreatestBelow (λ len. result_place (internal_bit four len) (Some a)) (lengths_within depth) (bit_place a bit)
   longest_in None top = none_in top
   longest_in (Some bit) top = some_in bit top

@@ -3,7 +3,7 @@
 ghost use Rattle.std.specs.Prelude.{◌≡◌, ℕ, ◌+◌, ◌*◌, ◌^◌, ◌<◌, ◌≤◌, ◌↔◌, IsTrue, Option, Some, None, count_ones};
 ghost use Rattle.std.specs.Int.{bit_at};
 ghost use Rattle.bitmaps.specs.Bits.{rank, IsHighest};
-ghost use Rattle.tree_bitmap.specs.Bits.{nibble, internal_bit, length_of, width};
+ghost use Rattle.tree_bitmap.specs.Bits.{nibble, internal_bit, length_of, lengths_within};
 
 /// A node of the tree: which prefixes end in it, which children it has, and where both stand.
 #[derive(Clone, Copy, Debug, PartialEq, Eq)]
@@ -106,7 +106,7 @@ pub(crate) fn covers(four: u32, depth: u32) -> u16
     requires small { four < 16 }
     requires deep { depth ≤ 8 }
     ensures { (k : ℕ) → k < 16 → bit_at result k ≡ 1
-        ↔ ((len : ℕ) × (len < width depth) × (k ≡ internal_bit four len)) }
+        ↔ ((len : ℕ) × (len < lengths_within depth) × (k ≡ internal_bit four len)) }
 {
     if depth == 8 {
         return 1;

@@ -1,5 +1,5 @@
 use Rattle.std.proofs.Common.{Some, arith, subst}
-use Rattle.node_pool.specs.Pool.{cell, IsWritten}
+use Rattle.node_pool.specs.Pool.{cell, IsCellWritten}
 use Rattle.tree_bitmap.specs.Tree.{with_result}
 use Rattle.bitmaps.proofs.Ranks.{rank_le}
 use Rattle.tree_bitmap.proofs.Paths.{node_used}
@@ -32,7 +32,7 @@ returns-then-is_set-clause-ok g c =
     c.requires.sound c.requires.deep c.requires.short c.requires.fits c.requires.at c.requires.bit
     (over_sets N G G' c.args.index c.args.bit c.args.entry c.get-node.result c.rank-below.result
     c.requires.sound c.get-node.ensures c.rank-below.ensures.value (c.is_set.ensures.0 c.if-is_set.true)
-    (subst (λ k. IsWritten G G' k c.args.entry) c.place-place.ensures c.set.ensures.written))
+    (subst (λ k. IsCellWritten G G' k c.args.entry) c.place-place.ensures c.set.ensures.written))
 
 pub grow-requires-clause-gap_in : goal.grow-requires-clause-gap_in
 grow-requires-clause-gap_in g c =
@@ -69,7 +69,7 @@ returns-then-is_set-clause-sound g c =
     let G' = cell c.set.new.self in
     over_sound (cell c.args.self.now.pool.nodes) G G' c.args.index c.args.bit c.args.entry c.get-node.result c.rank-below.result
     c.requires.sound c.get-node.ensures c.rank-below.ensures.value (c.is_set.ensures.0 c.if-is_set.true)
-    (subst (λ k. IsWritten G G' k c.args.entry) c.place-place.ensures c.set.ensures.written)
+    (subst (λ k. IsCellWritten G G' k c.args.entry) c.place-place.ensures c.set.ensures.written)
 
 pub returns-in_err-base-clause-full : goal.returns-in_err-base-clause-full
 returns-in_err-base-clause-full g c =
