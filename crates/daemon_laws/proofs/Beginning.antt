@@ -6,7 +6,7 @@ use Rattle.network_model.proofs.Common.{both_ways, and_left, Query, Reply, one_i
 use Rattle.metric.specs.Distance.{greatest_cost}
 use Rattle.network_model.specs.Network.{most_ports}
 use Rattle.std.specs.FinMap.{find as row_of}
-use Rattle.machine_laws.specs.Laws.{awaits, owes, is_active}
+use Rattle.machine_laws.specs.Laws.{awaits, owes_port, is_active}
 use Rattle.machine_laws.proofs.Opened.{opened_sound}
 use Rattle.loop_freedom.specs.Facts.{pipe, count, messages, live}
 use Rattle.loop_freedom.proofs.Lists.{one_if_at_most_one}
@@ -266,7 +266,7 @@ module _ (t : Topology) (p : Prefix) (w : Processes) (B : IsOpening w) where
         (and_left (is_port_in p (router_at w e) e.port n) (is_port e.port mx.successor) (off e n))
         (hidden n e)
         (and_left (is_port_in p (router_at w e) e.port n) (awaits mx e.port) (off e n))
-        (and_left (is_port_in p (router_at w f) f.port n) (owes my f.port) (off f n))
+        (and_left (is_port_in p (router_at w f) f.port n) (owes_port my f.port) (off f n))
         (bounded e.router);
     alone = λ e v n left two. record {
       shown_current = λ s. absurd (both_ways (end_from t p n fds w e).shown (hidden n e) s);

@@ -3,7 +3,7 @@
 use Rattle.std.proofs.Common.{refl, sym, ap, subst, ◌∙◌, arith, inl, inr, ◌≡◌, ℕ, ◌+◌, ◌≤◌, Bool, true, false, ◌&&◌, if◌then◌else◌, List, [], ◌∷◌, ◌++◌, drop, Option, Some, None, slice_get, unwrap_or, eq-eqb}
 use Rattle.no_packet_loops.proofs.Common.{None_not_Some, Some_injective, and_parts, Prefix, prefix_eq, Machine, Computation, machine_of, msg_of, Reported, Topology, LinkEnd, kept, ripe_of, test_at}
 use Rattle.network_model.proofs.Common.{Kind, Query, Reply, Update, one_if}
-use Rattle.machine_laws.specs.Laws.{is_kind, awaits, owes, awaits_of, owes_of}
+use Rattle.machine_laws.specs.Laws.{is_kind, awaits, owes_port, awaits_of, owes_of}
 use Rattle.dual_machine.specs.State.{awaits_at}
 use Rattle.c_interface.specs.declared.fault.CallFault.TheVariants.{AskedTwice, Unasked}
 use Rattle.single_router.specs.Inputs.{owes_at, kind_fault}
@@ -117,4 +117,4 @@ module _ (t : Topology) (p : Prefix) (pfd : ℕ → ℕ) (w : Processes) (I : In
           let one : one_if (is_kind Query (c.message).kind) ≡ 1 = ap (λ j. one_if (is_kind Query j)) k in
           let a = first_counts Query in
           let b = (counted on).queries in
-          sym (ap (λ b. b && owes (machine_of (router_at w e) p) e.port) on) ∙ false_none x.owes (omega (arith, one, a, b))
+          sym (ap (λ b. b && owes_port (machine_of (router_at w e) p) e.port) on) ∙ false_none x.owes (omega (arith, one, a, b))

@@ -2,7 +2,7 @@
 use Rattle.std.proofs.Common.{refl, sym, ap, subst, ◌∙◌, arith, inl, inr, ◌≡◌, ◌≢◌, ◌⊎◌, ℕ, min, ◌<◌, ◌≤◌, true, false, List, [], ◌∷◌, ◌++◌, take, drop, append-nil, ◌==◌}
 use Rattle.no_packet_loops.proofs.Common.{Prefix, Router, machine_of, session_at, is_port, is_next_hop, kept, ripe_of, unripe_of, IsSound, is_up_at, Topology, LinkEnd, at_port, take-nil, drop-nil}
 use Rattle.network_model.proofs.Common.{cases_eq, cases_lt, cases_Bool, both_ways, false_from_ne_true, and_left, Kind, Query, Reply, Report, infinity, one_if}
-use Rattle.machine_laws.specs.Laws.{awaits, owes}
+use Rattle.machine_laws.specs.Laws.{awaits, owes_port}
 use Rattle.loop_freedom.specs.Facts.{End, pipe, count, messages, live, AtLeast}
 use Rattle.loop_freedom.proofs.Lists.{at_least_left, count-append, one_if_at_most_one}
 use Rattle.loop_freedom.proofs.Link.{Answered, EndInvariant}
@@ -201,7 +201,7 @@ module _ (t : Topology) (p : Prefix) (pfd pfd' : ℕ → ℕ) (w w' : Processes)
         chosen = and_left (is_port_in p (router_at w' e) e.port n) (is_port e.port m.successor) off;
         shown = ap (λ o. is_next_hop e.port n o) M.no_hop_is;
         awaits = and_left (is_port_in p (router_at w' e) e.port n) (awaits m e.port) off;
-        owes = and_left (is_port_in p (router_at w' e) e.port n) (owes m e.port) off;
+        owes = and_left (is_port_in p (router_at w' e) e.port n) (owes_port m e.port) off;
         passive = M.passive;
         low = bound;
         pfd_low = omega (arith, bound, pfd_now);
@@ -220,7 +220,7 @@ module _ (t : Topology) (p : Prefix) (pfd pfd' : ℕ → ℕ) (w w' : Processes)
       let le = I.last_is e in
       let m = machine_of (router_at w e) p in
       let off : is_port_in p (router_at w e) e.port n ≡ false = not_yet p (router_at w e) e.port n (omega (arith, le, lt)) in
-      record { off = off; awaits = and_left (is_port_in p (router_at w e) e.port n) (awaits m e.port) off; owes = and_left (is_port_in p (router_at w e) e.port n) (owes m e.port) off }
+      record { off = off; awaits = and_left (is_port_in p (router_at w e) e.port n) (awaits m e.port) off; owes = and_left (is_port_in p (router_at w e) e.port n) (owes_port m e.port) off }
 
   -- another router's end is as before
   away : (n : ℕ) (e : LinkEnd) → e.router ≢ R.i → new n e ≡ old n e
@@ -239,7 +239,7 @@ module _ (t : Topology) (p : Prefix) (pfd pfd' : ℕ → ℕ) (w w' : Processes)
         chosen = and_left (is_port_in p r e.port n) (is_port e.port m.successor) off;
         shown = false_from_ne_true (old n e).shown (λ s. (let le = O.row_past e n s in omega (arith, le, lt)));
         awaits = and_left (is_port_in p r e.port n) (awaits m e.port) off;
-        owes = and_left (is_port_in p r e.port n) (owes m e.port) off;
+        owes = and_left (is_port_in p r e.port n) (owes_port m e.port) off;
         empty = (λ z. (none_of p n (w.coming (t.far e)) quiet z ++ nothing_held_later (session_of w e) n (kept p e.port (ripe_of r)) lt (I.ripe_lawful e.router e.port) z) ++ nothing_held_later (session_of w e) n (kept p e.port (unripe_of r)) lt (I.unripe_lawful e.router e.port) z);
         pfd_low = I.pfd_bounded e.router;
       }

@@ -2,7 +2,7 @@
 use Rattle.std.proofs.Common.{refl, sym, ap, subst, ◌∙◌, arith, inl, inr, ◌≡◌, ℕ, ◌<◌, ◌≤◌, max, Bool, true, false, not, ◌&&◌, ◌==◌, if◌then◌else◌, [], ◌++◌, eq-eqb}
 use Rattle.no_packet_loops.proofs.Common.{and_parts, and_from, Prefix, machine_of, is_port, is_up_at, kept, ripe_of, unripe_of, Topology, LinkEnd}
 use Rattle.network_model.proofs.Common.{cases_Bool, both_ways, false_from_ne_true, and_left}
-use Rattle.machine_laws.specs.Laws.{awaits, owes}
+use Rattle.machine_laws.specs.Laws.{awaits, owes_port}
 use Rattle.loop_freedom.specs.Facts.{End, messages}
 use Rattle.loop_freedom.proofs.Link.{EndInvariant}
 use Rattle.loop_freedom.proofs.Notices.{IsLawfullyHeld, lawfully_held_later, nothing_held_later}
@@ -114,7 +114,7 @@ module _ (t t' : Topology) (p : Prefix) (pfd : ℕ → ℕ) (w : Processes) (I :
         chosen = and_left (is_port_in p r e.port n) (is_port e.port m.successor) away;
         shown = false_from_ne_true (end_from t' p n pfd w' e).shown (λ s. (let le = O.row_past e n s in omega (arith, le, past)));
         awaits = and_left (is_port_in p r e.port n) (awaits m e.port) away;
-        owes = and_left (is_port_in p r e.port n) (owes m e.port) away;
+        owes = and_left (is_port_in p r e.port n) (owes_port m e.port) away;
         empty = (λ z. (messages (arriving_in n (carried p (none_comes (t'.far e) (new_far e v off) z))) ++ nothing_held_later (session_of w e) n (kept p e.port (ripe_of r)) past (I.ripe_lawful e.router e.port) z) ++ nothing_held_later (session_of w e) n (kept p e.port (unripe_of r)) past (I.unripe_lawful e.router e.port) z);
         pfd_low = I.pfd_bounded e.router;
       }

@@ -6,10 +6,10 @@ use Rattle.network_model.specs.Forwarding.{hop}
 use Rattle.all_packets.specs.Packets.{IsWay, NoPacketCircles}
 use Rattle.all_packets.specs.Through.{through_from}
 use Rattle.course.specs.Images.{image_in_force, images_in_force}
-use Rattle.course.specs.Links.{HasShortWays as HasShortWaysThere, LeadsToRouters}
+use Rattle.course.specs.Links.{HasShortWays, LeadsToRouters}
 use Rattle.simulation.specs.Simulation.{Simulation, IsSimulation}
 use Rattle.simulation.proofs.Headline.{along_images}
-use Rattle.simulation.specs.Tracing.{HasShortWays, IsTraced, passed}
+use Rattle.simulation.specs.Tracing.{HasImageWays, IsTraced, passed}
 
 -- what the image in force at a router answers is the row that the router published
 pub row_is : (w : World) (i addr : ℕ) (images : List Image) (image : Image) → images ≡ images_in_force w → slice_get images i ≡ Some image → image_answer image addr ≡ row_for w i addr
@@ -102,7 +102,7 @@ module _ (w : World) (addr : ℕ) where
 -- ---- what is told of a packet that was followed
 
 -- a trace that was written
-pub traced : (s : Simulation) → HasShortWays s → (addr i : ℕ) (old new : List ℕ) (count : ℕ) (end : Option Ending) → count ≤ length old → drop count new ≡ drop count old
+pub traced : (s : Simulation) → HasImageWays s → (addr i : ℕ) (old new : List ℕ) (count : ℕ) (end : Option Ending) → count ≤ length old → drop count new ≡ drop count old
     → passed (take count new) end ≡ through_from (length old) s.world addr i → IsTraced s addr i old new count end
 traced s ways addr i old new count end room rest is =
     let way : IsWay s.world addr (take count new) = subst (λ (t : Trace). IsWay s.world addr t.path) (sym is) (is_way s.world addr (length old) i) in
@@ -115,7 +115,7 @@ traced s ways addr i old new count end room rest is =
     }
 
 -- where there is room for all routers it does not end before the packet
-pub unfinished : (s : Simulation) → HasShortWays s → (addr i : ℕ) (old new : List ℕ) → i < length s.world.routers → length s.world.routers ≤ length old → passed new None ≡ through_from (length old) s.world addr i → ⊥
+pub unfinished : (s : Simulation) → HasImageWays s → (addr i : ℕ) (old new : List ℕ) → i < length s.world.routers → length s.world.routers ≤ length old → passed new None ≡ through_from (length old) s.world addr i → ⊥
 unfinished s ways addr i old new known room is =
     let (ks, count, way) = long s.world addr (length old) i (sym (ap (λ (t : Trace). t.end) is)) in
     let short = ways.short addr i ks known way in
@@ -123,5 +123,5 @@ unfinished s ways addr i old new known room is =
 
 -- ---- what holds of the ways of every simulation
 
-pub short_ways : (s : Simulation) → IsSimulation s → NoPacketCircles s.world → HasShortWaysThere s.world → HasShortWays s
+pub short_ways : (s : Simulation) → IsSimulation s → NoPacketCircles s.world → HasShortWays s.world → HasImageWays s
 short_ways s kept none short = record { in_force = along_images s kept; none_twice = none; short = short }

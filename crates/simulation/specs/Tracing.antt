@@ -35,7 +35,7 @@ pub record HasEnded (end : Option Ending) : Type 0 where
   pub real : ending ≢ Crossed
 
 -- a way of a packet is one along the images in force, it meets no router twice, and passes no more routers than there are
-pub record HasShortWays (s : Simulation) : Type 0 where
+pub record HasImageWays (s : Simulation) : Type 0 where
   pub in_force : (addr : ℕ) (way : List ℕ) → IsWay s.world addr way → IsImageWay s addr way
   pub none_twice : (addr : ℕ) (way : List ℕ) → IsWay s.world addr way → meets_twice way ≡ false
   pub short : (addr i : ℕ) (ks : List ℕ) → i < length s.world.routers → IsWay s.world addr (i ∷ ks) → length (i ∷ ks) ≤ length s.world.routers
