@@ -57,10 +57,10 @@ abbrev pub StopsLines : TimesKey → ℕ → Cause → Type 0
 StopsLines key count cause = IsMemory cause ⊎ ((fault : LineFault) × (position : ℕ) × (cause ≡ OfTimes (OfLine fault key position)) × (position < count))
 
 -- the lines of this list
-abbrev pub lines_of : TimesKey → TimesLists → List Text
-lines_of Links lists = lists.links
-lines_of Routers lists = lists.routers
-lines_of Changes lists = lists.changes
+abbrev pub lines_at_key : TimesKey → TimesLists → List Text
+lines_at_key Links lists = lists.links
+lines_at_key Routers lists = lists.routers
+lines_at_key Changes lists = lists.changes
 
 -- the text is a document of times with such lists
 abbrev pub HasLists : Text → (TimesLists → Type 0) → Type 0
@@ -77,7 +77,7 @@ abbrev pub SaysNoTimes : Text → Cause → Type 0
 SaysNoTimes text (OfTimes (OfDocument IsNoToml)) = parse_document text ≡ None
 SaysNoTimes text (OfTimes (OfDocument HasBadKey)) = HasNoTimes (parse_document text)
 SaysNoTimes text (OfTimes TooLarge) = HasLists text (λ lists. 10000 < length lists.changes)
-SaysNoTimes text (OfTimes (OfLine fault key position)) = HasLists text (λ lists. position < length (lines_of key lists))
+SaysNoTimes text (OfTimes (OfLine fault key position)) = HasLists text (λ lists. position < length (lines_at_key key lists))
 SaysNoTimes text (Memory memory) = ⊤
 SaysNoTimes text cause = ⊥
 
