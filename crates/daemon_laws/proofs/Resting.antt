@@ -14,7 +14,8 @@ use Rattle.daemon_laws.specs.Packets.{is_in_session}
 use Rattle.daemon_laws.specs.Rest.{IsUpIn, cost_from, IsSessionWay, way_cost, IsWayHome, entry_in_force, IsSessionChain, ProcessHasRoute, ProcessHasBestRow, AreAtRest}
 use Rattle.daemon_laws.proofs.Seen.{carried, arriving_in, is_port_in}
 use Rattle.daemon_laws.proofs.Told.{Told, listens, last_value}
-use Rattle.daemon_laws.proofs.Moving.{port_within, in_session}
+use Rattle.no_packet_loops.proofs.Taking.{port_within}
+use Rattle.daemon_laws.proofs.Moving.{in_session}
 use Rattle.daemon_laws.proofs.Items.{cost_is}
 use Rattle.daemon_laws.proofs.Invariant.{router_at, session_of, end_from, MayBe, Invariant}
 use Rattle.daemon_laws.proofs.Walks.{opened, in_it}

@@ -14,7 +14,8 @@ use Rattle.daemon_laws.specs.Packets.{is_in_session}
 use Rattle.daemon_laws.specs.Happenings.{IsOwn, told_router}
 use Rattle.daemon_laws.proofs.Seen.{is_port_in}
 use Rattle.daemon_laws.proofs.Routers.{RouterKept, Unmoved, unmoved_elsewhere}
-use Rattle.daemon_laws.proofs.Moving.{port_within, in_session}
+use Rattle.no_packet_loops.proofs.Taking.{port_within}
+use Rattle.daemon_laws.proofs.Moving.{in_session}
 use Rattle.daemon_laws.proofs.Items.{up_is, as_many, session_is, took_up, took_down, took_cost, took_message}
 use Rattle.daemon_laws.proofs.Goes.{Goes, nothing, goes_unmoved, goes_took, goes_home, taken_in}
 
