@@ -24,5 +24,5 @@ returns-clause-same g c =
     let this : IsPrefix c.self.inside.seen.log both = subst (λ (l : List g.row.E.Denot). IsPrefix l both) (ap (λ s. s.log) c.again-both.ensures) c.learn.ensures.2 in
     let book : c.self.inside.seen.book ≡ c.other.inside.seen.book = sym (ap (λ (h : Log g.row.E.Denot). h.book) c.other.view_is ∙ (c.requires ∙ sym (ap (λ (h : Log g.row.E.Denot). h.book) c.self.view_is))) in
     rw (← c.self.view_is, ← c.other.view_is) (λ len.
-        let log : c.self.inside.seen.log ≡ c.other.inside.seen.log = prefix_whole _ _ (prefix_shorter _ _ both this c.learn.ensures.3 (omega (arith, len))) len in
-        λ i. record { book = book i; elements = log i })
+    let log : c.self.inside.seen.log ≡ c.other.inside.seen.log = prefix_whole _ _ (prefix_shorter _ _ both this c.learn.ensures.3 (omega (arith, len))) len in
+    λ i. record { book = book i; elements = log i })
