@@ -26,7 +26,7 @@ entry_ends w i p (Via q session) end h = by_far (entry_leads w i (Via q session)
     by_far (Some k) is = absurd (let none : ⊥ = cc in none)
 
 -- nor does a row, or that there is none
-row_ends : (w : World) (i : ℕ) (row : Option (Prefix × Entry)) (end : Ending) → by_row w i None row ≡ Ends end → end ≢ Ending.Crossed
+pub row_ends : (w : World) (i : ℕ) (row : Option (Prefix × Entry)) (end : Ending) → by_row w i None row ≡ Ends end → end ≢ Ending.Crossed
 row_ends w i None end h = λ crossed. (let none : ⊥ = cc in none)
 row_ends w i (Some r) end h = entry_ends w i r.0 r.1 end h
 
@@ -40,7 +40,7 @@ row_same w i first (Some r) p k h = by_cross (is_crossed first r.0) h
     by_cross false g = g
 
 -- the trace that does this at router i, and then may pass n routers more
-abbrev onwards : ℕ → World → ℕ → ℕ → Onward → Trace
+abbrev pub onwards : ℕ → World → ℕ → ℕ → Onward → Trace
 onwards n w addr i o = traced_by (λ p k. through_from n w addr k) i o
 
 module _ (w : World) (addr : ℕ) where

@@ -6,11 +6,12 @@ use Rattle.std.proofs.lemmas.Bool.{cases_eq, cond-true, cond-false, ne_eqb}
 use Rattle.ipv4_prefix.specs.Prefix.{Prefix, IsPrefix, covers}
 use Rattle.ipv4_prefix.specs.LongestMatch.{longest_match}
 use Rattle.ipv4_prefix.proofs.TableRows.{longest_in_table}
-use Rattle.array_bitmap.specs.Words.{nothing, found, len_of, entry_of, answer_word, word_answer, IsRowWord, IsReadBack}
-use Rattle.array_bitmap.specs.Greatest.{GreatestBelow}
-use Rattle.array_bitmap.specs.Tree.{Cells, word_at, entry_in, rows_of_cells, IsSound}
+use Rattle.array_bitmap.specs.Words.{nothing, found, len_of, word_entry, answer_word, word_answer, IsRowWord, IsReadBack}
+use Rattle.bitmaps.specs.Greatest.{GreatestBelow}
+use Rattle.array_bitmap.specs.Tree.{Cells, word_at, entry_in, rows_of_cells, IsSoundCells}
 use Rattle.array_bitmap.proofs.ShortRows.{some_found}
-use Rattle.array_bitmap.proofs.LongestRow.{found-row, GreatestBelow-end}
+use Rattle.bitmaps.proofs.Finds.{GreatestBelow-end}
+use Rattle.array_bitmap.proofs.LongestRow.{found-row}
 use Rattle.array_bitmap.proofs.PrefixRows.{longest_on_path, none_on_path}
 
 -- the prefix of so many bits that covers an address
@@ -36,7 +37,7 @@ greatest {X} f (suc n) = by (f n) refl (greatest f n)
     by (Some x) e below = (Some (n, x), (omega arith, e, λ k l h. absurd (omega (arith, l, h))))
     by None e below = (below.0, GreatestBelow-end f n (suc n) below.0 (omega arith) (λ k l h. let same : k ≡ n = omega (arith, l, h) in ap f same ∙ e) below.1)
 
-module _ (c : Cells) (sound : IsSound c) (addr : ℕ) (fits : addr < 2 ^ 32) where
+module _ (c : Cells) (sound : IsSoundCells c) (addr : ℕ) (fits : addr < 2 ^ 32) where
   -- the word of the longest row, or that for no row
   word_there : (word : ℕ) × GreatestBelow (word_at c (addr * 4)) 33 (found word)
   word_there = by (greatest (word_at c (addr * 4)) 33)
@@ -59,7 +60,7 @@ module _ (c : Cells) (sound : IsSound c) (addr : ℕ) (fits : addr < 2 ^ 32) whe
     word_answers = elim (cases_eq word nothing) [
       | inl none ↦ longest_in_table (entry_in c) addr None (none_on_path c addr word none best) ∙ sym (cond-true _ _ _ (eq-eqb _ _ none))
       | inr some ↦
-          longest_in_table (entry_in c) addr (Some (covering addr (len_of word), entry_of word))
+          longest_in_table (entry_in c) addr (Some (covering addr (len_of word), word_entry word))
           (longest_on_path c addr word (covering addr (len_of word)) some (covering_is addr (len_of word) fits (row_word some).1) refl (covering_covers addr (len_of word)) best)
           ∙ sym (cond-false _ _ _ (ne_eqb word nothing some))
     ]

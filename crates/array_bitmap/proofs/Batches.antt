@@ -11,7 +11,7 @@ use Rattle.network_model.specs.declared.route.Entry.{Entry}
 use Rattle.network_model.specs.Publication.{with_rows}
 use Rattle.array_bitmap.specs.Removal.{without_row}
 use Rattle.array_bitmap.specs.Batch.{put_back, IsNoted}
-use Rattle.array_bitmap.proofs.PrefixRows.{with_one_more, with_all}
+use Rattle.bitmaps.proofs.RowsSet.{with_one_more, with_all}
 
 -- rows set in order leave a table in order
 pub with_rows-sorted : (rows table : List (Prefix × Entry)) → T (is_sorted prefix_cmp table) → T (is_sorted prefix_cmp (with_rows rows table))

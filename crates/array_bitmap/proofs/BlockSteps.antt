@@ -7,10 +7,10 @@ use Rattle.std.proofs.Math.Nat.{mul-lt-mul_of_pos_right, zero-mod}
 use Rattle.std.proofs.Math.Pow.{mod-mod-pow}
 use Rattle.ipv4_prefix.specs.Prefix.{Prefix, IsPrefix}
 use Rattle.array_bitmap.specs.Bits.{depth_of, five_bits, path_start, row_bit}
-use Rattle.array_bitmap.specs.Words.{entry_of}
-use Rattle.array_bitmap.specs.Blocks.{kids_of, kid_in, IsHead}
+use Rattle.array_bitmap.specs.Words.{word_entry}
+use Rattle.array_bitmap.specs.Blocks.{kid_map, kid_in, IsHead}
 use Rattle.array_bitmap.specs.Cursor.{is_before, IsFirstAt, IsFoundAt, IsNextSpot, spot_number, none_until}
-use Rattle.array_bitmap.specs.Tree.{Cells, words_at, block_at, word_at, entry_in, IsSound}
+use Rattle.array_bitmap.specs.Tree.{Cells, words_at, block_at, word_at, entry_in, IsSoundCells}
 use Rattle.array_bitmap.specs.declared.blocks.Head.{Head}
 use Rattle.array_bitmap.specs.declared.cursor.Spot.{Spot}
 use Rattle.array_bitmap.specs.declared.cursor.Found.TheVariants.{NoneBefore}
@@ -115,7 +115,7 @@ module _ (p r : Prefix) (level start five_p five_r more_p more_r : ℕ)
 
 -- ---- no row between
 
-module _ (t : Cells) (sound : IsSound t) (c : Prefix) (level block five more : ℕ) (head : Head) (spot : Spot)
+module _ (t : Cells) (sound : IsSoundCells t) (c : Prefix) (level block five more : ℕ) (head : Head) (spot : Spot)
     (valid : IsPrefix c) (low : t.first ≤ level) (deep : level ≤ 5) (len : c.len ≡ depth_of level + (more + 1)) (few : more < 5)
     (five_is : five ≡ five_bits (c.addr * 4) level) (at : block_at t (c.addr * 4) (level - t.first) ≡ block)
     (read : IsHead (words_at t block) head) (own : bit_at head.rows (row_bit five more) ≡ 1 → ⊥)
@@ -159,7 +159,7 @@ module _ (t : Cells) (sound : IsSound t) (c : Prefix) (level block five more : �
               let same_five : five_r ≡ five = ap (λ a. five_bits (a * 4) level) (sym same) ∙ sym five_is in
               own (subst (λ f. bit_at head.rows (row_bit f more) ≡ 1) same_five (subst (λ k. bit_at head.rows (row_bit five_r k) ≡ 1) same_len h))
         ] in
-        ap (option_map entry_of)
+        ap (option_map word_entry)
         (ap (word_at t (r.addr * 4)) len_r ∙ word_of_stand t (r.addr * 4) level (r.len - depth_of level - 1) block low few_r same_block
         ∙ row-clear (words_at t block) (row_bit five_r (r.len - depth_of level - 1)) (λ h. clear (ap (λ n. bit_at n (row_bit five_r (r.len - depth_of level - 1))) read.rows ∙ h)))
 
@@ -172,11 +172,11 @@ module _ (t : Cells) (sound : IsSound t) (c : Prefix) (level block five more : �
         le-div (start * 32 + five) (r.addr * 4) (2 ^ (25 - 5 * level)) (pow_pos (25 - 5 * level)) (let o = order in let short_c = valid.short in omega (arith, o, own_path, short_c, short_r)) in
         let at_five : five ≤ five_r = omega (arith, least, path_fives (r.addr * 4) level deep, bits) in
         let shallow : level < 5 = omega (arith, long, short_r) in
-        let clear : bit_at (kids_of (words_at t block)) five_r ≡ 0 = ap (λ k. bit_at k five_r) (sym read.kids) ∙ next.no_kid shallow five_r at_five before in
+        let clear : bit_at (kid_map (words_at t block)) five_r ≡ 0 = ap (λ k. bit_at k five_r) (sym read.kids) ∙ next.no_kid shallow five_r at_five before in
         let kid : 0 ≡ kid_in (words_at t block) five_r = sym (kid-clear (words_at t block) five_r (λ h. omega (arith, h, clear))) in
         let ended : 0 ≡ block_at t (r.addr * 4) (level + 1 - t.first) = next_block t (r.addr * 4) level five_r block 0 low (sym same_block) refl kid in
         let on : t.first + (level + 1 - t.first) ≡ level + 1 = omega (arith, low) in
-        ap (option_map entry_of) (none_below t sound.nowhere (r.addr * 4) (level + 1 - t.first) r.len (sym ended) (omega (arith, on, long)))
+        ap (option_map word_entry) (none_below t sound.nowhere (r.addr * 4) (level + 1 - t.first) r.len (sym ended) (omega (arith, on, long)))
 
   -- where there is no next place, none is before the end of the block
   pub none_until_block_end : (addr : ℕ) (after : Option Prefix) → spot.five ≡ 32 → addr ≡ c.addr → IsFirstAt ((addr / 2 ^ (32 - depth_of level) + 1) * 2 ^ (32 - depth_of level)) after

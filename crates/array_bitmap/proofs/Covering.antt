@@ -1,33 +1,14 @@
 -- The longest prefix of a path that ends in a block.
-use Rattle.std.proofs.Common.{ℕ, zero, suc, ◌≡◌, inl, inr, ⊎_elim, ◌↔◌, ◌+◌, ◌-◌, ◌*◌, ◌/◌, ◌%◌, ◌^◌, ◌<◌, ◌≤◌, min, max, bit_and, bit_or, List, [], ◌∷◌, slice_index, Bool, true, ◌==◌, ◌&&◌, Some, None, arith, refl, sym, ap, subst, ◌∙◌}
+use Rattle.std.proofs.Common.{ℕ, zero, suc, ◌≡◌, inl, inr, ⊎_elim, ◌↔◌, ◌^◌, ◌<◌, ◌≤◌, max, bit_and, bit_or, List, [], ◌∷◌, slice_index, Bool, true, ◌==◌, ◌&&◌, Some, None, arith, refl, sym, ap, subst, ◌∙◌}
 use Rattle.std.specs.Int.{bit_at}
-use Rattle.std.specs.Int.Count.{count_leading_zeros}
 use Rattle.std.proofs.lemmas.Bool.{cases_eq, and_parts, eqb-true, cond-true, cond-false, eq-eqb, ne_eqb}
-use Rattle.std.proofs.lemmas.Nat.{leading_top, pow-add, shr_high}
-use Rattle.std.proofs.lemmas.Nat.Bits.{bit_at-zero, bit_at-lt, bit_at_and, bit_at_or, bit_at_above, bit_at-pow_same, bit_at-pow_other}
-use Rattle.array_bitmap.specs.Greatest.{GreatestBelow}
-use Rattle.array_bitmap.specs.Bits.{row_bit, IsHighest, width}
-use Rattle.array_bitmap.specs.Blocks.{rows_of, row_index, row_in}
+use Rattle.std.proofs.lemmas.Nat.Bits.{bit_at-zero, bit_at-lt, bit_at_and, bit_at_or, bit_at-pow_same, bit_at-pow_other}
+use Rattle.bitmaps.specs.Greatest.{GreatestBelow}
+use Rattle.bitmaps.specs.Bits.{IsHighest}
+use Rattle.bitmaps.proofs.HighestBit.{both_bits}
+use Rattle.array_bitmap.specs.Bits.{row_bit, width}
+use Rattle.array_bitmap.specs.Blocks.{row_map, row_index, row_in}
 use Rattle.array_bitmap.proofs.PathBits.{longer_is_greater}
-
--- ---- the greatest bit
-
--- a number from 2 ^ j up to 2 ^ (j + 1) has bit j
-top_bit : (a j : ℕ) → 2 ^ j ≤ a → a < 2 ^ suc j → bit_at a j ≡ 1
-top_bit a j low high =
-    let next : suc j ≡ 1 + j = omega arith in
-    let two : 2 ^ suc j ≡ 2 ^ 1 * 2 ^ j = ap (λ m. 2 ^ m) next ∙ pow-add 2 1 j in
-    let rest : a - 2 ^ j < 2 ^ j = omega (arith, high, two) in
-    let whole : 1 * 2 ^ j + (a - 2 ^ j) ≡ a = omega (arith, low) in
-    ap (λ m. m % 2) (ap (λ m. m / 2 ^ j) (sym whole) ∙ shr_high 1 j (a - 2 ^ j) rest)
-
--- the greatest bit of a number of 64 bits, by its leading zeros
-pub highest_bit : (a : ℕ) → 0 < a → a < 2 ^ 64 → IsHighest a (Some (63 - count_leading_zeros 64 a))
-highest_bit a some small =
-    let top = leading_top 64 a some small in
-    let j = top.0 in
-    let at : j ≡ 63 - count_leading_zeros 64 a = omega (arith, top.1) in
-    subst (λ bit. IsHighest a (Some bit)) at (omega (arith, top.1), top_bit a j top.2 top.3, λ k l. bit_at_above a (suc j) k top.3 (omega (arith, l)))
 
 -- ---- bits of covering prefixes
 
@@ -73,20 +54,12 @@ covers_level five level k = (covering_set five (width level) k, λ h. subst (λ 
 
 -- ---- the longest prefix in a block
 
--- a bit of both bitmaps is one of either
-pub both_bits : (m n k : ℕ) → bit_at (bit_and m n) k ≡ 1 → (bit_at m k ≡ 1) × (bit_at n k ≡ 1)
-both_bits m n k h =
-    let both : bit_at (bit_and m n) k ≡ min (bit_at m k) (bit_at n k) = bit_at_and m n k in
-    let a : bit_at m k < 2 = bit_at-lt m k in
-    let b : bit_at n k < 2 = bit_at-lt n k in
-    (omega (arith, both, h, a), omega (arith, both, h, b))
-
 -- a row whose bit is set, and one whose bit is not
-pub row-set : (ws : List ℕ) (bit : ℕ) → bit_at (rows_of ws) bit ≡ 1 → row_in ws bit ≡ Some (slice_index ws (row_index ws bit))
+pub row-set : (ws : List ℕ) (bit : ℕ) → bit_at (row_map ws) bit ≡ 1 → row_in ws bit ≡ Some (slice_index ws (row_index ws bit))
 unfolding row_in
 row-set ws bit h = cond-true _ _ _ (eq-eqb _ 1 h)
 
-pub row-clear : (ws : List ℕ) (bit : ℕ) → (bit_at (rows_of ws) bit ≡ 1 → ⊥) → row_in ws bit ≡ None
+pub row-clear : (ws : List ℕ) (bit : ℕ) → (bit_at (row_map ws) bit ≡ 1 → ⊥) → row_in ws bit ≡ None
 unfolding row_in
 row-clear ws bit h = cond-false _ _ _ (ne_eqb _ 1 h)
 
@@ -97,33 +70,33 @@ module _ (ws : List ℕ) (five level cover : ℕ) (small : five < 32)
   few = omega arith
 
   -- a covering prefix has its row where its bit is one of those masked
-  masked : (more : ℕ) → more < width level → bit_at (rows_of ws) (row_bit five more) ≡ 1 → bit_at (bit_and (rows_of ws) cover) (row_bit five more) ≡ 1
+  masked : (more : ℕ) → more < width level → bit_at (row_map ws) (row_bit five more) ≡ 1 → bit_at (bit_and (row_map ws) cover) (row_bit five more) ≡ 1
   masked more l h =
       let k = row_bit five more in
       let c : bit_at cover k ≡ 1 = (covered k).1 (more, l, refl) in
-      omega (arith, bit_at_and (rows_of ws) cover k, h, c)
+      omega (arith, bit_at_and (row_map ws) cover k, h, c)
 
   -- where no masked bit is set, no prefix of the path ends in the block
-  pub none_in : IsHighest (bit_and (rows_of ws) cover) None → GreatestBelow (λ more. row_in ws (row_bit five more)) (width level) None
+  pub none_in : IsHighest 64 (bit_and (row_map ws) cover) None → GreatestBelow (λ more. row_in ws (row_bit five more)) (width level) None
   none_in z more l = row-clear ws (row_bit five more) (λ h.
-      let one : bit_at (bit_and (rows_of ws) cover) (row_bit five more) ≡ 1 = masked more l h in
-      let none : bit_at (bit_and (rows_of ws) cover) (row_bit five more) ≡ 0 = ap (λ m. bit_at m (row_bit five more)) z ∙ bit_at-zero (row_bit five more) in
+      let one : bit_at (bit_and (row_map ws) cover) (row_bit five more) ≡ 1 = masked more l h in
+      let none : bit_at (bit_and (row_map ws) cover) (row_bit five more) ≡ 0 = ap (λ m. bit_at m (row_bit five more)) z ∙ bit_at-zero (row_bit five more) in
       omega (arith, one, none))
 
   -- else the greatest is that of the longest
-  pub some_in : (bit : ℕ) → IsHighest (bit_and (rows_of ws) cover) (Some bit)
+  pub some_in : (bit : ℕ) → IsHighest 64 (bit_and (row_map ws) cover) (Some bit)
       → (more : ℕ) × GreatestBelow (λ more. row_in ws (row_bit five more)) (width level) (Some (more, slice_index ws (row_index ws bit)))
   some_in bit top =
-      let both = both_bits (rows_of ws) cover bit top.1 in
+      let both = both_bits (row_map ws) cover bit top.1 in
       let at = (covered bit).0 both.1 in (
         at.0,
         (
           at.1,
           ap (row_in ws) (sym at.2) ∙ row-set ws bit both.0,
           λ more l h. row-clear ws (row_bit five more) (λ x.
-              let one : bit_at (bit_and (rows_of ws) cover) (row_bit five more) ≡ 1 = masked more h x in
+              let one : bit_at (bit_and (row_map ws) cover) (row_bit five more) ≡ 1 = masked more h x in
               let above : row_bit five at.0 < row_bit five more = longer_is_greater five five at.0 more small l (omega (arith, h, few)) in
-              let none : bit_at (bit_and (rows_of ws) cover) (row_bit five more) ≡ 0 = top.2 (row_bit five more) (omega (arith, above, at.2)) in
+              let none : bit_at (bit_and (row_map ws) cover) (row_bit five more) ≡ 0 = top.2 (row_bit five more) (omega (arith, above, at.2)) in
               omega (arith, one, none)),
         ),
       )

@@ -4,7 +4,7 @@ use Rattle.std.proofs.lemmas.Bool.{cases_eq}
 use Rattle.array_bitmap.specs.Bits.{depth_of, five_bits, path_start}
 use Rattle.array_bitmap.specs.Words.{found}
 use Rattle.array_bitmap.specs.Blocks.{row_in, kid_in}
-use Rattle.array_bitmap.specs.Tree.{Cells, words_of, words_at, kid_at, block_at, word_at, named, IsSound}
+use Rattle.array_bitmap.specs.Tree.{Cells, words_in_block, words_at, kid_at, block_at, word_at, named, IsSoundCells}
 use Rattle.array_bitmap.specs.Changes.{WritesName}
 use Rattle.array_bitmap.proofs.Walks.{zeros, block-first, block-next, kid-nowhere, row-nowhere, no_kid_none}
 use Rattle.array_bitmap.proofs.OnePath.{named-kid, named_used, name_of, holder, index_in}
@@ -12,7 +12,7 @@ use Rattle.array_bitmap.proofs.SetsWords.{GreatestBelow-same}
 use Rattle.array_bitmap.proofs.NewBlocks.{words_same}
 
 -- ---- the name of a block is written over with 0
-module _ (c : Cells) (tops2 : ℕ → ℕ) (heap2 : ℕ → Option (List ℕ)) (q k j : ℕ) (sound : IsSound c) (name : named c q k ≡ j) (real : j ≢ 0)
+module _ (c : Cells) (tops2 : ℕ → ℕ) (heap2 : ℕ → Option (List ℕ)) (q k j : ℕ) (sound : IsSoundCells c) (name : named c q k ≡ j) (real : j ≢ 0)
     (wr : WritesName c (record c { tops = tops2; heap = heap2 }) q k 0)
     (no_kids : (m : ℕ) → kid_at c j m ≡ 0) (no_rows : (b : ℕ) → row_in (words_at c j) b ≡ None) where
   abbrev d2 : Cells
@@ -96,7 +96,7 @@ module _ (c : Cells) (tops2 : ℕ → ℕ) (heap2 : ℕ → Option (List ℕ)) (
       by (inr s) = absurd (n s.1)
 
   -- the image is sound
-  pub unnamed_sound : IsSound d2
+  pub unnamed_sound : IsSoundCells d2
   unnamed_sound = record {
     four_sizes = sound.four_sizes;
     nowhere = zeros_there;
@@ -109,15 +109,15 @@ module _ (c : Cells) (tops2 : ℕ → ℕ) (heap2 : ℕ → Option (List ℕ)) (
   }
 
 -- ---- a block without a name is given back
-module _ (c : Cells) (heap0 : ℕ → Option (List ℕ)) (j : ℕ) (sound : IsSound c) (real : j ≢ 0) (unnamed : (p m : ℕ) → named c p m ≢ j)
+module _ (c : Cells) (heap0 : ℕ → Option (List ℕ)) (j : ℕ) (sound : IsSoundCells c) (real : j ≢ 0) (unnamed : (p m : ℕ) → named c p m ≢ j)
     (gone : heap0 j ≡ None) (others : (p : ℕ) → p ≢ j → heap0 p ≡ c.heap p) (no_kids : (m : ℕ) → kid_at c j m ≡ 0) where
   abbrev g0 : Cells
   g0 = record c { heap = heap0 }
 
   kids_same : (p m : ℕ) → kid_at g0 p m ≡ kid_at c p m
   kids_same p m = elim (cases_eq p j) [
-    | inl e ↦ ap (λ x. kid_at g0 x m) e ∙ ap (λ o. kid_in (words_of o) m) gone ∙ no_kid_none m ∙ sym (ap (λ x. kid_at c x m) e ∙ no_kids m)
-    | inr n ↦ ap (λ o. kid_in (words_of o) m) (others p n)
+    | inl e ↦ ap (λ x. kid_at g0 x m) e ∙ ap (λ o. kid_in (words_in_block o) m) gone ∙ no_kid_none m ∙ sym (ap (λ x. kid_at c x m) e ∙ no_kids m)
+    | inr n ↦ ap (λ o. kid_in (words_in_block o) m) (others p n)
   ]
 
   names_same : (p m : ℕ) → named g0 p m ≡ named c p m
@@ -134,9 +134,9 @@ module _ (c : Cells) (heap0 : ℕ → Option (List ℕ)) (j : ℕ) (sound : IsSo
 
   pub given_words : (path len : ℕ) → word_at g0 path len ≡ word_at c path len
   given_words = words_same c c.tops heap0 (λ path steps b.
-      ap (λ p. row_in (words_at g0 p) b) (given_walks path steps) ∙ ap (λ o. row_in (words_of o) b) (others (block_at c path steps) (not_on path steps)))
+      ap (λ p. row_in (words_at g0 p) b) (given_walks path steps) ∙ ap (λ o. row_in (words_in_block o) b) (others (block_at c path steps) (not_on path steps)))
 
-  pub given_sound : IsSound g0
+  pub given_sound : IsSoundCells g0
   given_sound = record {
     four_sizes = sound.four_sizes;
     nowhere = others 0 (λ e. real (sym e)) ∙ sound.nowhere;

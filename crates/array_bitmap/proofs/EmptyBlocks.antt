@@ -6,9 +6,9 @@ use Rattle.std.proofs.Math.Nat.{div-add-mod, div-mul-le_self, lt-div-mul-add}
 use Rattle.ipv4_prefix.specs.Prefix.{Prefix, IsPrefix}
 use Rattle.network_model.specs.declared.route.Entry.{Entry}
 use Rattle.array_bitmap.specs.Bits.{depth_of, path_start}
-use Rattle.array_bitmap.specs.Words.{entry_of}
+use Rattle.array_bitmap.specs.Words.{word_entry}
 use Rattle.array_bitmap.specs.Cursor.{is_before, IsNextPrefix, IsFirstAt, IsFoundAt, none_until}
-use Rattle.array_bitmap.specs.Tree.{Cells, block_at, entry_in, IsSound}
+use Rattle.array_bitmap.specs.Tree.{Cells, block_at, entry_in, IsSoundCells}
 use Rattle.array_bitmap.proofs.Walks.{block-same, none_below}
 use Rattle.array_bitmap.proofs.PrefixNumbers.{number_before, number_not_before, before_from_number, same_where_neither, cases_before, longer_writable}
 use Rattle.array_bitmap.proofs.PrefixRows.{path_bits}
@@ -85,7 +85,7 @@ none_until_end entry c addr len next valid same none first = by_next next (subst
               ]),
         )
 
-module _ (t : Cells) (sound : IsSound t) where
+module _ (t : Cells) (sound : IsSoundCells t) where
   -- where there is no block at a level, no prefix of the addresses there has a longer row
   none_in_block : (c r : Prefix) (level : ℕ) → IsPrefix c → IsPrefix r → t.first ≤ level → level ≤ 5 → depth_of level < c.len → block_at t (c.addr * 4) (level - t.first) ≡ 0 → is_before r c ≡ false
       → r.addr < (c.addr / 2 ^ (32 - depth_of level) + 1) * 2 ^ (32 - depth_of level) → entry_in t r ≡ None
@@ -94,7 +94,7 @@ module _ (t : Cells) (sound : IsSound t) where
       let (bits, longer) = in_level c r level valid_c valid_r deep from below in
       let ended : block_at t (r.addr * 4) (level - t.first) ≡ 0 =
       block-same t (r.addr * 4) (c.addr * 4) (level - t.first) (omega (arith, on, high)) (subst (λ l. path_start (r.addr * 4) (depth_of l) ≡ path_start (c.addr * 4) (depth_of l)) (sym on) bits) ∙ none in
-      ap (option_map entry_of) (none_below t sound.nowhere (r.addr * 4) (level - t.first) r.len ended (omega (arith, on, longer)))
+      ap (option_map word_entry) (none_below t sound.nowhere (r.addr * 4) (level - t.first) r.len ended (omega (arith, on, longer)))
 
   -- so the first that may have one comes after them
   pub none_until_past : (c : Prefix) (addr level : ℕ) (next : Option Prefix) → IsPrefix c → addr ≡ c.addr → t.first ≤ level → level ≤ 5 → depth_of level < c.len → block_at t (c.addr * 4) (level - t.first) ≡ 0

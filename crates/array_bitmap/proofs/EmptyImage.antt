@@ -5,17 +5,18 @@ use Rattle.std.specs.Int.RustNames.{count_ones}
 use Rattle.std.proofs.lemmas.Bool.{cases_eq, cases_lt, cond-true, cond-false, eq-eqb, ne_eqb}
 use Rattle.std.proofs.lemmas.Nat.Bits.{bit_at-zero}
 use mathlib.Core.Path.{fun_ext}
-use Rattle.word_pool.specs.Heap.{IsEmpty}
+use Rattle.word_pool.specs.Heap.{HasOnlyZeros}
 use Rattle.ipv4_prefix.proofs.TableRows.{table_rows-empty}
 use Rattle.array_bitmap.specs.Bits.{depth_of, five_bits, path_start, row_bit, level_of, more_of}
-use Rattle.array_bitmap.specs.Words.{nothing, entry_of, found}
+use Rattle.array_bitmap.specs.Words.{nothing, word_entry, found}
 use Rattle.array_bitmap.specs.Blocks.{size_for, row_in, kid_in, IsBlock}
-use Rattle.array_bitmap.specs.Greatest.{GreatestBelow}
-use Rattle.array_bitmap.specs.Tree.{Cells, words_of, words_at, block_at, short_word, long_word, word_at, named, entry_in, rows_of_cells, IsSound}
+use Rattle.bitmaps.specs.Greatest.{GreatestBelow}
+use Rattle.array_bitmap.specs.Tree.{Cells, words_in_block, words_at, block_at, short_word, long_word, word_at, named, entry_in, rows_of_cells, IsSoundCells}
 use Rattle.array_bitmap.specs.declared.tree.Top.{Top}
 use Rattle.array_bitmap.proofs.ShortRows.{nothing_shown, nothing_found}
 use Rattle.array_bitmap.proofs.ShortSet.{array_cells}
-use Rattle.array_bitmap.proofs.Walks.{zeros, none≢some, Some_same, no_kid_none, row-nowhere, gone, block-first, word-short, word-long}
+use Rattle.bitmaps.proofs.Options.{none≢some, Some_same}
+use Rattle.array_bitmap.proofs.Walks.{zeros, no_kid_none, row-nowhere, gone, block-first, word-short, word-long}
 
 -- what is read of copies of a value is the value, also past their end
 pub copies_are : {T : Type 0} (n k : ℕ) (a : T) → get_or (replicate n a) k a ≡ a
@@ -33,7 +34,7 @@ zeros_block = record {
   kids_there = λ v h e. let z : bit_at 0 v ≡ 0 = bit_at-zero v in omega (arith, z, h);
 }
 
-module _ (c : Cells) (four : c.first ≤ 3) (shorts : (k : ℕ) → c.shorts k ≡ nothing) (bests : (x : ℕ) → c.bests x ≡ nothing) (tops : (x : ℕ) → c.tops x ≡ 0) (empty : IsEmpty c.heap) where
+module _ (c : Cells) (four : c.first ≤ 3) (shorts : (k : ℕ) → c.shorts k ≡ nothing) (bests : (x : ℕ) → c.bests x ≡ nothing) (tops : (x : ℕ) → c.tops x ≡ 0) (empty : HasOnlyZeros c.heap) where
   -- no walk comes to a block
   no_block : (path steps : ℕ) → block_at c path steps ≡ 0
   no_block path steps =
@@ -54,10 +55,10 @@ module _ (c : Cells) (four : c.first ≤ 3) (shorts : (k : ℕ) → c.shorts k �
   unnamed : (p k : ℕ) → named c p k ≡ 0
   unnamed p k = elim (cases_eq p 0) [
     | inl z ↦ cond-true _ _ _ (eq-eqb p 0 z) ∙ tops k
-    | inr n ↦ cond-false _ _ _ (ne_eqb p 0 n) ∙ ap (λ o. kid_in (words_of o) k) (empty.others p n) ∙ no_kid_none k
+    | inr n ↦ cond-false _ _ _ (ne_eqb p 0 n) ∙ ap (λ o. kid_in (words_in_block o) k) (empty.others p n) ∙ no_kid_none k
   ]
 
-  pub empty_sound : IsSound c
+  pub empty_sound : IsSoundCells c
   empty_sound = record {
     four_sizes = four;
     nowhere = empty.zeros;
@@ -75,7 +76,7 @@ module _ (c : Cells) (four : c.first ≤ 3) (shorts : (k : ℕ) → c.shorts k �
       none_found path b e = subst (GreatestBelow (word_at c path) (depth_of c.first + 1)) (sym (nothing_found b e)) (λ k l. empty_words path k)
 
   pub empty_rows : rows_of_cells c ≡ []
-  empty_rows = table_rows-empty (entry_in c) (λ q. ap (option_map entry_of) (empty_words (q.addr * 4) q.len))
+  empty_rows = table_rows-empty (entry_in c) (λ q. ap (option_map word_entry) (empty_words (q.addr * 4) q.len))
 
 -- an image with the same arrays and blocks has the same words
 pub cells_same : (first : ℕ) (h h' : ℕ → Option (List ℕ)) (s s' : List ℕ) (t t' : List Top) → s' ≡ s → t' ≡ t → ((b : ℕ) → h' b ≡ h b) → array_cells first h' s' t' ≡ array_cells first h s t

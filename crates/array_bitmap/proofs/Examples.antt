@@ -3,26 +3,26 @@ use Rattle.std.proofs.Common.{ℕ, ◌≡◌, ◌+◌, ◌*◌, ◌^◌, ◌==�
 use Rattle.network_model.specs.declared.route.Entry.TheVariants.{Local, Via, Unreachable}
 use Rattle.std.specs.Int.RustNames.{count_ones}
 use Rattle.array_bitmap.specs.Bits.{five_bits, path_start, row_bit, level_of, more_of, width}
-use Rattle.array_bitmap.specs.Words.{nothing, len_of, word_of, entry_of, shown, found}
+use Rattle.array_bitmap.specs.Words.{nothing, len_of, row_word, word_entry, shown, found}
 use Rattle.array_bitmap.specs.Blocks.{used_words, size_for, row_in, kid_in}
 use Rattle.array_bitmap.specs.Tree.{Cells, block_at, short_word, long_word, word_at, row_at, named}
 
 -- ---- words
 
 -- a row of length 24 to the neighbour at port 3, in session 7
-a_word : word_of 24 (Via 3 7) ≡ 0b0110_0001_0000_0011_0000_0000_0000_0111
+a_word : row_word 24 (Via 3 7) ≡ 0b0110_0001_0000_0011_0000_0000_0000_0111
 a_word = refl
 
-its_entry : entry_of (word_of 24 (Via 3 7)) ≡ Via 3 7
+its_entry : word_entry (row_word 24 (Via 3 7)) ≡ Via 3 7
 its_entry = refl
 
-its_length : len_of (word_of 24 (Via 3 7)) ≡ 24
+its_length : len_of (row_word 24 (Via 3 7)) ≡ 24
 its_length = refl
 
-a_host_word : entry_of (word_of 32 (Via 255 65535)) ≡ Via 255 65535
+a_host_word : word_entry (row_word 32 (Via 255 65535)) ≡ Via 255 65535
 a_host_word = refl
 
-a_word_nowhere : entry_of (word_of 0 Unreachable) ≡ Unreachable
+a_word_nowhere : word_entry (row_word 0 Unreachable) ≡ Unreachable
 a_word_nowhere = refl
 
 no_word : shown nothing ≡ None
@@ -70,17 +70,17 @@ width_of_5 = refl
 
 -- ---- a block with the rows of bits 0 and 3, which are those of 0 and of 01, and a kid by 01000
 abbrev a_block : List ℕ
-a_block = (2 ^ 0 + 2 ^ 3) ∷ 0 ∷ (2 ^ 8) ∷ word_of 5 Local ∷ word_of 6 (Via 3 7) ∷ 4 ∷ 0 ∷ 0 ∷ []
+a_block = (2 ^ 0 + 2 ^ 3) ∷ 0 ∷ (2 ^ 8) ∷ row_word 5 Local ∷ row_word 6 (Via 3 7) ∷ 4 ∷ 0 ∷ 0 ∷ []
 
 its_size : size_for (used_words a_block) ≡ length a_block
 unfolding size_for count_ones
 its_size = refl
 
-first_row : row_in a_block 0 ≡ Some (word_of 5 Local)
+first_row : row_in a_block 0 ≡ Some (row_word 5 Local)
 unfolding row_in count_ones
 first_row = refl
 
-second_row : row_in a_block 3 ≡ Some (word_of 6 (Via 3 7))
+second_row : row_in a_block 3 ≡ Some (row_word 6 (Via 3 7))
 unfolding row_in count_ones
 second_row = refl
 
@@ -98,13 +98,13 @@ not_a_kid = refl
 
 -- ---- cells: a default row; the block above at 8, for addresses that begin with 0000; and its kid at 4, with the row of 4.0.0.0/10
 abbrev a_kid : List ℕ
-a_kid = 1 ∷ 0 ∷ 0 ∷ word_of 10 Unreachable ∷ []
+a_kid = 1 ∷ 0 ∷ 0 ∷ row_word 10 Unreachable ∷ []
 
 abbrev cells : Cells
 cells = record {
   first = 0;
-  shorts = λ k. cond (k == 1) (word_of 0 Local) nothing;
-  bests = λ x. word_of 0 Local;
+  shorts = λ k. cond (k == 1) (row_word 0 Local) nothing;
+  bests = λ x. row_word 0 Local;
   tops = λ x. cond (x == 0) 8 0;
   heap = λ p. cond (p == 8) (Some a_block) (cond (p == 4) (Some a_kid) None);
 }

@@ -4,9 +4,9 @@ use Rattle.std.proofs.lemmas.Bool.{cases_eq, cases_lt}
 use Rattle.std.proofs.lemmas.List.{get_or-set_same, get_or-set_other}
 use Rattle.array_bitmap.specs.Bits.{depth_of}
 use Rattle.array_bitmap.specs.Words.{found}
-use Rattle.array_bitmap.specs.Greatest.{GreatestBelow}
-use Rattle.array_bitmap.specs.Tree.{Cells, block_at, word_at, IsSound}
-use Rattle.array_bitmap.specs.Lane.{IsStep, IsDone, IsCared, lane_at}
+use Rattle.bitmaps.specs.Greatest.{GreatestBelow}
+use Rattle.array_bitmap.specs.Tree.{Cells, block_at, word_at, IsSoundCells}
+use Rattle.array_bitmap.specs.Lane.{IsStep, IsLongestWord, IsCared, lane_at}
 use Rattle.array_bitmap.specs.declared.lanes.Lane.{Lane}
 use Rattle.array_bitmap.proofs.Lookups.{longest_ends}
 
@@ -16,7 +16,7 @@ AreCared c level addrs lanes words live still i a =
     IsCared c (level + 1) addrs lanes still words a ⊎ ((k : ℕ) × (i ≤ k) × (k < live) × ((lane_at lanes k).at ≡ a))
 
 -- a look-up whose path has no next block is done, and so is each after the last level
-pub step_done : (c : Cells) (sound : IsSound c) (level : ℕ) (lane : Lane) (goes_on : ℕ) → c.first ≤ level → level ≤ 5 → IsStep c level lane goes_on → (level + 1 ≤ 5 → goes_on ≡ 0) → IsDone c lane.addr lane.best
+pub step_done : (c : Cells) (sound : IsSoundCells c) (level : ℕ) (lane : Lane) (goes_on : ℕ) → c.first ≤ level → level ≤ 5 → IsStep c level lane goes_on → (level + 1 ≤ 5 → goes_on ≡ 0) → IsLongestWord c lane.addr lane.best
 step_done c sound level lane goes_on low deep is none = elim (cases_lt level 5) [
   | inl above ↦
       longest_ends c sound (lane.addr * 4) level (block_at c (lane.addr * 4) (level + 1 - c.first)) lane.best low deep refl (is.end (none (omega (arith, above)))) is.best
@@ -35,13 +35,13 @@ cared_last c level addrs lanes words live still i a ended (inl cared) = cared
 cared_last c level addrs lanes words live still i a ended (inr left) = absurd (omega (arith, ended, left.1, left.2))
 
 -- where no look-up goes on, or after the last level, each address has its word
-pub all_done : (c : Cells) (level : ℕ) (addrs : List ℕ) (lanes : List Lane) (live : ℕ) (words : List ℕ) (a : ℕ) → (live ≡ 0) ⊎ (6 ≤ level) → IsCared c level addrs lanes live words a → IsDone c (slice_index addrs a) (slice_index words a)
+pub all_done : (c : Cells) (level : ℕ) (addrs : List ℕ) (lanes : List Lane) (live : ℕ) (words : List ℕ) (a : ℕ) → (live ≡ 0) ⊎ (6 ≤ level) → IsCared c level addrs lanes live words a → IsLongestWord c (slice_index addrs a) (slice_index words a)
 all_done c level addrs lanes live words a end (inl done) = done
 all_done c level addrs lanes live words a (inl none) (inr on) = absurd (omega (arith, none, on.1.1))
 all_done c level addrs lanes live words a (inr last) (inr on) = absurd (omega (arith, last, on.0))
 
 -- one look-up goes down: its word is written, and it stands behind those that go on
-module _ (c : Cells) (sound : IsSound c) (level : ℕ) (addrs : List ℕ) (lanes : List Lane) (words : List ℕ) (live still i : ℕ) (lane : Lane) (goes_on : ℕ)
+module _ (c : Cells) (sound : IsSoundCells c) (level : ℕ) (addrs : List ℕ) (lanes : List Lane) (words : List ℕ) (live still i : ℕ) (lane : Lane) (goes_on : ℕ)
     (low : c.first ≤ level) (deep : level ≤ 5) (fewer : still ≤ i) (inside : still < length lanes) (within : lane.at < length words)
     (is : IsStep c level lane goes_on) (addr : lane.addr ≡ slice_index addrs lane.at) (same : lane.at ≡ (lane_at lanes i).at) where
   abbrev lanes' : List Lane
@@ -72,8 +72,8 @@ module _ (c : Cells) (sound : IsSound c) (level : ℕ) (addrs : List ℕ) (lanes
       at_addr : lane.addr ≡ slice_index addrs a
       at_addr = addr ∙ ap (λ n. slice_index addrs n) (sym e)
 
-      done : (level + 1 ≤ 5 → goes_on ≡ 0) → IsDone c (slice_index addrs a) (slice_index words' a)
-      done none = subst (IsDone c (slice_index addrs a)) (sym word) (subst (λ x. IsDone c x lane.best) at_addr (step_done c sound level lane goes_on low deep is none))
+      done : (level + 1 ≤ 5 → goes_on ≡ 0) → IsLongestWord c (slice_index addrs a) (slice_index words' a)
+      done none = subst (IsLongestWord c (slice_index addrs a)) (sym word) (subst (λ x. IsLongestWord c x lane.best) at_addr (step_done c sound level lane goes_on low deep is none))
 
   pub cared_next : (a still' : ℕ) → still' ≡ still + goes_on → AreCared c level addrs lanes words live still i a
       → AreCared c level addrs lanes' words' live still' (i + 1) a
@@ -86,7 +86,7 @@ module _ (c : Cells) (sound : IsSound c) (level : ℕ) (addrs : List ℕ) (lanes
       least = omega (arith, sum)
 
       others : a ≢ lane.at → AreCared c level addrs lanes words live still i a → AreCared c level addrs lanes' words' live still' (i + 1) a
-      others n (inl (inl done)) = inl (inl (subst (IsDone c (slice_index addrs a)) (sym (get_or-set_other words lane.at a lane.best 0 n)) done))
+      others n (inl (inl done)) = inl (inl (subst (IsLongestWord c (slice_index addrs a)) (sym (get_or-set_other words lane.at a lane.best 0 n)) done))
       others n (inl (inr on)) = inl (inr (on.0, (on.1.0, omega (arith, on.1.1, least), ap (λ (x : Lane). x.at) (lane_other on.1.0 (omega (arith, on.1.1))) ∙ on.1.2)))
       others n (inr left) = elim (cases_eq left.0 i) [
         | inl e ↦ absurd (n (sym left.3 ∙ ap (λ k. (lane_at lanes k).at) e ∙ sym same))

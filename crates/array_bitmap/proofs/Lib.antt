@@ -1,4 +1,3 @@
-pub mod Ranks
 pub mod Picks
 pub mod PathBits
 pub mod Covering

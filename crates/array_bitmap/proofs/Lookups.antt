@@ -1,39 +1,41 @@
 -- What the code reads of an image.
 use Rattle.std.proofs.Common.{ℕ, suc, ◌≡◌, ◌↔◌, ◌+◌, ◌-◌, ◌^◌, ◌<◌, ◌≤◌, min, bit_and, Option, true, is_some, arith, sym, ap, subst, ◌∙◌}
 use Rattle.std.specs.Int.{bit_at}
-use Rattle.array_bitmap.specs.Bits.{depth_of, five_bits, row_bit, width, IsHighest}
+use Rattle.bitmaps.specs.Bits.{IsHighest}
+use Rattle.array_bitmap.specs.Bits.{depth_of, five_bits, row_bit, width}
 use Rattle.array_bitmap.specs.Words.{found}
-use Rattle.array_bitmap.specs.Blocks.{rows_of, kid_in, word_after, IsBlock}
-use Rattle.array_bitmap.specs.Greatest.{GreatestBelow}
-use Rattle.array_bitmap.specs.Tree.{Cells, words_of, kid_at, block_at, word_at, IsSound}
-use Rattle.array_bitmap.proofs.Walks.{some-from, block-next}
+use Rattle.array_bitmap.specs.Blocks.{row_map, kid_in, word_after, IsBlock}
+use Rattle.bitmaps.specs.Greatest.{GreatestBelow}
+use Rattle.array_bitmap.specs.Tree.{Cells, words_in_block, kid_at, block_at, word_at, IsSoundCells}
+use Rattle.bitmaps.proofs.Options.{some-from}
+use Rattle.array_bitmap.proofs.Walks.{block-next}
 use Rattle.array_bitmap.proofs.OnePath.{block_used}
 use Rattle.array_bitmap.proofs.LongestRow.{best_after, best_at_end}
 
 -- each block of a path is one
-pub block_is : (c : Cells) (sound : IsSound c) (path steps block : ℕ) → block ≡ block_at c path steps → IsBlock (words_of (c.heap block))
+pub block_is : (c : Cells) (sound : IsSoundCells c) (path steps block : ℕ) → block ≡ block_at c path steps → IsBlock (words_in_block (c.heap block))
 block_is c sound path steps block e =
     let s = some-from (c.heap block) (ap (λ p. is_some (c.heap p)) e ∙ block_used c sound path steps) in
-    subst (λ o. IsBlock (words_of o)) (sym s.1) (sound.blocks block s.0 s.1)
+    subst (λ o. IsBlock (words_in_block o)) (sym s.1) (sound.blocks block s.0 s.1)
 
 -- so is each block that is in use
-pub used_is : (c : Cells) (sound : IsSound c) (block : ℕ) → is_some (c.heap block) ≡ true → IsBlock (words_of (c.heap block))
-used_is c sound block u = let s = some-from (c.heap block) u in subst (λ o. IsBlock (words_of o)) (sym s.1) (sound.blocks block s.0 s.1)
+pub used_is : (c : Cells) (sound : IsSoundCells c) (block : ℕ) → is_some (c.heap block) ≡ true → IsBlock (words_in_block (c.heap block))
+used_is c sound block u = let s = some-from (c.heap block) u in subst (λ o. IsBlock (words_in_block o)) (sym s.1) (sound.blocks block s.0 s.1)
 
 -- the next block of a path
-pub next_block : (c : Cells) (path level five block kid : ℕ) → c.first ≤ level → block ≡ block_at c path (level - c.first) → five ≡ five_bits path level → kid ≡ kid_in (words_of (c.heap block)) five
+pub next_block : (c : Cells) (path level five block kid : ℕ) → c.first ≤ level → block ≡ block_at c path (level - c.first) → five ≡ five_bits path level → kid ≡ kid_in (words_in_block (c.heap block)) five
     → kid ≡ block_at c path (level + 1 - c.first)
 next_block c path level five block kid low at f k =
     let e : level + 1 - c.first ≡ suc (level - c.first) = omega (arith, low) in
     let l : c.first + (level - c.first) ≡ level = omega (arith, low) in
-    k ∙ ap (λ b. kid_in (words_of (c.heap b)) five) at ∙ ap (kid_at c (block_at c path (level - c.first))) (f ∙ ap (five_bits path) (sym l))
+    k ∙ ap (λ b. kid_in (words_in_block (c.heap b)) five) at ∙ ap (kid_at c (block_at c path (level - c.first))) (f ∙ ap (five_bits path) (sym l))
     ∙ sym (ap (block_at c path) e ∙ block-next c path (level - c.first))
 
 -- the longest row down to the next level
-pub longest_next : (c : Cells) (sound : IsSound c) (path level five block best cover word : ℕ) → path < 2 ^ 34 → c.first ≤ level → level ≤ 5 → block ≡ block_at c path (level - c.first)
+pub longest_next : (c : Cells) (sound : IsSoundCells c) (path level five block best cover word : ℕ) → path < 2 ^ 34 → c.first ≤ level → level ≤ 5 → block ≡ block_at c path (level - c.first)
     → five ≡ five_bits path level → ((k : ℕ) → bit_at cover k ≡ 1 ↔ ((more : ℕ) × (more < width level) × (k ≡ row_bit five more)))
     → GreatestBelow (word_at c path) (depth_of level + 1) (found best)
-    → ((bit : Option ℕ) × IsHighest (bit_and (rows_of (words_of (c.heap block))) cover) bit × (word ≡ word_after (words_of (c.heap block)) best bit))
+    → ((bit : Option ℕ) × IsHighest 64 (bit_and (row_map (words_in_block (c.heap block))) cover) bit × (word ≡ word_after (words_in_block (c.heap block)) best bit))
     → GreatestBelow (word_at c path) (min (depth_of (level + 1) + 1) 33) (found word)
 longest_next c sound path level five block best cover word fits low deep at f covered above read =
     let steps : ℕ = level - c.first in
@@ -43,15 +45,15 @@ longest_next c sound path level five block best cover word fits low deep at f co
     subst (λ x. (k : ℕ) → bit_at cover k ≡ 1 ↔ ((more : ℕ) × (more < width x) × (k ≡ row_bit (five_bits path x) more))) l
     (subst (λ x. (k : ℕ) → bit_at cover k ≡ 1 ↔ ((more : ℕ) × (more < width level) × (k ≡ row_bit x more))) f covered) in
     let after = best_after c sound path fits (level - c.first) cover best read.0 (omega (arith, l, deep)) cover'
-    (subst (λ b. IsHighest (bit_and (rows_of (words_of (c.heap b))) cover) read.0) at read.1)
+    (subst (λ b. IsHighest 64 (bit_and (row_map (words_in_block (c.heap b))) cover) read.0) at read.1)
     (subst (λ x. GreatestBelow (word_at c path) (depth_of x + 1) (found best)) l above) in
     subst (λ x. GreatestBelow (word_at c path) x (found word)) n
     (subst (λ x. GreatestBelow (word_at c path) (depth_of x + 1 + width x) (found word)) (sym l)
     (subst (λ w. GreatestBelow (word_at c path) (depth_of (c.first + (level - c.first)) + 1 + width (c.first + (level - c.first))) (found w))
-    (sym (read.2 ∙ ap (λ b. word_after (words_of (c.heap b)) best read.0) at)) after))
+    (sym (read.2 ∙ ap (λ b. word_after (words_in_block (c.heap b)) best read.0) at)) after))
 
 -- where a path has no next block, its longest row is found
-pub longest_ends : (c : Cells) (sound : IsSound c) (path level block best : ℕ) → c.first ≤ level → level ≤ 5 → block ≡ block_at c path (level + 1 - c.first) → block ≡ 0
+pub longest_ends : (c : Cells) (sound : IsSoundCells c) (path level block best : ℕ) → c.first ≤ level → level ≤ 5 → block ≡ block_at c path (level + 1 - c.first) → block ≡ 0
     → GreatestBelow (word_at c path) (min (depth_of (level + 1) + 1) 33) (found best) → GreatestBelow (word_at c path) 33 (found best)
 longest_ends c sound path level block best low deep at none above =
     let l : level ≡ c.first + (level - c.first) = omega (arith, low) in

@@ -4,8 +4,8 @@ use Rattle.std.proofs.lemmas.Bool.{cond-true, cond-false, eq-eqb, ne_eqb, cases_
 use Rattle.array_bitmap.specs.Bits.{depth_of, five_bits, path_start, row_bit, level_of, more_of}
 use Rattle.array_bitmap.specs.Words.{IsRowWord, found}
 use Rattle.array_bitmap.specs.Blocks.{row_in, kid_in, IsBlock}
-use Rattle.array_bitmap.specs.Greatest.{GreatestBelow}
-use Rattle.array_bitmap.specs.Tree.{Cells, words_of, words_at, kid_at, block_at, short_word, long_word, word_at, named, IsSound, SetsWord}
+use Rattle.bitmaps.specs.Greatest.{GreatestBelow}
+use Rattle.array_bitmap.specs.Tree.{Cells, words_in_block, words_at, kid_at, block_at, short_word, long_word, word_at, named, IsSoundCells, SetsWord}
 use Rattle.array_bitmap.specs.Changes.{IsReworded, WritesName, ChangesRow, ChangesKid}
 use Rattle.array_bitmap.proofs.PathBits.{parts_from_first, first_from_parts, row_bit_same}
 use Rattle.array_bitmap.proofs.Walks.{zeros, block-first, block-next, block-same, word_in, word-long, kid-nowhere, row-nowhere, no_kid_none, word-short}
@@ -13,7 +13,7 @@ use Rattle.array_bitmap.proofs.OnePath.{named-kid, named_used, block_used, walk_
 use Rattle.array_bitmap.proofs.SetsWords.{row_words_stay, GreatestBelow-same}
 
 module _ (c : Cells) (heap1 : ℕ → Option (List ℕ)) (tops2 : ℕ → ℕ) (heap2 : ℕ → Option (List ℕ)) (j j' q k : ℕ) (ws ws' : List ℕ)
-    (sound : IsSound c) (at : c.heap j ≡ Some ws) (real : j ≢ 0) (name : named c q k ≡ j) (apart : q ≢ j)
+    (sound : IsSoundCells c) (at : c.heap j ≡ Some ws) (real : j ≢ 0) (name : named c q k ≡ j) (apart : q ≢ j)
     (re : IsReworded c.heap heap1 j j' ws')
     (wr : WritesName (record c { heap = heap1 }) (record c { tops = tops2; heap = heap2 }) q k j') where
   -- the image with the block reworded, and with its name written
@@ -69,7 +69,7 @@ module _ (c : Cells) (heap1 : ℕ → Option (List ℕ)) (tops2 : ℕ → ℕ) (
   ]
     where
       used_with_kid : (o : Option (List ℕ)) → c.heap q ≡ o → q ≢ 0 → is_some (c.heap q) ≡ true
-      used_with_kid None e n = absurd (real (sym name ∙ named-kid c q k n ∙ ap (λ x. kid_in (words_of x) k) e ∙ no_kid_none k))
+      used_with_kid None e n = absurd (real (sym name ∙ named-kid c q k n ∙ ap (λ x. kid_in (words_in_block x) k) e ∙ no_kid_none k))
       used_with_kid (Some x) e n = ap is_some e
 
   -- the words of another block have stayed, but for the name
@@ -81,7 +81,7 @@ module _ (c : Cells) (heap1 : ℕ → Option (List ℕ)) (tops2 : ℕ → ℕ) (
   names_other p m u n = by (cases_eq p q) (cases_eq m k)
     where
       stays : named c1 p m ≡ named c p m
-      stays = ap (λ o. cond (p == 0) (c.tops m) (kid_in (words_of o) m)) (other_heap p u n)
+      stays = ap (λ o. cond (p == 0) (c.tops m) (kid_in (words_in_block o) m)) (other_heap p u n)
 
       -- no other name is that of the block
       other_name : (p ≡ q → m ≡ k → ⊥) → named c p m ≢ j
@@ -101,11 +101,11 @@ module _ (c : Cells) (heap1 : ℕ → Option (List ℕ)) (tops2 : ℕ → ℕ) (
 
   -- the rows of other blocks stay
   pub rows_other : (p bit : ℕ) → InUse p → p ≢ j → row_in (words_at c2 p) bit ≡ row_in (words_at c p) bit
-  rows_other p bit u n = wr.rows p bit ∙ ap (λ o. row_in (words_of o) bit) (other_heap p u n)
+  rows_other p bit u n = wr.rows p bit ∙ ap (λ o. row_in (words_in_block o) bit) (other_heap p u n)
 
   -- the block has its new words
   here_words : words_at c1 j' ≡ ws'
-  here_words = ap words_of re.here
+  here_words = ap words_in_block re.here
 
   pub names_here : (m : ℕ) → named c2 j' m ≡ kid_in ws' m
   names_here m =
@@ -116,7 +116,7 @@ module _ (c : Cells) (heap1 : ℕ → Option (List ℕ)) (tops2 : ℕ → ℕ) (
 
   -- the names in the block, before
   pub names_before : (m : ℕ) → named c j m ≡ kid_in ws m
-  names_before m = named-kid c j m real ∙ ap (λ o. kid_in (words_of o) m) at
+  names_before m = named-kid c j m real ∙ ap (λ o. kid_in (words_in_block o) m) at
 
   -- none of them is that of the block
   pub not_itself : (m : ℕ) → named c j m ≢ j
@@ -201,7 +201,7 @@ module _ (c : Cells) (heap1 : ℕ → Option (List ℕ)) (tops2 : ℕ → ℕ) (
   ]
     where
       with_kid : (o : Option (List ℕ)) → heap2 p ≡ o → p ≢ 0 → is_some (heap2 p) ≡ true
-      with_kid None e n = absurd (some (named-kid c2 p m n ∙ ap (λ x. kid_in (words_of x) m) e ∙ no_kid_none m))
+      with_kid None e n = absurd (some (named-kid c2 p m n ∙ ap (λ x. kid_in (words_in_block x) m) e ∙ no_kid_none m))
       with_kid (Some x) e n = ap is_some e
 
   -- short rows stay
@@ -291,7 +291,7 @@ module _ (c : Cells) (heap1 : ℕ → Option (List ℕ)) (tops2 : ℕ → ℕ) (
           by (inl e) (inl f) = absurd (same_row e f)
           by (inl e) (inr f) =
               rows_on p down (row_bit (five_bits p (c.first + down)) rest) e ∙ changes.others (row_bit (five_bits p (c.first + down)) rest) f
-              ∙ ap (λ o. row_in (words_of o) (row_bit (five_bits p (c.first + down)) rest)) (sym at) ∙ ap (λ x. row_in (words_at c x) (row_bit (five_bits p (c.first + down)) rest)) (sym e)
+              ∙ ap (λ o. row_in (words_in_block o) (row_bit (five_bits p (c.first + down)) rest)) (sym at) ∙ ap (λ x. row_in (words_at c x) (row_bit (five_bits p (c.first + down)) rest)) (sym e)
           by (inr n) f = rows_off p down (row_bit (five_bits p (c.first + down)) rest) n
 
       row_miss : (p m : ℕ) → m ≤ 32 → (m ≡ depth_of (c.first + steps) + (more + 1) → path_start p m ≡ path_start path m → ⊥) → word_at c2 p m ≡ word_at c p m
@@ -310,7 +310,7 @@ module _ (c : Cells) (heap1 : ℕ → Option (List ℕ)) (tops2 : ℕ → ℕ) (
       row_sets = record { hit = row_hit; miss = λ p m fits short out. row_miss p m short out }
 
       -- the image is sound
-      pub row_sound : IsBlock ws' → ((w : ℕ) → word ≡ Some w → IsRowWord (depth_of (c.first + steps) + (more + 1)) w) → IsSound c2
+      pub row_sound : IsBlock ws' → ((w : ℕ) → word ≡ Some w → IsRowWord (depth_of (c.first + steps) + (more + 1)) w) → IsSoundCells c2
       row_sound new own = record {
         four_sizes = sound.four_sizes;
         nowhere = zeros_stay;
@@ -358,7 +358,7 @@ module _ (c : Cells) (heap1 : ℕ → Option (List ℕ)) (tops2 : ℕ → ℕ) (
     kid_here = kid_names j five real (ap is_some at) ∙ ap (λ x. named c2 x five) (moved-here j refl) ∙ names_here five ∙ changes.here
 
     had_no_kid : kid_at c j five ≡ 0
-    had_no_kid = ap (λ o. kid_in (words_of o) five) at ∙ none
+    had_no_kid = ap (λ o. kid_in (words_in_block o) five) at ∙ none
 
     -- the kids of another block
     kids_other : (p m : ℕ) → InUse p → p ≢ j → kid_at c2 (moved p) m ≡ moved (kid_at c p m)
@@ -408,7 +408,7 @@ module _ (c : Cells) (heap1 : ℕ → Option (List ℕ)) (tops2 : ℕ → ℕ) (
     rows_follow x y b (inl s) = elim (cases_eq x j) [
       | inl e ↦
           ap (λ z. row_in (words_at c2 z) b) (s.1 ∙ moved-here x e) ∙ rows_here b ∙ changes.rows b
-          ∙ ap (λ o. row_in (words_of o) b) (sym at) ∙ ap (λ z. row_in (words_at c z) b) (sym e)
+          ∙ ap (λ o. row_in (words_in_block o) b) (sym at) ∙ ap (λ z. row_in (words_at c z) b) (sym e)
       | inr n ↦ ap (λ z. row_in (words_at c2 z) b) (s.1 ∙ moved-other x n) ∙ rows_other x b s.0 n
     ]
     rows_follow x y b (inr s) =
@@ -437,7 +437,7 @@ module _ (c : Cells) (heap1 : ℕ → Option (List ℕ)) (tops2 : ℕ → ℕ) (
         on (inr s) = absurd (real (sym there ∙ s.0))
 
     -- the image is sound
-    pub kid_sound : IsBlock ws' → IsSound c2
+    pub kid_sound : IsBlock ws' → IsSoundCells c2
     kid_sound new = record {
       four_sizes = sound.four_sizes;
       nowhere = zeros_stay;
@@ -559,7 +559,7 @@ module _ (c : Cells) (heap1 : ℕ → Option (List ℕ)) (tops2 : ℕ → ℕ) (
     rows_left x y b (inl s) = elim (cases_eq x j) [
       | inl e ↦
           ap (λ z. row_in (words_at c2 z) b) (s.2 ∙ moved-here x e) ∙ rows_here b ∙ changes.rows b
-          ∙ ap (λ o. row_in (words_of o) b) (sym at) ∙ ap (λ z. row_in (words_at c z) b) (sym e)
+          ∙ ap (λ o. row_in (words_in_block o) b) (sym at) ∙ ap (λ z. row_in (words_at c z) b) (sym e)
       | inr n ↦ ap (λ z. row_in (words_at c2 z) b) (s.2 ∙ moved-other x n) ∙ rows_other x b s.0 n
     ]
     rows_left x y b (inr s) =
@@ -609,7 +609,7 @@ module _ (c : Cells) (heap1 : ℕ → Option (List ℕ)) (tops2 : ℕ → ℕ) (
     lost_stays = wr.elsewhere child lost_holds_none ∙ other_heap child lost_used lost_other
 
     -- the image is sound
-    pub lost_sound : IsBlock ws' → IsSound c2
+    pub lost_sound : IsBlock ws' → IsSoundCells c2
     lost_sound new = record {
       four_sizes = sound.four_sizes;
       nowhere = zeros_stay;

@@ -4,7 +4,7 @@ use Rattle.std.proofs.lemmas.Bool.{cases_eq, cases_lt, false≢true}
 use Rattle.array_bitmap.specs.Bits.{depth_of, five_bits, path_start, row_bit, level_of, more_of}
 use Rattle.array_bitmap.specs.Words.{found}
 use Rattle.array_bitmap.specs.Blocks.{row_in, kid_in, IsBlock}
-use Rattle.array_bitmap.specs.Tree.{Cells, words_of, words_at, kid_at, block_at, short_word, long_word, word_at, named, IsSound}
+use Rattle.array_bitmap.specs.Tree.{Cells, words_in_block, words_at, kid_at, block_at, short_word, long_word, word_at, named, IsSoundCells}
 use Rattle.array_bitmap.specs.Changes.{WritesName}
 use Rattle.array_bitmap.proofs.Walks.{zeros, block-first, block-next, kid-nowhere, row-nowhere, no_kid_none, no_row_none, word-short, word-long}
 use Rattle.array_bitmap.proofs.OnePath.{named-kid, named_used}
@@ -31,7 +31,7 @@ module _ (c : Cells) (tops2 : ℕ → ℕ) (heap2 : ℕ → Option (List ℕ)) w
   ]
 
 -- ---- a block is taken
-module _ (c : Cells) (heap0 : ℕ → Option (List ℕ)) (place : ℕ) (ws : List ℕ) (sound : IsSound c)
+module _ (c : Cells) (heap0 : ℕ → Option (List ℕ)) (place : ℕ) (ws : List ℕ) (sound : IsSoundCells c)
     (fresh : c.heap place ≡ None) (here : heap0 place ≡ Some ws) (others : (p : ℕ) → p ≢ place → heap0 p ≡ c.heap p)
     (no_kids : (m : ℕ) → kid_in ws m ≡ 0) (no_rows : (b : ℕ) → row_in ws b ≡ None) where
   abbrev c0 : Cells
@@ -44,14 +44,14 @@ module _ (c : Cells) (heap0 : ℕ → Option (List ℕ)) (place : ℕ) (ws : Lis
   -- kids and rows stay
   kids_same : (p m : ℕ) → kid_at c0 p m ≡ kid_at c p m
   kids_same p m = elim (cases_eq p place) [
-    | inl e ↦ ap (λ x. kid_at c0 x m) e ∙ ap (λ o. kid_in (words_of o) m) here ∙ no_kids m ∙ sym (ap (λ x. kid_at c x m) e ∙ ap (λ o. kid_in (words_of o) m) fresh ∙ no_kid_none m)
-    | inr n ↦ ap (λ o. kid_in (words_of o) m) (others p n)
+    | inl e ↦ ap (λ x. kid_at c0 x m) e ∙ ap (λ o. kid_in (words_in_block o) m) here ∙ no_kids m ∙ sym (ap (λ x. kid_at c x m) e ∙ ap (λ o. kid_in (words_in_block o) m) fresh ∙ no_kid_none m)
+    | inr n ↦ ap (λ o. kid_in (words_in_block o) m) (others p n)
   ]
 
   rows_same : (p b : ℕ) → row_in (words_at c0 p) b ≡ row_in (words_at c p) b
   rows_same p b = elim (cases_eq p place) [
-    | inl e ↦ ap (λ x. row_in (words_at c0 x) b) e ∙ ap (λ o. row_in (words_of o) b) here ∙ no_rows b ∙ sym (ap (λ x. row_in (words_at c x) b) e ∙ ap (λ o. row_in (words_of o) b) fresh ∙ no_row_none b)
-    | inr n ↦ ap (λ o. row_in (words_of o) b) (others p n)
+    | inl e ↦ ap (λ x. row_in (words_at c0 x) b) e ∙ ap (λ o. row_in (words_in_block o) b) here ∙ no_rows b ∙ sym (ap (λ x. row_in (words_at c x) b) e ∙ ap (λ o. row_in (words_in_block o) b) fresh ∙ no_row_none b)
+    | inr n ↦ ap (λ o. row_in (words_in_block o) b) (others p n)
   ]
 
   pub taken_names : (p m : ℕ) → named c0 p m ≡ named c p m
@@ -73,7 +73,7 @@ module _ (c : Cells) (heap0 : ℕ → Option (List ℕ)) (place : ℕ) (ws : Lis
   taken_unnamed p m e = false≢true (sym (ap is_some fresh) ∙ ap (λ x. is_some (c.heap x)) (sym (sym (taken_names p m) ∙ e)) ∙ named_used c sound p m)
 
   -- the image is sound
-  pub taken_sound : IsBlock ws → IsSound c0
+  pub taken_sound : IsBlock ws → IsSoundCells c0
   taken_sound new = record {
     four_sizes = sound.four_sizes;
     nowhere = others 0 (λ e. taken_some (sym e)) ∙ sound.nowhere;
@@ -97,7 +97,7 @@ module _ (c : Cells) (heap0 : ℕ → Option (List ℕ)) (place : ℕ) (ws : Lis
           ∙ ap is_some (others (named c p m) (λ e. taken_unnamed p m (taken_names p m ∙ e))) ∙ u
 
 -- ---- the first block of a path gets its name in the array
-module _ (c : Cells) (tops2 : ℕ → ℕ) (heap2 : ℕ → Option (List ℕ)) (k child : ℕ) (sound : IsSound c) (none : c.tops k ≡ 0)
+module _ (c : Cells) (tops2 : ℕ → ℕ) (heap2 : ℕ → Option (List ℕ)) (k child : ℕ) (sound : IsSoundCells c) (none : c.tops k ≡ 0)
     (wr : WritesName c (record c { tops = tops2; heap = heap2 }) 0 k child)
     (used : is_some (c.heap child) ≡ true) (some : child ≢ 0) (unnamed : (p m : ℕ) → named c p m ≢ child)
     (no_kids : (m : ℕ) → kid_at c child m ≡ 0) (no_rows : (b : ℕ) → row_in (words_at c child) b ≡ None) where
@@ -152,7 +152,7 @@ module _ (c : Cells) (tops2 : ℕ → ℕ) (heap2 : ℕ → Option (List ℕ)) (
   first_place path e = block-first n2 path ∙ ap tops2 e ∙ wr.here
 
   -- the image is sound
-  pub first_sound : IsSound n2
+  pub first_sound : IsSoundCells n2
   first_sound = record {
     four_sizes = sound.four_sizes;
     nowhere = zeros_there;

@@ -2,7 +2,7 @@
 use Rattle.std.proofs.Common.{ℕ, zero, suc, ◌≡◌, ◌≢◌, inl, inr, ◌+◌, ◌≤◌, true, is_some, arith, refl, sym, ap, subst, ◌∙◌}
 use Rattle.std.proofs.lemmas.Bool.{cond-false, ne_eqb, cases_eq}
 use Rattle.array_bitmap.specs.Bits.{depth_of, five_bits, path_start}
-use Rattle.array_bitmap.specs.Tree.{Cells, kid_at, block_at, named, IsSound}
+use Rattle.array_bitmap.specs.Tree.{Cells, kid_at, block_at, named, IsSoundCells}
 use Rattle.array_bitmap.proofs.PathBits.{after_level}
 use Rattle.array_bitmap.proofs.Walks.{block-first, block-next, kid_of_some}
 
@@ -19,7 +19,7 @@ abbrev pub index_in : Cells → ℕ → ℕ → ℕ
 index_in c path zero = path_start path (depth_of c.first)
 index_in c path (suc steps) = five_bits path (c.first + steps)
 
-module _ (c : Cells) (sound : IsSound c) where
+module _ (c : Cells) (sound : IsSoundCells c) where
   -- a block is at its name
   pub name_of : (path steps : ℕ) → block_at c path steps ≢ 0 → named c (holder c path steps) (index_in c path steps) ≡ block_at c path steps
   name_of path zero h = sym (block-first c path)

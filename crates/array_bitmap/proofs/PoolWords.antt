@@ -1,22 +1,21 @@
 -- What the calls of a pool leave of the words of its blocks.
-use Rattle.std.proofs.Common.{ℕ, ◌≡◌, ◌≢◌, inl, inr, ⊎_elim, ◌+◌, ◌-◌, ◌*◌, ◌/◌, ◌^◌, ◌<◌, ◌≤◌, List, length, slice_index, Option, Some, None, Bool, true, cond, nat_lt, nat_le, ◌==◌, ◌&&◌, is_some, count_ones, arith, refl, sym, ap, subst, ◌∙◌}
-use Rattle.std.proofs.lemmas.List.{get_or-set_same, get_or-set_other, length-set, get_or-take, length-take}
+use Rattle.std.proofs.Common.{ℕ, ◌≡◌, ◌≢◌, inl, inr, ◌+◌, ◌-◌, ◌*◌, ◌/◌, ◌^◌, ◌<◌, ◌≤◌, List, length, slice_index, Option, Some, None, Bool, true, cond, nat_lt, nat_le, ◌==◌, ◌&&◌, is_some, count_ones, arith, refl, sym, ap, subst, ◌∙◌}
 use Rattle.std.specs.Int.{bit_at}
-use Rattle.std.proofs.lemmas.Bool.{cases_eq, cases_lt, cond-true, cond-false, lt-ltb, le-ltb, leb-true, eqb-true, and_parts, agree_below_at, false≢true}
+use Rattle.std.proofs.lemmas.Bool.{cases_lt, cond-true, cond-false, lt-ltb, le-ltb, leb-true, eqb-true, and_parts, agree_below_at, false≢true}
 use Rattle.std.proofs.lemmas.Nat.{ones-le}
-use Rattle.std.proofs.lemmas.Nat.Bits.{bit_at-lt}
-use Rattle.word_pool.specs.Heap.{Heap, size_of, word_of, with_word, is_size, first_of, IsWritten, IsTaken, IsGiven, IsShortened, SameOthers}
-use Rattle.array_bitmap.specs.Blocks.{rows_of, kids_of, size_for, used_words, IsBlock}
-use Rattle.array_bitmap.specs.Tree.{words_of}
+use Rattle.word_pool.specs.Heap.{Heap, size_of, word_of, is_size, IsWordWritten, IsAllocated, IsFreed, IsShortened, SameOthers}
+use Rattle.word_pool.proofs.Reading.{word-with_word_same, word-with_word_other, size-with_word, word-shortened, size-shortened}
+use Rattle.array_bitmap.specs.Blocks.{row_map, kid_map, size_for, used_words, IsBlock}
+use Rattle.array_bitmap.specs.Tree.{words_in_block}
 use Rattle.array_bitmap.specs.Changes.{Copies, GetsRoom, ShiftsIn, PutsWord, ShiftsOut, TakesWord, IsReworded, IsInserted, Narrows}
-use Rattle.array_bitmap.proofs.Ranks.{ones-add, add_lt}
+use Rattle.bitmaps.proofs.Ranks.{ones-add, add_lt}
 
 -- a word and the size of a block, by the list of its words
-pub word_listed : (o : Option (List ℕ)) (i : ℕ) → word_of o i ≡ slice_index (words_of o) i
+pub word_listed : (o : Option (List ℕ)) (i : ℕ) → word_of o i ≡ slice_index (words_in_block o) i
 word_listed None i = refl
 word_listed (Some ws) i = refl
 
-pub size_listed : (o : Option (List ℕ)) → size_of o ≡ length (words_of o)
+pub size_listed : (o : Option (List ℕ)) → size_of o ≡ length (words_in_block o)
 size_listed None = refl
 size_listed (Some ws) = refl
 
@@ -25,32 +24,20 @@ pub there : (o : Option (List ℕ)) → 0 < size_of o → is_some o ≡ true
 there None h = absurd (omega arith)
 there (Some ws) h = refl
 
-pub is_words : (o : Option (List ℕ)) → is_some o ≡ true → o ≡ Some (words_of o)
+pub is_words : (o : Option (List ℕ)) → is_some o ≡ true → o ≡ Some (words_in_block o)
 is_words None h = absurd (false≢true h)
 is_words (Some ws) h = refl
 
 -- ---- a word is written
-word_here : (o : Option (List ℕ)) (i w : ℕ) → i < size_of o → word_of (with_word o i w) i ≡ w
-word_here None i w h = absurd (omega arith)
-word_here (Some ws) i w h = get_or-set_same ws i w 0 h
-
-word_other : (o : Option (List ℕ)) (i w k : ℕ) → k ≢ i → word_of (with_word o i w) k ≡ word_of o k
-word_other None i w k n = refl
-word_other (Some ws) i w k n = get_or-set_other ws i k w 0 n
-
-size_same : (o : Option (List ℕ)) (i w : ℕ) → size_of (with_word o i w) ≡ size_of o
-size_same None i w = refl
-size_same (Some ws) i w = length-set ws i w
-
-module _ (old new : Heap) (b i w : ℕ) (wr : IsWritten old new b i w) where
+module _ (old new : Heap) (b i w : ℕ) (wr : IsWordWritten old new b i w) where
   pub written_here : i < size_of (old b) → word_of (new b) i ≡ w
-  written_here h = ap (λ o. word_of o i) wr.here ∙ word_here (old b) i w h
+  written_here h = ap (λ o. word_of o i) wr.here ∙ word-with_word_same (old b) i w h
 
   pub written_other : (k : ℕ) → k ≢ i → word_of (new b) k ≡ word_of (old b) k
-  written_other k n = ap (λ o. word_of o k) wr.here ∙ word_other (old b) i w k n
+  written_other k n = ap (λ o. word_of o k) wr.here ∙ word-with_word_other (old b) i w k n
 
   pub written_size : size_of (new b) ≡ size_of (old b)
-  written_size = ap size_of wr.here ∙ size_same (old b) i w
+  written_size = ap size_of wr.here ∙ size-with_word (old b) i w
 
 -- ---- sizes, computed for each number of words
 
@@ -92,43 +79,37 @@ pub twice_some : (n : ℕ) → n ≤ 96 → size_for n ≤ n → is_size (2 * si
 twice_some n h l = (and_parts _ _ (twice n h l)).1
 
 -- ---- a block's words
-module _ (heap : Heap) (b : ℕ) (block : IsBlock (words_of (heap b))) where
+module _ (heap : Heap) (b : ℕ) (block : IsBlock (words_in_block (heap b))) where
   -- they are few
-  pub few_words : used_words (words_of (heap b)) ≤ 97
-  few_words = omega (arith, ones-le 62 (rows_of (words_of (heap b))) block.few_rows, ones-le 32 (kids_of (words_of (heap b))) block.few_kids)
+  pub few_words : used_words (words_in_block (heap b)) ≤ 97
+  few_words = omega (arith, ones-le 62 (row_map (words_in_block (heap b))) block.few_rows, ones-le 32 (kid_map (words_in_block (heap b))) block.few_kids)
 
-  pub block_size : size_of (heap b) ≡ size_for (used_words (words_of (heap b)))
+  pub block_size : size_of (heap b) ≡ size_for (used_words (words_in_block (heap b)))
   block_size = size_listed (heap b) ∙ block.size
 
   -- and all are there
-  pub block_holds : used_words (words_of (heap b)) ≤ size_of (heap b)
-  block_holds = omega (arith, few_words, block_size, size_holds (used_words (words_of (heap b))))
+  pub block_holds : used_words (words_in_block (heap b)) ≤ size_of (heap b)
+  block_holds = omega (arith, few_words, block_size, size_holds (used_words (words_in_block (heap b))))
 
   pub block_head : 3 < size_of (heap b)
-  block_head = omega (arith, few_words, block_size, size_least (used_words (words_of (heap b))))
+  block_head = omega (arith, few_words, block_size, size_least (used_words (words_in_block (heap b))))
 
   -- where a bit is clear, there are fewer
-  pub few_rows : (bit : ℕ) → bit < 62 → bit_at (rows_of (words_of (heap b))) bit ≡ 0 → count_ones (rows_of (words_of (heap b))) ≤ 61
+  pub few_rows : (bit : ℕ) → bit < 62 → bit_at (row_map (words_in_block (heap b))) bit ≡ 0 → count_ones (row_map (words_in_block (heap b))) ≤ 61
   few_rows bit small clear =
-      let n = rows_of (words_of (heap b)) in
+      let n = row_map (words_in_block (heap b)) in
       omega (arith, ones-add n bit clear, ones-le 62 (n + 2 ^ bit) (add_lt n bit 62 block.few_rows small clear))
 
-  pub few_kids : (five : ℕ) → five < 32 → bit_at (kids_of (words_of (heap b))) five ≡ 0 → count_ones (kids_of (words_of (heap b))) ≤ 31
+  pub few_kids : (five : ℕ) → five < 32 → bit_at (kid_map (words_in_block (heap b))) five ≡ 0 → count_ones (kid_map (words_in_block (heap b))) ≤ 31
   few_kids five small clear =
-      let n = kids_of (words_of (heap b)) in
+      let n = kid_map (words_in_block (heap b)) in
       omega (arith, ones-add n five clear, ones-le 32 (n + 2 ^ five) (add_lt n five 32 block.few_kids small clear))
 
-  pub all_rows : count_ones (rows_of (words_of (heap b))) ≤ 62
-  all_rows = ones-le 62 (rows_of (words_of (heap b))) block.few_rows
+  pub all_rows : count_ones (row_map (words_in_block (heap b))) ≤ 62
+  all_rows = ones-le 62 (row_map (words_in_block (heap b))) block.few_rows
 
-  pub all_kids : count_ones (kids_of (words_of (heap b))) ≤ 32
-  all_kids = ones-le 32 (kids_of (words_of (heap b))) block.few_kids
-
--- a bit that is not set is 0
-pub clear_bit : (n k : ℕ) → (bit_at n k ≡ 1 → ⊥) → bit_at n k ≡ 0
-clear_bit n k h =
-    let l : bit_at n k < 2 = bit_at-lt n k in
-    ⊎_elim (λ e. absurd (h e)) (λ e. omega arith) (cases_eq (bit_at n k) 1)
+  pub all_kids : count_ones (kid_map (words_in_block (heap b))) ≤ 32
+  all_kids = ones-le 32 (kid_map (words_in_block (heap b))) block.few_kids
 
 -- ---- a block gets room
 pub room_there : (old : Heap) (block used : ℕ) → block ≢ 0 → used ≤ 96 → size_of (old block) ≡ size_for used → used < size_for used → GetsRoom old old block block used
@@ -142,7 +123,7 @@ room_there old block used some few size l = record {
 }
 
 pub room_made : (old taken copied new : Heap) (block place used size : ℕ) → used ≤ 96 → size ≡ size_for used → size ≤ used → is_some (old block) ≡ true
-    → IsTaken old taken place (2 * size) → Copies taken copied block place used → IsGiven copied new block → GetsRoom old new block place used
+    → IsAllocated old taken place (2 * size) → Copies taken copied block place used → IsFreed copied new block → GetsRoom old new block place used
 room_made old taken copied new block place used size few s l there t p v = record {
   somewhere = t.not_zero;
   fresh = λ n. t.fresh;
@@ -175,13 +156,13 @@ pub record WritesHead (old new : Heap) (place : ℕ) : Type 0 where
   pub words : (i : ℕ) → 3 ≤ i → word_of (new place) i ≡ word_of (old place) i
 
 module _ (old mid new : Heap) (block place used at word : ℕ) (put : PutsWord old mid block place used at word) (head : WritesHead mid new place)
-    (few : used + 1 ≤ 128) (u : used ≡ used_words (words_of (old block))) where
+    (few : used + 1 ≤ 128) (u : used ≡ used_words (words_in_block (old block))) where
   -- the block is there
   is_there : is_some (new place) ≡ true
   is_there = there (new place) (omega (arith, head.size, put.size, size_least (used + 1) few))
 
   -- it has its new words
-  pub put_reworded : IsReworded old new block place (words_of (new place))
+  pub put_reworded : IsReworded old new block place (words_in_block (new place))
   put_reworded = record {
     here = is_words (new place) is_there;
     somewhere = put.somewhere;
@@ -191,7 +172,7 @@ module _ (old mid new : Heap) (block place used at word : ℕ) (put : PutsWord o
   }
 
   -- one of them is put in
-  pub put_inserted : 3 ≤ at → IsInserted (words_of (old block)) (words_of (new place)) at word
+  pub put_inserted : 3 ≤ at → IsInserted (words_in_block (old block)) (words_in_block (new place)) at word
   put_inserted behind = record {
     low = λ i h l. as_word i h ∙ put.low i l ∙ word_listed (old block) i;
     here = as_word at behind ∙ put.here;
@@ -199,19 +180,10 @@ module _ (old mid new : Heap) (block place used at word : ℕ) (put : PutsWord o
     size = sym (size_listed (new place)) ∙ head.size ∙ put.size ∙ ap (λ n. size_for (n + 1)) u;
   }
     where
-      as_word : (i : ℕ) → 3 ≤ i → slice_index (words_of (new place)) i ≡ word_of (mid place) i
+      as_word : (i : ℕ) → 3 ≤ i → slice_index (words_in_block (new place)) i ≡ word_of (mid place) i
       as_word i h = sym (word_listed (new place) i) ∙ head.words i h
 
 -- ---- a block loses a word
-
--- the words that a half keeps
-pub first_word : (o : Option (List ℕ)) (n i : ℕ) → i < n → word_of (first_of o n) i ≡ word_of o i
-first_word None n i l = refl
-first_word (Some ws) n i l = get_or-take n ws i 0 l
-
-pub first_size : (o : Option (List ℕ)) (n : ℕ) → n ≤ size_of o → size_of (first_of o n) ≡ n
-first_size None n l = omega arith
-first_size (Some ws) n l = length-take n ws ∙ omega (arith, l)
 
 -- one word fewer has the same size, or half of it
 pub size_before : (n : ℕ) → 4 ≤ n → n ≤ 97 → size_for n ≤ size_for (n - 1) → size_for (n - 1) ≡ size_for n
@@ -243,13 +215,13 @@ narrow_halved old new block half used some size fits h =
       fresh = λ n. absurd (n refl);
       gone = λ n. absurd (n refl);
       others = λ p n m. h.others p n;
-      size = ap size_of h.here ∙ first_size (old block) (2 * half / 2) (omega (arith, size)) ∙ e;
-      words = λ i l. ap (λ o. word_of o i) h.here ∙ first_word (old block) (2 * half / 2) i (omega (arith, l, fits));
+      size = ap size_of h.here ∙ size-shortened (old block) (2 * half / 2) (omega (arith, size)) ∙ e;
+      words = λ i l. ap (λ o. word_of o i) h.here ∙ word-shortened (old block) (2 * half / 2) i (omega (arith, l, fits));
     }
 
 -- or goes into another one
 pub narrow_moved : (old taken copied new : Heap) (block place half used : ℕ) → is_some (old block) ≡ true
-    → IsTaken old taken place half → Copies taken copied block place used → IsGiven copied new block → Narrows old new block place half used
+    → IsAllocated old taken place half → Copies taken copied block place used → IsFreed copied new block → Narrows old new block place half used
 narrow_moved old taken copied new block place half used there t p v = record {
   somewhere = t.not_zero;
   fresh = λ n. t.fresh;

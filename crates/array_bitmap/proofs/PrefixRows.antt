@@ -1,25 +1,20 @@
 -- Rows of an image by prefixes.
-use Rattle.std.specs.FinMap.{put, find as row_of}
+use Rattle.std.specs.FinMap.{find as row_of}
 use Rattle.std.specs.FinMap.Entries.{is_sorted-where_key, find-where_key}
-use Rattle.std.proofs.Common.{List, [], ◌∷◌, ◌++◌, length, take, get_or, ℕ, ◌≡◌, ◌≢◌, inl, inr, ◌+◌, ◌-◌, ◌*◌, ◌/◌, ◌^◌, ◌<◌, ◌≤◌, Bool, true, false, cond, not, Option, Some, None, IfSome, is_some, option_map, arith, refl, sym, ap, subst, ◌∙◌, Result, Err, IsOk, shr-shr}
-use Rattle.std.specs.Result.{is_ok}
-use Rattle.std.proofs.lemmas.List.{take_more}
-use Rattle.std.proofs.Math.Seq.{take-length}
-use Rattle.std.proofs.lemmas.Bool.{eq-eqb, eqb-true, false≢true, cases_lt}
+use Rattle.std.proofs.Common.{ℕ, ◌≡◌, ◌≢◌, inl, inr, ◌+◌, ◌-◌, ◌*◌, ◌/◌, ◌^◌, ◌<◌, ◌≤◌, Bool, true, false, cond, not, Option, Some, None, is_some, option_map, arith, refl, sym, ap, subst, ◌∙◌, shr-shr}
+use Rattle.std.proofs.lemmas.Bool.{eq-eqb, eqb-true, cases_lt}
 use Rattle.ipv4_prefix.specs.Prefix.{Prefix, IsPrefix, covers, prefix_cmp, prefix_eq}
-use Rattle.ipv4_prefix.specs.LongestMatch.{IsLongestIn, IsLongestMatch, longest_match}
+use Rattle.ipv4_prefix.specs.LongestMatch.{IsLongestIn}
 use Rattle.ipv4_prefix.specs.Tables.{table_rows}
 use Rattle.ipv4_prefix.proofs.PrefixOrder.{prefix_eq-Decides, prefix_cmp-tied}
 use Rattle.ipv4_prefix.proofs.TableRows.{table_rows-sorted, table_rows_unique, row_of-table, row_of-unwritable}
 use Rattle.array_bitmap.specs.Removal.{without_row}
-use Rattle.ipv4_prefix.proofs.LongestMatches.{covering_same, longest_match-found}
+use Rattle.ipv4_prefix.proofs.LongestMatches.{covering_same}
 use Rattle.network_model.specs.declared.route.Entry.{Entry}
-use Rattle.network_model.specs.Publication.{with_rows}
-use Rattle.network_model.proofs.RowLaws.{with_rows-push}
 use Rattle.array_bitmap.specs.Bits.{depth_of, five_bits, path_start, row_bit, level_of, more_of}
-use Rattle.array_bitmap.specs.Words.{nothing, entry_of, len_of, found}
+use Rattle.array_bitmap.specs.Words.{nothing, word_entry, len_of, found}
 use Rattle.array_bitmap.specs.Blocks.{row_in}
-use Rattle.array_bitmap.specs.Greatest.{GreatestBelow}
+use Rattle.bitmaps.specs.Greatest.{GreatestBelow}
 use Rattle.array_bitmap.specs.Tree.{Cells, words_at, block_at, word_at, row_at, entry_in, SetsWord}
 use Rattle.array_bitmap.proofs.PathBits.{parts_from_first}
 use Rattle.array_bitmap.proofs.Walks.{word-short, word_in, block-same}
@@ -61,29 +56,29 @@ module _ (c : Cells) where
   pub entry_on_path : (p : Prefix) (addr : ℕ) → IsPrefix p → covers p addr ≡ true → entry_in c p ≡ row_at c (addr * 4) p.len
   entry_on_path p addr valid covered =
       let short = valid.short in
-      ap (option_map entry_of) (word_covers (p.addr * 4) (addr * 4) p.len (omega (arith, short)) (covering_bits p addr short covered))
+      ap (option_map word_entry) (word_covers (p.addr * 4) (addr * 4) p.len (omega (arith, short)) (covering_bits p addr short covered))
 
   -- the longest row of the path is the longest match
   pub longest_on_path : (addr word : ℕ) (p : Prefix) → word ≢ nothing → IsPrefix p → p.len ≡ len_of word → covers p addr ≡ true → GreatestBelow (word_at c (addr * 4)) 33 (found word)
-      → IsLongestIn (entry_in c) addr (Some (p, entry_of word))
+      → IsLongestIn (entry_in c) addr (Some (p, word_entry word))
   longest_on_path addr word p some valid at covered best =
       let g = subst (GreatestBelow (word_at c (addr * 4)) 33) (some_found word some) best in (
         valid,
         covered,
-        entry_on_path p addr valid covered ∙ ap (row_at c (addr * 4)) at ∙ ap (option_map entry_of) g.1,
+        entry_on_path p addr valid covered ∙ ap (row_at c (addr * 4)) at ∙ ap (option_map word_entry) g.1,
         λ q valid_q covered_q longer. let short = valid_q.short in
-            entry_on_path q addr valid_q covered_q ∙ ap (option_map entry_of) (g.2 q.len (omega (arith, at, longer)) (omega (arith, short))),
+            entry_on_path q addr valid_q covered_q ∙ ap (option_map word_entry) (g.2 q.len (omega (arith, at, longer)) (omega (arith, short))),
       )
 
   -- where the path has no row, there is no match
   pub none_on_path : (addr word : ℕ) → word ≡ nothing → GreatestBelow (word_at c (addr * 4)) 33 (found word) → IsLongestIn (entry_in c) addr None
   none_on_path addr word e best =
       let g = subst (GreatestBelow (word_at c (addr * 4)) 33) (nothing_found word e) best in
-      λ p valid covered. let short = valid.short in entry_on_path p addr valid covered ∙ ap (option_map entry_of) (g p.len (omega (arith, short)))
+      λ p valid covered. let short = valid.short in entry_on_path p addr valid covered ∙ ap (option_map word_entry) (g p.len (omega (arith, short)))
 
 -- where the word of a prefix's path was set, or taken out, the prefix has its entry, or none, and every other prefix the one it had
 pub sets_entry : (old new : ℕ → ℕ → Option ℕ) (q : Prefix) (word : Option ℕ) (path len : ℕ) → IsPrefix q → path ≡ q.addr * 4 → len ≡ q.len → SetsWord old new path len word
-    → (p : Prefix) → IsPrefix p → option_map entry_of (new (p.addr * 4) p.len) ≡ cond (prefix_eq p q) (option_map entry_of word) (option_map entry_of (old (p.addr * 4) p.len))
+    → (p : Prefix) → IsPrefix p → option_map word_entry (new (p.addr * 4) p.len) ≡ cond (prefix_eq p q) (option_map word_entry word) (option_map word_entry (old (p.addr * 4) p.len))
 sets_entry old new q word path len valid_q is_path is_len given p valid = by_test (prefix_eq p q) refl
   where
     sets : SetsWord old new (q.addr * 4) q.len word
@@ -94,36 +89,15 @@ sets_entry old new q word path len valid_q is_path is_len given p valid = by_tes
         let short = valid.short in
         covering_same q.addr p q valid valid_q (eq-eqb _ _ (sym (path_bits p.addr p.len short) ∙ bits ∙ path_bits q.addr p.len short)) (eq-eqb _ _ refl) len
 
-    by_test : (b : Bool) → prefix_eq p q ≡ b → option_map entry_of (new (p.addr * 4) p.len) ≡ cond b (option_map entry_of word) (option_map entry_of (old (p.addr * 4) p.len))
+    by_test : (b : Bool) → prefix_eq p q ≡ b → option_map word_entry (new (p.addr * 4) p.len) ≡ cond b (option_map word_entry word) (option_map word_entry (old (p.addr * 4) p.len))
     by_test true same =
         let e : p ≡ q = (prefix_eq-Decides p q).0 same in
-        ap (λ x. option_map entry_of (new (x.addr * 4) x.len)) e ∙ ap (option_map entry_of) (sets.hit (q.addr * 4) refl)
+        ap (λ x. option_map word_entry (new (x.addr * 4) x.len)) e ∙ ap (option_map word_entry) (sets.hit (q.addr * 4) refl)
     by_test false apart =
         let short = valid.short in
         let fits = valid.fits in
-        ap (option_map entry_of) (sets.miss (p.addr * 4) p.len (omega (arith, fits)) short
+        ap (option_map word_entry) (sets.miss (p.addr * 4) p.len (omega (arith, fits)) short
         (λ len bits. absurd (cc (apart, (prefix_eq-Decides p q).1 (same_bits len bits)))))
-
--- ---- rows set in order
-
--- with one row more, that row is put
-pub with_one_more : (rows : List (Prefix × Entry)) (i : ℕ) (r : Prefix × Entry) (table : List (Prefix × Entry)) → i < length rows → r ≡ get_or rows i r
-    → with_rows (take (i + 1) rows) table ≡ put prefix_cmp r.0 r.1 (with_rows (take i rows) table)
-with_one_more rows i r table within is =
-    ap (λ xs. with_rows xs table) (take_more rows i r within ∙ ap (λ x. take i rows ++ x ∷ []) (sym is)) ∙ with_rows-push (take i rows) r table
-
--- with all, the rows are set
-pub with_all : (rows table : List (Prefix × Entry)) → with_rows (take (length rows) rows) table ≡ with_rows rows table
-with_all rows table = ap (λ xs. with_rows xs table) (take-length rows)
-
--- a refusal is no success
-pub not_ok : {T E : Type 0} {r : Result T E} {e : E} → r ≡ Err e → IsOk r → ⊥
-not_ok {T} {E} is ok = false≢true (subst (λ (x : Result T E). is_ok x ≡ true) is ok)
-
--- what is found by the longest match is one
-pub longest_where_some : (addr : ℕ) (rows : List (Prefix × Entry)) (found : Option (Prefix × Entry)) → found ≡ longest_match addr rows → IfSome found (IsLongestMatch addr rows)
-longest_where_some addr rows None e = tt
-longest_where_some addr rows (Some f) e = longest_match-found addr rows f (sym e)
 
 -- ---- a row taken out
 
@@ -148,6 +122,6 @@ table_rows-without entry p after taken =
         ∙ turned (prefix_eq q p) (row_of prefix_cmp q (table_rows entry))
 
 -- a word shows whether there is an entry
-pub is_some-map : (o : Option ℕ) → is_some (option_map entry_of o) ≡ is_some o
+pub is_some-map : (o : Option ℕ) → is_some (option_map word_entry o) ≡ is_some o
 is_some-map None = refl
 is_some-map (Some w) = refl

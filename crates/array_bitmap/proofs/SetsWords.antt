@@ -3,7 +3,7 @@ use Rattle.std.proofs.Common.{ℕ, ◌≡◌, ◌⊎◌, inl, inr, ◌^◌, ◌<
 use Rattle.std.proofs.lemmas.Bool.{cases_eq}
 use Rattle.array_bitmap.specs.Bits.{path_start}
 use Rattle.array_bitmap.specs.Words.{IsRowWord}
-use Rattle.array_bitmap.specs.Greatest.{GreatestBelow}
+use Rattle.bitmaps.specs.Greatest.{GreatestBelow}
 use Rattle.array_bitmap.specs.Tree.{SetsWord}
 
 -- words of rows stay such words

@@ -5,11 +5,12 @@ use Rattle.std.proofs.lemmas.Nat.{shr-shr, shr_below, pow-add}
 use Rattle.std.proofs.Math.Nat.{pow-le-pow_right}
 use Rattle.array_bitmap.specs.Bits.{depth_of, five_bits, path_start, row_bit, level_of, more_of}
 use Rattle.array_bitmap.specs.Words.{nothing, kind_of, len_of, shown, found, IsRowWord}
-use Rattle.array_bitmap.specs.Greatest.{GreatestBelow}
+use Rattle.bitmaps.specs.Greatest.{GreatestBelow}
 use Rattle.array_bitmap.specs.Blocks.{row_in}
-use Rattle.array_bitmap.specs.Tree.{Cells, words_at, kid_at, block_at, short_word, long_word, word_at, IsSound, SetsWord}
+use Rattle.array_bitmap.specs.Tree.{Cells, words_at, kid_at, block_at, short_word, long_word, word_at, IsSoundCells, SetsWord}
 use Rattle.array_bitmap.proofs.PathBits.{start_above}
-use Rattle.array_bitmap.proofs.Walks.{block-first, block-next, word-short, word-long, none≢some}
+use Rattle.bitmaps.proofs.Options.{none≢some}
+use Rattle.array_bitmap.proofs.Walks.{block-first, block-next, word-short, word-long}
 use Rattle.array_bitmap.proofs.SetsWords.{row_words_stay, GreatestBelow-same}
 use Rattle.array_bitmap.proofs.LongestRow.{found-row}
 
@@ -93,7 +94,7 @@ module _ (c : Cells) (shorts2 bests2 : ℕ → ℕ) where
       ∙ ap (λ p. row_in (words_at c p) (row_bit (five_bits path (level_of len)) (more_of len))) (arrays_walks path (level_of len - c.first))
       ∙ sym (word-long c path len h)
 
-  module _ (sound : IsSound c) (path len w : ℕ) (fits : path < 2 ^ 34) (short : len ≤ depth_of c.first)
+  module _ (sound : IsSoundCells c) (path len w : ℕ) (fits : path < 2 ^ 34) (short : len ≤ depth_of c.first)
       (here : shorts2 (2 ^ len + path_start path len) ≡ w) (others : (k : ℕ) → k ≢ 2 ^ len + path_start path len → shorts2 k ≡ c.shorts k) where
     shallow : depth_of c.first ≤ 19
     shallow = let f = sound.four_sizes in omega (arith, f)
@@ -132,7 +133,7 @@ module _ (c : Cells) (shorts2 bests2 : ℕ → ℕ) where
 
     -- the image is sound where the words of the array are the longest
     arrays_sound : ((v : ℕ) → shown w ≡ Some v → IsRowWord len v)
-        → ((q : ℕ) → q < 2 ^ 34 → GreatestBelow (word_at s2 q) (depth_of c.first + 1) (found (bests2 (path_start q (depth_of c.first))))) → IsSound s2
+        → ((q : ℕ) → q < 2 ^ 34 → GreatestBelow (word_at s2 q) (depth_of c.first + 1) (found (bests2 (path_start q (depth_of c.first))))) → IsSoundCells s2
     arrays_sound own longest = record {
       four_sizes = sound.four_sizes;
       nowhere = sound.nowhere;
@@ -180,7 +181,7 @@ module _ (c : Cells) (shorts2 bests2 : ℕ → ℕ) where
           by (inl l) = subst (λ b. GreatestBelow (word_at s2 q) (depth_of c.first + 1) (found b)) (sym (covered _ is_covered ∙ cond-false _ _ _ (lt-leb _ len l))) (longer_stays l)
           by (inr l) = subst (λ b. GreatestBelow (word_at s2 q) (depth_of c.first + 1) (found b)) (sym (covered _ is_covered ∙ cond-true _ _ _ (le-leb _ len l))) (is_new l)
 
-      pub short_set_sound : IsSound s2
+      pub short_set_sound : IsSoundCells s2
       short_set_sound = arrays_sound (λ v e. subst (IsRowWord len) (same_value (shown w) w v (row_shown len w own) e) own) (λ q small. elim (cases_eq (path_start q len) (path_start path len)) [
         | inl same ↦ near q small same
         | inr out ↦ far q small out (uncovered _ (λ e. out (sym (start_of_start q len (depth_of c.first) short (omega (arith, shallow))) ∙ e)))
@@ -256,7 +257,7 @@ module _ (c : Cells) (shorts2 bests2 : ℕ → ℕ) where
           by (inl e) = subst (λ b. GreatestBelow (word_at s2 q) (depth_of c.first + 1) (found b)) (sym (covered _ is_covered ∙ cond-true _ _ _ (eq-eqb _ len e))) (falls (found next) e above)
           by (inr n) = subst (λ b. GreatestBelow (word_at s2 q) (depth_of c.first + 1) (found b)) (sym (covered _ is_covered ∙ cond-false _ _ _ (ne_eqb _ len n))) (stays n)
 
-      pub short_gone_sound : IsSound s2
+      pub short_gone_sound : IsSoundCells s2
       short_gone_sound = arrays_sound (λ v e. absurd (none≢some (shown w) v (nothing_shown w gone) e)) (λ q small. elim (cases_eq (path_start q len) (path_start path len)) [
         | inl same ↦ near' q small same
         | inr out ↦ far q small out (uncovered _ (λ e. out (sym (start_of_start q len (depth_of c.first) short (omega (arith, shallow))) ∙ e)))

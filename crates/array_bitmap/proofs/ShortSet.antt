@@ -4,14 +4,15 @@ use Rattle.std.proofs.lemmas.List.{get_or-set_same, get_or-set_other, get_or_rea
 use Rattle.std.proofs.lemmas.Nat.{pow_pos}
 use Rattle.array_bitmap.specs.Bits.{depth_of, path_start}
 use Rattle.array_bitmap.specs.Words.{nothing, len_of, shown, found, IsRowWord}
-use Rattle.array_bitmap.specs.Greatest.{GreatestBelow}
-use Rattle.array_bitmap.specs.Tree.{Cells, short_word, word_at, IsSound, SetsWord}
+use Rattle.bitmaps.specs.Greatest.{GreatestBelow}
+use Rattle.array_bitmap.specs.Tree.{Cells, short_word, word_at, IsSoundCells, SetsWord}
 use Rattle.array_bitmap.specs.Image.{top_at}
 use Rattle.array_bitmap.specs.declared.tree.Top.{Top}
 use Rattle.array_bitmap.proofs.Arrays.{best_covered, best_uncovered, blocks_stay, arrays_kept}
 use Rattle.array_bitmap.proofs.ShortRows.{short_set_sound, short_set_sets, short_gone_sound, short_gone_sets, nothing_shown}
 use Rattle.array_bitmap.proofs.Walks.{word-short}
-use Rattle.array_bitmap.proofs.LongestRow.{found-row, GreatestBelow-end}
+use Rattle.bitmaps.proofs.Finds.{GreatestBelow-end}
+use Rattle.array_bitmap.proofs.LongestRow.{found-row}
 use Rattle.std.proofs.lemmas.Bool.{cond-false, ne_eqb}
 
 -- the words of an image, by its arrays and its blocks
@@ -25,7 +26,7 @@ array_cells first heap shorts tops = record {
 }
 
 module _ (first : ℕ) (heap : ℕ → Option (List ℕ)) (shorts : List ℕ) (old new : List Top) (path len word number from to : ℕ)
-    (sound : IsSound (array_cells first heap shorts old)) (fits : path < 2 ^ 34) (short : len ≤ depth_of first) (own : IsRowWord len word)
+    (sound : IsSoundCells (array_cells first heap shorts old)) (fits : path < 2 ^ 34) (short : len ≤ depth_of first) (own : IsRowWord len word)
     (within : number < length shorts) (n : number ≡ 2 ^ len + path_start path len)
     (f : from ≡ path_start path len * 2 ^ (depth_of first - len)) (t : to ≡ (path_start path len + 1) * 2 ^ (depth_of first - len))
     (inside : (x : ℕ) → from ≤ x → x < to → top_at new x ≡ record (top_at old x) { best = cond (nat_le (len_of (top_at old x).best) len) word (top_at old x).best })
@@ -45,8 +46,8 @@ module _ (first : ℕ) (heap : ℕ → Option (List ℕ)) (shorts : List ℕ) (o
   kept = arrays_kept (array_cells first heap shorts old) (λ k. slice_index_or (slice_set shorts number word) k nothing) (λ x. (top_at new x).best) (λ x. (top_at new x).block)
       (blocks_stay old new (path_start path len) (2 ^ (depth_of first - len)) from to (λ b. cond (nat_le (len_of b) len) word b) some f t inside below above)
 
-  pub short_tree_sound : IsSound (array_cells first heap (slice_set shorts number word) new)
-  short_tree_sound = subst IsSound (sym kept)
+  pub short_tree_sound : IsSoundCells (array_cells first heap (slice_set shorts number word) new)
+  short_tree_sound = subst IsSoundCells (sym kept)
       (short_set_sound (array_cells first heap shorts old) (λ k. slice_index_or (slice_set shorts number word) k nothing) (λ x. (top_at new x).best) sound path len word fits short here others own
       (best_covered old new (path_start path len) (2 ^ (depth_of first - len)) from to (λ b. cond (nat_le (len_of b) len) word b) some f t inside below above)
       (best_uncovered old new (path_start path len) (2 ^ (depth_of first - len)) from to (λ b. cond (nat_le (len_of b) len) word b) some f t inside below above))
@@ -59,7 +60,7 @@ module _ (first : ℕ) (heap : ℕ → Option (List ℕ)) (shorts : List ℕ) (o
 
 -- ---- a short row is taken out
 module _ (first : ℕ) (heap : ℕ → Option (List ℕ)) (shorts : List ℕ) (old new : List Top) (path len next number from to : ℕ)
-    (sound : IsSound (array_cells first heap shorts old)) (fits : path < 2 ^ 34) (short : len ≤ depth_of first)
+    (sound : IsSoundCells (array_cells first heap shorts old)) (fits : path < 2 ^ 34) (short : len ≤ depth_of first)
     (above' : GreatestBelow (word_at (array_cells first heap shorts old) path) len (found next))
     (within : number < length shorts) (n : number ≡ 2 ^ len + path_start path len)
     (f : from ≡ path_start path len * 2 ^ (depth_of first - len)) (t : to ≡ (path_start path len + 1) * 2 ^ (depth_of first - len))
@@ -80,8 +81,8 @@ module _ (first : ℕ) (heap : ℕ → Option (List ℕ)) (shorts : List ℕ) (o
   kept' = arrays_kept (array_cells first heap shorts old) (λ k. slice_index_or (slice_set shorts number nothing) k nothing) (λ x. (top_at new x).best) (λ x. (top_at new x).block)
       (blocks_stay old new (path_start path len) (2 ^ (depth_of first - len)) from to (λ b. cond (len_of b == len) next b) some' f t inside below above)
 
-  pub short_gone_tree_sound : IsSound (array_cells first heap (slice_set shorts number nothing) new)
-  short_gone_tree_sound = subst IsSound (sym kept')
+  pub short_gone_tree_sound : IsSoundCells (array_cells first heap (slice_set shorts number nothing) new)
+  short_gone_tree_sound = subst IsSoundCells (sym kept')
       (short_gone_sound (array_cells first heap shorts old) (λ k. slice_index_or (slice_set shorts number nothing) k nothing) (λ x. (top_at new x).best) sound path len nothing fits short here' others' refl next above'
       (best_covered old new (path_start path len) (2 ^ (depth_of first - len)) from to (λ b. cond (len_of b == len) next b) some' f t inside below above)
       (best_uncovered old new (path_start path len) (2 ^ (depth_of first - len)) from to (λ b. cond (len_of b == len) next b) some' f t inside below above))
@@ -93,7 +94,7 @@ module _ (first : ℕ) (heap : ℕ → Option (List ℕ)) (shorts : List ℕ) (o
       (best_uncovered old new (path_start path len) (2 ^ (depth_of first - len)) from to (λ b. cond (len_of b == len) next b) some' f t inside below above))
 
 -- ---- the longest short row, by one length more
-module _ (c : Cells) (sound : IsSound c) (path len best word : ℕ) (fits : path < 2 ^ 34) (short : len ≤ depth_of c.first) (read : word ≡ c.shorts (2 ^ len + path_start path len))
+module _ (c : Cells) (sound : IsSoundCells c) (path len best word : ℕ) (fits : path < 2 ^ 34) (short : len ≤ depth_of c.first) (read : word ≡ c.shorts (2 ^ len + path_start path len))
     (before : GreatestBelow (word_at c path) len (found best)) where
   word_here : word_at c path len ≡ shown word
   unfolding short_word

@@ -1,41 +1,26 @@
 -- Walks down from the array.
-use Rattle.std.proofs.Common.{ℕ, zero, suc, ◌≡◌, ◌≢◌, ◌⊎◌, inl, inr, ◌+◌, ◌-◌, ◌<◌, ◌≤◌, List, [], ◌∷◌, slice_index, Option, Some, None, true, is_some, arith, refl, sym, ap, subst, ◌∙◌}
+use Rattle.std.proofs.Common.{ℕ, zero, suc, ◌≡◌, ◌≢◌, inl, inr, ◌+◌, ◌-◌, ◌<◌, ◌≤◌, List, [], ◌∷◌, slice_index, Some, None, arith, refl, sym, ap, subst, ◌∙◌}
 use Rattle.std.specs.Int.{bit_at}
-use Rattle.std.proofs.lemmas.Bool.{cond-true, cond-false, eq-eqb, ne_eqb, le-leb, lt-leb, cases_eq, false≢true}
+use Rattle.std.proofs.lemmas.Bool.{cond-true, cond-false, eq-eqb, ne_eqb, le-leb, lt-leb, cases_eq}
 use Rattle.std.proofs.lemmas.Nat.Bits.{bit_at-zero}
 use Rattle.array_bitmap.specs.Bits.{depth_of, five_bits, path_start, row_bit, level_of, more_of}
-use Rattle.array_bitmap.specs.Blocks.{kids_of, kid_index, row_in, kid_in}
-use Rattle.array_bitmap.specs.Tree.{Cells, words_of, words_at, kid_at, block_at, short_word, long_word, word_at}
+use Rattle.array_bitmap.specs.Blocks.{kid_map, kid_index, row_in, kid_in}
+use Rattle.array_bitmap.specs.Tree.{Cells, words_in_block, words_at, kid_at, block_at, short_word, long_word, word_at}
 use Rattle.array_bitmap.proofs.PathBits.{before_level, level_from_parts, more_from_parts}
 use Rattle.array_bitmap.proofs.Covering.{row-clear}
 
--- what is some is something, and nothing is not something
-pub some-from : {A : Type 0} (o : Option A) → is_some o ≡ true → (x : A) × (o ≡ Some x)
-some-from None h = absurd (false≢true h)
-some-from (Some x) h = (x, refl)
-
-pub none≢some : {A : Type 0} (o : Option A) (x : A) → o ≡ None → o ≡ Some x → ⊥
-none≢some o x n s = cc
-
-pub Some_same : {A : Type 0} (o : Option A) (x y : A) → o ≡ Some x → o ≡ Some y → x ≡ y
-Some_same o x y a b = cc
-
-pub cases_option : {A : Type 0} (o : Option A) → (o ≡ None) ⊎ ((x : A) × (o ≡ Some x))
-cases_option None = inl refl
-cases_option (Some x) = inr (x, refl)
-
 -- a kid whose bit is set, and one whose bit is not
-pub kid-set : (ws : List ℕ) (five : ℕ) → bit_at (kids_of ws) five ≡ 1 → kid_in ws five ≡ slice_index ws (kid_index ws five)
+pub kid-set : (ws : List ℕ) (five : ℕ) → bit_at (kid_map ws) five ≡ 1 → kid_in ws five ≡ slice_index ws (kid_index ws five)
 unfolding kid_in
 kid-set ws five h = cond-true _ _ _ (eq-eqb _ 1 h)
 
-pub kid-clear : (ws : List ℕ) (five : ℕ) → (bit_at (kids_of ws) five ≡ 1 → ⊥) → kid_in ws five ≡ 0
+pub kid-clear : (ws : List ℕ) (five : ℕ) → (bit_at (kid_map ws) five ≡ 1 → ⊥) → kid_in ws five ≡ 0
 unfolding kid_in
 kid-clear ws five h = cond-false _ _ _ (ne_eqb _ 1 h)
 
 -- where there is a kid, its bit is set
-pub kid_is_set : (ws : List ℕ) (five : ℕ) → kid_in ws five ≢ 0 → bit_at (kids_of ws) five ≡ 1
-kid_is_set ws five h = elim (cases_eq (bit_at (kids_of ws) five) 1) [
+pub kid_is_set : (ws : List ℕ) (five : ℕ) → kid_in ws five ≢ 0 → bit_at (kid_map ws) five ≡ 1
+kid_is_set ws five h = elim (cases_eq (bit_at (kid_map ws) five) 1) [
   | inl e ↦ e
   | inr n ↦ absurd (h (kid-clear ws five n))
 ]
@@ -99,7 +84,7 @@ module _ (c : Cells) where
   module _ (nowhere : c.heap 0 ≡ Some zeros) where
     -- 0 is the place of four zeros
     pub words-nowhere : words_at c 0 ≡ zeros
-    words-nowhere = ap words_of nowhere
+    words-nowhere = ap words_in_block nowhere
 
     -- it has no kids and no rows
     pub kid-nowhere : (five : ℕ) → kid_at c 0 five ≡ 0

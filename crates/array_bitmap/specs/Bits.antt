@@ -1,15 +1,5 @@
 -- Bitmaps, and the bits of a path: an address of 32 bits and two zeros after it. A block at a level reads five bits of a path, after its first 4 + 5 * level bits; there are the levels 0 to 5.
-use Rattle.std.specs.Prelude.{ℕ, ◌≡◌, ◌+◌, ◌-◌, ◌*◌, ◌/◌, ◌%◌, ◌^◌, ◌<◌, Option, Some, None, count_ones, min}
-use Rattle.std.specs.Int.{bit_at}
-
--- the number of set bits below bit k
-abbrev pub rank : ℕ → ℕ → ℕ
-rank n k = count_ones (n % 2 ^ k)
-
--- the greatest bit that is set, or none where no bit is
-abbrev pub IsHighest : ℕ → Option ℕ → Type 0
-IsHighest n None = n ≡ 0
-IsHighest n (Some bit) = (bit < 64) × (bit_at n bit ≡ 1) × ((k : ℕ) → bit < k → bit_at n k ≡ 0)
+use Rattle.std.specs.Prelude.{ℕ, ◌+◌, ◌-◌, ◌*◌, ◌/◌, ◌%◌, ◌^◌, min}
 
 -- how many bits stand before those that a block at a level reads
 abbrev pub depth_of : ℕ → ℕ

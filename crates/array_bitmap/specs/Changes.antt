@@ -1,8 +1,8 @@
 -- What a change of one block makes of an image's words.
 use Rattle.std.specs.Prelude.{ℕ, ◌≡◌, ◌≢◌, ◌+◌, ◌-◌, ◌<◌, ◌≤◌, List, length, slice_index, Option, Some, None, is_some, true}
 use Rattle.word_pool.specs.Heap.{size_of, word_of, SameOthers}
-use Rattle.array_bitmap.specs.Blocks.{rows_of, kids_of, used_words, size_for, row_in, kid_in, IsBlock}
-use Rattle.array_bitmap.specs.Tree.{Cells, words_of, words_at, named}
+use Rattle.array_bitmap.specs.Blocks.{row_map, kid_map, used_words, size_for, row_in, kid_in, IsBlock}
+use Rattle.array_bitmap.specs.Tree.{Cells, words_in_block, words_at, named}
 
 -- a block has other words now, and may stand elsewhere; all other blocks stay
 pub record IsReworded (old new : ℕ → Option (List ℕ)) (place place' : ℕ) (ws : List ℕ) : Type 0 where
@@ -84,15 +84,15 @@ pub record Copies (old new : ℕ → Option (List ℕ)) (from to used : ℕ) : T
 
 -- a block has a row at a bit now, and may stand elsewhere
 pub record PutsRow (old new : ℕ → Option (List ℕ)) (block place bit word : ℕ) : Type 0 where
-  pub reworded : IsReworded old new block place (words_of (new place))
-  pub changes : ChangesRow (words_of (old block)) (words_of (new place)) bit (Some word)
-  pub is_block : IsBlock (words_of (new place))
+  pub reworded : IsReworded old new block place (words_in_block (new place))
+  pub changes : ChangesRow (words_in_block (old block)) (words_in_block (new place)) bit (Some word)
+  pub is_block : IsBlock (words_in_block (new place))
 
 -- a block has a kid at five bits now, and may stand elsewhere
 pub record PutsKid (old new : ℕ → Option (List ℕ)) (block place five kid : ℕ) : Type 0 where
-  pub reworded : IsReworded old new block place (words_of (new place))
-  pub changes : ChangesKid (words_of (old block)) (words_of (new place)) five kid
-  pub is_block : IsBlock (words_of (new place))
+  pub reworded : IsReworded old new block place (words_in_block (new place))
+  pub changes : ChangesKid (words_in_block (old block)) (words_in_block (new place)) five kid
+  pub is_block : IsBlock (words_in_block (new place))
 
 -- a block without rows and kids was taken
 pub record TakesBlank (old new : ℕ → Option (List ℕ)) (place : ℕ) : Type 0 where
@@ -101,9 +101,9 @@ pub record TakesBlank (old new : ℕ → Option (List ℕ)) (place : ℕ) : Type
   pub others : SameOthers old new place
   pub used : is_some (new place) ≡ true
   pub size : size_of (new place) ≡ 4
-  pub no_rows : rows_of (words_of (new place)) ≡ 0
-  pub no_kids : kids_of (words_of (new place)) ≡ 0
-  pub is_block : IsBlock (words_of (new place))
+  pub no_rows : row_map (words_in_block (new place)) ≡ 0
+  pub no_kids : kid_map (words_in_block (new place)) ≡ 0
+  pub is_block : IsBlock (words_in_block (new place))
 
 -- a block has a new kid without rows and kids at five bits, and may stand elsewhere
 pub record GetsKid (old new : ℕ → Option (List ℕ)) (block place five kid : ℕ) : Type 0 where
@@ -145,12 +145,12 @@ pub record TakesWord (old new : ℕ → Option (List ℕ)) (block place used at 
 
 -- a block has no row at a bit now, and may stand elsewhere
 pub record TakesRow (old new : ℕ → Option (List ℕ)) (block place bit : ℕ) : Type 0 where
-  pub reworded : IsReworded old new block place (words_of (new place))
-  pub changes : ChangesRow (words_of (old block)) (words_of (new place)) bit None
-  pub is_block : IsBlock (words_of (new place))
+  pub reworded : IsReworded old new block place (words_in_block (new place))
+  pub changes : ChangesRow (words_in_block (old block)) (words_in_block (new place)) bit None
+  pub is_block : IsBlock (words_in_block (new place))
 
 -- a block has no kid at five bits now, and may stand elsewhere
 pub record TakesKid (old new : ℕ → Option (List ℕ)) (block place five : ℕ) : Type 0 where
-  pub reworded : IsReworded old new block place (words_of (new place))
-  pub changes : ChangesKid (words_of (old block)) (words_of (new place)) five 0
-  pub is_block : IsBlock (words_of (new place))
+  pub reworded : IsReworded old new block place (words_in_block (new place))
+  pub changes : ChangesKid (words_in_block (old block)) (words_in_block (new place)) five 0
+  pub is_block : IsBlock (words_in_block (new place))

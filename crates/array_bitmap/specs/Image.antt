@@ -5,7 +5,7 @@ use Rattle.ipv4_prefix.specs.Prefix.{Prefix}
 use Rattle.network_model.specs.declared.route.Entry.{Entry}
 use Rattle.array_bitmap.specs.Bits.{depth_of}
 use Rattle.array_bitmap.specs.Words.{nothing}
-use Rattle.array_bitmap.specs.Tree.{Cells, IsSound, block_at, word_at, named, rows_of_cells}
+use Rattle.array_bitmap.specs.Tree.{Cells, IsSoundCells, block_at, word_at, named, rows_of_cells}
 use Rattle.array_bitmap.specs.declared.tree.Tree.{Tree}
 use Rattle.array_bitmap.specs.declared.tree.Top.{Top}
 use Rattle.array_bitmap.specs.declared.tree.Stand.{Stand}
@@ -26,7 +26,7 @@ cells_of tree = record {
 
 -- they are sound, and the arrays are as long as the first bits want
 pub record IsSoundTree {A : Type 0} (tree : Tree A) : Type 0 where
-  pub cells : IsSound (cells_of tree)
+  pub cells : IsSoundCells (cells_of tree)
   pub shorts : vec_len tree.shorts ≡ 2 ^ (depth_of tree.first + 1)
   pub tops : vec_len tree.tops ≡ 2 ^ depth_of tree.first
 
@@ -42,7 +42,7 @@ pub record IsStand (c : Cells) (path steps : ℕ) (stand : Stand) : Type 0 where
 
 -- a block has no name now, and has its words still; the image is sound, and no row has changed
 pub record LosesBlock (old new : Cells) (block : ℕ) : Type 0 where
-  pub sound : IsSound new
+  pub sound : IsSoundCells new
   pub same : (path len : ℕ) → word_at new path len ≡ word_at old path len
   pub unnamed : (p m : ℕ) → named new p m ≢ block
   pub stays : new.heap block ≡ old.heap block

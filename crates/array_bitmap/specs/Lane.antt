@@ -2,7 +2,7 @@
 use Rattle.std.specs.Prelude.{ℕ, List, ◌≡◌, ◌⊎◌, ◌+◌, ◌-◌, ◌*◌, ◌<◌, ◌≤◌, min, length, slice_index, slice_index_or}
 use Rattle.array_bitmap.specs.Bits.{depth_of}
 use Rattle.array_bitmap.specs.Words.{found}
-use Rattle.array_bitmap.specs.Greatest.{GreatestBelow}
+use Rattle.bitmaps.specs.Greatest.{GreatestBelow}
 use Rattle.array_bitmap.specs.Tree.{Cells, block_at, word_at}
 use Rattle.array_bitmap.specs.declared.blocks.Head.{Head}
 use Rattle.array_bitmap.specs.declared.lanes.Lane.{Lane}
@@ -35,9 +35,9 @@ pub record AreLanes (c : Cells) (level : ℕ) (addrs : List ℕ) (lanes : List L
   pub addr : (k : ℕ) → k < live → (lane_at lanes k).addr ≡ slice_index addrs (lane_at lanes k).at
 
 -- the word is that of the longest row of the address
-abbrev pub IsDone : Cells → ℕ → ℕ → Type 0
-IsDone c addr word = GreatestBelow (word_at c (addr * 4)) 33 (found word)
+abbrev pub IsLongestWord : Cells → ℕ → ℕ → Type 0
+IsLongestWord c addr word = GreatestBelow (word_at c (addr * 4)) 33 (found word)
 
 -- the address at an index has its word, or a look-up is on its way for it, which no level after the last one is
 abbrev pub IsCared : Cells → ℕ → List ℕ → List Lane → ℕ → List ℕ → ℕ → Type 0
-IsCared c level addrs lanes live words i = IsDone c (slice_index addrs i) (slice_index words i) ⊎ ((level ≤ 5) × ((k : ℕ) × (k < live) × ((lane_at lanes k).at ≡ i)))
+IsCared c level addrs lanes live words i = IsLongestWord c (slice_index addrs i) (slice_index words i) ⊎ ((level ≤ 5) × ((k : ℕ) × (k < live) × ((lane_at lanes k).at ≡ i)))

@@ -1,7 +1,6 @@
 pub mod Bits
 pub mod Words
 pub mod Blocks
-pub mod Greatest
 pub mod Tree
 pub mod Changes
 pub mod Image

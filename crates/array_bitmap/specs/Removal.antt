@@ -3,7 +3,7 @@ use Rattle.std.specs.Prelude.{ℕ, ◌≡◌, ◌≢◌, ◌-◌, ◌<◌, ◌�
 use Rattle.ipv4_prefix.specs.Prefix.{Prefix, prefix_eq}
 use Rattle.network_model.specs.declared.route.Entry.{Entry}
 use Rattle.array_bitmap.specs.Bits.{depth_of}
-use Rattle.array_bitmap.specs.Blocks.{rows_of, kids_of}
+use Rattle.array_bitmap.specs.Blocks.{row_map, kid_map}
 use Rattle.array_bitmap.specs.Tree.{Cells, words_at, block_at}
 
 -- the rows without that of a prefix
@@ -12,7 +12,7 @@ without_row prefix rows = filter (λ row. not (prefix_eq row.0 prefix)) rows
 
 -- the block of a path at a level has a row or a kid, if there is one
 abbrev pub HasUse : Cells → ℕ → ℕ → Type 0
-HasUse c path level = let block = block_at c path (level - c.first) in block ≢ 0 → rows_of (words_at c block) ≡ 0 → kids_of (words_at c block) ≡ 0 → ⊥
+HasUse c path level = let block = block_at c path (level - c.first) in block ≢ 0 → row_map (words_at c block) ≡ 0 → kid_map (words_at c block) ≡ 0 → ⊥
 
 -- no block on the way of a path's first `len` bits is left without rows and kids
 abbrev pub IsPruned : Cells → ℕ → ℕ → Type 0

@@ -1,9 +1,9 @@
 -- What the words of an image mean.
 use Rattle.std.specs.Prelude.{ℕ, zero, suc, ◌≡◌, ◌≢◌, ◌+◌, ◌-◌, ◌*◌, ◌^◌, ◌<◌, ◌≤◌, ◌==◌, List, [], ◌∷◌, Option, Some, None, true, cond, nat_le, is_some, option_map}
 use Rattle.array_bitmap.specs.Bits.{depth_of, five_bits, path_start, row_bit, level_of, more_of}
-use Rattle.array_bitmap.specs.Words.{shown, found, entry_of, IsRowWord}
+use Rattle.array_bitmap.specs.Words.{shown, found, word_entry, IsRowWord}
 use Rattle.array_bitmap.specs.Blocks.{row_in, kid_in, IsBlock}
-use Rattle.array_bitmap.specs.Greatest.{GreatestBelow}
+use Rattle.bitmaps.specs.Greatest.{GreatestBelow}
 use Rattle.network_model.specs.declared.route.Entry.{Entry}
 use Rattle.ipv4_prefix.specs.Prefix.{Prefix}
 use Rattle.ipv4_prefix.specs.Tables.{table_rows}
@@ -20,13 +20,13 @@ pub record Cells : Type 0 where
   pub heap : ℕ → Option (List ℕ)
 
 -- the words of a block; none where there is no block
-abbrev pub words_of : Option (List ℕ) → List ℕ
-words_of None = []
-words_of (Some ws) = ws
+abbrev pub words_in_block : Option (List ℕ) → List ℕ
+words_in_block None = []
+words_in_block (Some ws) = ws
 
 -- the words of the block at a place
 abbrev pub words_at : Cells → ℕ → List ℕ
-words_at c place = words_of (c.heap place)
+words_at c place = words_in_block (c.heap place)
 
 -- the place of a kid of the block at a place; 0 where there is none
 abbrev pub kid_at : Cells → ℕ → ℕ → ℕ
@@ -49,7 +49,7 @@ word_at c path len = cond (nat_le len (depth_of c.first)) (short_word c path len
 
 -- the entry of the prefix of a path's first `len` bits
 abbrev pub row_at : Cells → ℕ → ℕ → Option Entry
-row_at c path len = option_map entry_of (word_at c path len)
+row_at c path len = option_map word_entry (word_at c path len)
 
 -- the entry of a prefix's row, if it has one
 abbrev pub entry_in : Cells → Prefix → Option Entry
@@ -64,7 +64,7 @@ abbrev pub named : Cells → ℕ → ℕ → ℕ
 named c place k = cond (place == 0) (c.tops k) (kid_at c place k)
 
 -- Each name is that of a block, or 0, and no block has two names. The words of rows are such words, and the array has the longest short rows.
-pub record IsSound (c : Cells) : Type 0 where
+pub record IsSoundCells (c : Cells) : Type 0 where
   pub four_sizes : c.first ≤ 3
   pub nowhere : c.heap 0 ≡ Some (0 ∷ 0 ∷ 0 ∷ 0 ∷ [])
   pub blocks_there : (place k : ℕ) → named c place k ≢ 0 → is_some (c.heap (named c place k)) ≡ true

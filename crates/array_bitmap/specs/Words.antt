@@ -13,8 +13,8 @@ abbrev pub session_of : ℕ → ℕ
 session_of w = w % 2 ^ 16
 
 -- the port that the word of a row names
-abbrev pub port_of : ℕ → ℕ
-port_of w = w / 2 ^ 16 % 2 ^ 8
+abbrev pub word_port : ℕ → ℕ
+word_port w = w / 2 ^ 16 % 2 ^ 8
 
 -- its kind
 abbrev pub kind_of : ℕ → ℕ
@@ -25,14 +25,14 @@ abbrev pub len_of : ℕ → ℕ
 len_of w = w / 2 ^ 26
 
 -- the word of a row, by the length of its prefix and its entry
-abbrev pub word_of : ℕ → Entry → ℕ
-word_of len Local = 2 ^ 26 * len
-word_of len (Via port session) = session + 2 ^ 16 * port + 2 ^ 24 + 2 ^ 26 * len
-word_of len Unreachable = 2 * 2 ^ 24 + 2 ^ 26 * len
+abbrev pub row_word : ℕ → Entry → ℕ
+row_word len Local = 2 ^ 26 * len
+row_word len (Via port session) = session + 2 ^ 16 * port + 2 ^ 24 + 2 ^ 26 * len
+row_word len Unreachable = 2 * 2 ^ 24 + 2 ^ 26 * len
 
 -- the entry of a row's word
-abbrev pub entry_of : ℕ → Entry
-entry_of w = cond (kind_of w == 0) Local (cond (kind_of w == 1) (Via (port_of w) (session_of w)) Unreachable)
+abbrev pub word_entry : ℕ → Entry
+word_entry w = cond (kind_of w == 0) Local (cond (kind_of w == 1) (Via (word_port w) (session_of w)) Unreachable)
 
 -- a word, if it is that of a row
 abbrev pub shown : ℕ → Option ℕ
@@ -45,11 +45,11 @@ found w = cond (w == nothing) None (Some (len_of w, w))
 -- the word of an answer: that of the row that was found, or the word for no row
 abbrev pub answer_word : Option (Prefix × Entry) → ℕ
 answer_word None = nothing
-answer_word (Some row) = word_of row.0.len row.1
+answer_word (Some row) = row_word row.0.len row.1
 
 -- what a word answers for an address: the prefix of the word's length that covers the address, and the word's entry
 abbrev pub word_answer : ℕ → ℕ → Option (Prefix × Entry)
-word_answer addr w = cond (w == nothing) None (Some (record { addr = addr / 2 ^ (32 - len_of w) * 2 ^ (32 - len_of w); len = len_of w }, entry_of w))
+word_answer addr w = cond (w == nothing) None (Some (record { addr = addr / 2 ^ (32 - len_of w) * 2 ^ (32 - len_of w); len = len_of w }, word_entry w))
 
 -- the word of an answer for an address says the whole answer, to those who know the address
 pub record IsReadBack (addr : ℕ) (answer : Option (Prefix × Entry)) : Type 0 where
@@ -60,4 +60,4 @@ pub record IsReadBack (addr : ℕ) (answer : Option (Prefix × Entry)) : Type 0 
 pub record IsRowWord (len w : ℕ) : Type 0 where
   pub of_length : len_of w ≡ len
   pub of_row : kind_of w < 3
-  pub whole : word_of len (entry_of w) ≡ w
+  pub whole : row_word len (word_entry w) ≡ w

@@ -2,7 +2,8 @@
 
 ghost use Rattle.std.specs.Prelude.{◌≡◌, ◌≢◌, ℕ, ◌+◌, ◌*◌, ◌^◌, ◌<◌, ◌≤◌, ◌↔◌, IsTrue, Some, count_ones};
 ghost use Rattle.std.specs.Int.{bit_at};
-ghost use Rattle.array_bitmap.specs.Bits.{rank, five_bits, row_bit, width, IsHighest};
+ghost use Rattle.bitmaps.specs.Bits.{rank, IsHighest};
+ghost use Rattle.array_bitmap.specs.Bits.{five_bits, row_bit, width};
 ghost use Rattle.array_bitmap.specs.Blocks.{size_for};
 
 /// The level of the last blocks, which read the last three bits of addresses.
@@ -136,7 +137,7 @@ pub(crate) fn covers(five: u32, level: u32) -> u64
 pub(crate) fn highest(bits: u64) -> u32
     ensures bound { result < 64 }
     ensures none { bits ≡ 0 → result ≡ 0 }
-    ensures some { bits ≢ 0 → IsHighest bits (Some result) }
+    ensures some { bits ≢ 0 → IsHighest 64 bits (Some result) }
 {
     63 - (bits | 1).leading_zeros()
 }

@@ -2,10 +2,10 @@
 
 ghost use Rattle.std.specs.Prelude.{◌≡◌, ◌≢◌, ℕ, ◌+◌, ◌*◌, ◌^◌, ◌<◌, ◌≤◌, bit_and, is_some, true, IsTrue, Option, None, IfOk, OnErr};
 ghost use Rattle.std.specs.Int.{bit_at};
-ghost use Rattle.array_bitmap.specs.Bits.{IsHighest};
-ghost use Rattle.array_bitmap.specs.Blocks.{rows_of, kids_of, row_in, kid_in, word_after, size_for, IsBlock, IsHead};
+ghost use Rattle.bitmaps.specs.Bits.{IsHighest};
+ghost use Rattle.array_bitmap.specs.Blocks.{row_map, kid_map, row_in, kid_in, word_after, size_for, IsBlock, IsHead};
 ghost use Rattle.array_bitmap.specs.Changes.{Copies, GetsRoom, ShiftsIn, PutsWord, PutsRow, PutsKid, TakesBlank, GetsKid, ShiftsOut, Narrows, TakesWord, TakesRow, TakesKid};
-ghost use Rattle.array_bitmap.specs.Tree.{words_of};
+ghost use Rattle.array_bitmap.specs.Tree.{words_in_block};
 ghost use Rattle.word_pool.specs.Heap.{size_of, SameBlocks, is_size, word_of, SameOthers};
 ghost use Rattle.word_pool.specs.Pool.{blocks};
 
@@ -20,7 +20,7 @@ pub(crate) const HEAD: usize = 3;
 /// The rows' bits of a block.
 pub(crate) fn rows_of<A: Allocator>(pool: &Pool<A>, block: u32) -> u64
     requires { 3 < size_of (blocks pool.now block) }
-    ensures { result ≡ rows_of (words_of (blocks pool.now block)) }
+    ensures { result ≡ row_map (words_in_block (blocks pool.now block)) }
 {
     u64::from(pool.word(block, 0)) + (u64::from(pool.word(block, 1)) << 32)
 }
@@ -28,7 +28,7 @@ pub(crate) fn rows_of<A: Allocator>(pool: &Pool<A>, block: u32) -> u64
 /// The kids' bits of a block.
 pub(crate) fn kids_of<A: Allocator>(pool: &Pool<A>, block: u32) -> u64
     requires { 3 < size_of (blocks pool.now block) }
-    ensures value { result ≡ kids_of (words_of (blocks pool.now block)) }
+    ensures value { result ≡ kid_map (words_in_block (blocks pool.now block)) }
     ensures bound { result < 2 ^ 32 }
 {
     u64::from(pool.word(block, 2))
@@ -47,7 +47,7 @@ pub(crate) const NO_HEAD: Head = Head { rows: 0, kids: 0 };
 /// Reads the bitmaps of a block.
 pub(crate) fn head_of<A: Allocator>(pool: &Pool<A>, block: u32) -> Head
     requires { 3 < size_of (blocks pool.now block) }
-    ensures { IsHead (words_of (blocks pool.now block)) result }
+    ensures { IsHead (words_in_block (blocks pool.now block)) result }
 {
     Head {
         rows: rows_of(pool, block),
@@ -65,12 +65,12 @@ pub(crate) struct Kid {
 /// Reads the place of a block's kid, by its bitmaps. There is no branch: where there is no kid, the block's
 /// first word is read.
 pub(crate) fn read_kid<A: Allocator>(pool: &Pool<A>, block: u32, head: Head, five: u32) -> Kid
-    requires is_block { IsBlock (words_of (blocks pool.now block)) }
-    requires head { IsHead (words_of (blocks pool.now block)) head }
+    requires is_block { IsBlock (words_in_block (blocks pool.now block)) }
+    requires head { IsHead (words_in_block (blocks pool.now block)) head }
     requires small { five < 32 }
     ensures bit { result.there < 2 }
-    ensures some { result.there ≡ 1 → result.place ≡ kid_in (words_of (blocks pool.now block)) five }
-    ensures none { result.there ≡ 0 → kid_in (words_of (blocks pool.now block)) five ≡ 0 }
+    ensures some { result.there ≡ 1 → result.place ≡ kid_in (words_in_block (blocks pool.now block)) five }
+    ensures none { result.there ≡ 0 → kid_in (words_in_block (blocks pool.now block)) five ≡ 0 }
 {
     let there = bit(head.kids, five);
     let index = HEAD + count(head.rows) + rank(head.kids, five);
@@ -82,10 +82,10 @@ pub(crate) fn read_kid<A: Allocator>(pool: &Pool<A>, block: u32, head: Head, fiv
 
 /// The place of a block's kid, by its bitmaps; 0 where it has none. There is no branch.
 pub(crate) fn kid_by<A: Allocator>(pool: &Pool<A>, block: u32, head: Head, five: u32) -> u32
-    requires is_block { IsBlock (words_of (blocks pool.now block)) }
-    requires head { IsHead (words_of (blocks pool.now block)) head }
+    requires is_block { IsBlock (words_in_block (blocks pool.now block)) }
+    requires head { IsHead (words_in_block (blocks pool.now block)) head }
     requires small { five < 32 }
-    ensures { result ≡ kid_in (words_of (blocks pool.now block)) five }
+    ensures { result ≡ kid_in (words_in_block (blocks pool.now block)) five }
 {
     let kid = read_kid(pool, block, head, five);
     kid.place * kid.there
@@ -93,9 +93,9 @@ pub(crate) fn kid_by<A: Allocator>(pool: &Pool<A>, block: u32, head: Head, five:
 
 /// The place of a block's kid; 0 where it has none.
 pub(crate) fn kid_of<A: Allocator>(pool: &Pool<A>, block: u32, five: u32) -> u32
-    requires is_block { IsBlock (words_of (blocks pool.now block)) }
+    requires is_block { IsBlock (words_in_block (blocks pool.now block)) }
     requires small { five < 32 }
-    ensures { result ≡ kid_in (words_of (blocks pool.now block)) five }
+    ensures { result ≡ kid_in (words_in_block (blocks pool.now block)) five }
 {
     kid_by(pool, block, head_of(pool, block), five)
 }
@@ -110,10 +110,10 @@ pub(crate) fn word_after<A: Allocator>(
     cover: u64,
     best: u32,
 ) -> u32
-    requires is_block { IsBlock (words_of (blocks pool.now block)) }
-    requires head { IsHead (words_of (blocks pool.now block)) head }
-    ensures { let ws = words_of (blocks pool.now block) in (bit : Option ℕ)
-        × IsHighest (bit_and (rows_of ws) cover) bit
+    requires is_block { IsBlock (words_in_block (blocks pool.now block)) }
+    requires head { IsHead (words_in_block (blocks pool.now block)) head }
+    ensures { let ws = words_in_block (blocks pool.now block) in (bit : Option ℕ)
+        × IsHighest 64 (bit_and (row_map ws) cover) bit
         × (result ≡ word_after ws best bit) }
 {
     let hits = head.rows & cover;
@@ -201,14 +201,14 @@ pub(crate) fn with_row<A: Allocator>(
 ) -> Result<u32, NoMemory>
     requires some { block ≢ 0 }
     requires used { is_some (blocks pool.old block) ≡ true }
-    requires is_block { IsBlock (words_of (blocks pool.old block)) }
+    requires is_block { IsBlock (words_in_block (blocks pool.old block)) }
     requires small { bit < 62 }
     ensures ok { IfOk result (λ place.
         PutsRow (blocks pool.old) (blocks pool.new) block place bit word) }
     ensures err { OnErr result (SameBlocks (blocks pool.old) (blocks pool.new)) }
 
     // A row that is there is set again without memory.
-    ensures full { OnErr result (row_in (words_of (blocks pool.old block)) bit ≡ None) }
+    ensures full { OnErr result (row_in (words_in_block (blocks pool.old block)) bit ≡ None) }
 {
     let rows = rows_of(pool, block);
     let index = HEAD + rank(rows, bit);
@@ -233,9 +233,9 @@ pub(crate) fn with_kid<A: Allocator>(
 ) -> Result<u32, NoMemory>
     requires some { block ≢ 0 }
     requires used { is_some (blocks pool.old block) ≡ true }
-    requires is_block { IsBlock (words_of (blocks pool.old block)) }
+    requires is_block { IsBlock (words_in_block (blocks pool.old block)) }
     requires small { five < 32 }
-    requires clear { bit_at (kids_of (words_of (blocks pool.old block))) five ≡ 0 }
+    requires clear { bit_at (kid_map (words_in_block (blocks pool.old block))) five ≡ 0 }
     requires real { kid ≢ 0 }
     ensures ok { IfOk result (λ place.
         PutsKid (blocks pool.old) (blocks pool.new) block place five kid) }
@@ -276,9 +276,9 @@ pub(crate) fn with_new_kid<A: Allocator>(
 ) -> Result<NewKid, NoMemory>
     requires some { block ≢ 0 }
     requires used { is_some (blocks pool.old block) ≡ true }
-    requires is_block { IsBlock (words_of (blocks pool.old block)) }
+    requires is_block { IsBlock (words_in_block (blocks pool.old block)) }
     requires small { five < 32 }
-    requires clear { bit_at (kids_of (words_of (blocks pool.old block))) five ≡ 0 }
+    requires clear { bit_at (kid_map (words_in_block (blocks pool.old block))) five ≡ 0 }
     ensures ok { IfOk result (λ made.
         GetsKid (blocks pool.old) (blocks pool.new) block made.place five made.kid) }
     ensures err { OnErr result (SameBlocks (blocks pool.old) (blocks pool.new)) }
@@ -352,9 +352,9 @@ fn take_word<A: Allocator>(pool: &mut Pool<A>, block: u32, used: usize, at: usiz
 pub(crate) fn without_row<A: Allocator>(pool: &mut Pool<A>, block: u32, bit: u32) -> u32
     requires some { block ≢ 0 }
     requires used { is_some (blocks pool.old block) ≡ true }
-    requires is_block { IsBlock (words_of (blocks pool.old block)) }
+    requires is_block { IsBlock (words_in_block (blocks pool.old block)) }
     requires small { bit < 62 }
-    requires set { bit_at (rows_of (words_of (blocks pool.old block))) bit ≡ 1 }
+    requires set { bit_at (row_map (words_in_block (blocks pool.old block))) bit ≡ 1 }
     ensures { TakesRow (blocks pool.old) (blocks pool.new) block result bit }
 {
     let rows = rows_of(pool, block);
@@ -370,9 +370,9 @@ pub(crate) fn without_row<A: Allocator>(pool: &mut Pool<A>, block: u32, bit: u32
 pub(crate) fn without_kid<A: Allocator>(pool: &mut Pool<A>, block: u32, five: u32) -> u32
     requires some { block ≢ 0 }
     requires used { is_some (blocks pool.old block) ≡ true }
-    requires is_block { IsBlock (words_of (blocks pool.old block)) }
+    requires is_block { IsBlock (words_in_block (blocks pool.old block)) }
     requires small { five < 32 }
-    requires set { bit_at (kids_of (words_of (blocks pool.old block))) five ≡ 1 }
+    requires set { bit_at (kid_map (words_in_block (blocks pool.old block))) five ≡ 1 }
     ensures { TakesKid (blocks pool.old) (blocks pool.new) block result five }
 {
     let kids = kids_of(pool, block);

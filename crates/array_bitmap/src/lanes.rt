@@ -3,11 +3,11 @@
 ghost use Rattle.std.specs.Prelude.{◌≡◌, ℕ, ◌+◌, ◌-◌, ◌*◌, ◌^◌, ◌<◌, ◌≤◌, EachIndex, length, map, slice_index};
 ghost use Rattle.array_bitmap.specs.Blocks.{IsHead};
 ghost use Rattle.array_bitmap.specs.Image.{cells_of, rows_in, IsSoundTree};
-ghost use Rattle.array_bitmap.specs.Tree.{block_at, words_at, words_of};
+ghost use Rattle.array_bitmap.specs.Tree.{block_at, words_at, words_in_block};
 ghost use Rattle.array_bitmap.specs.Words.{answer_word, IsReadBack};
 ghost use Rattle.ipv4_prefix.specs.LongestMatch.{longest_match};
 ghost use Rattle.word_pool.specs.Pool.{blocks};
-ghost use Rattle.array_bitmap.specs.Lane.{IsLane, IsStep, IsDone, AreLanes, IsCared, lane_at, head_at};
+ghost use Rattle.array_bitmap.specs.Lane.{IsLane, IsStep, IsLongestWord, AreLanes, IsCared, lane_at, head_at};
 
 use crate::bits::{five_bits, path_of};
 use crate::blocks::{Head, Kid, NO_HEAD, read_kid};
@@ -103,7 +103,7 @@ fn next_kid<A: Allocator>(tree: &Tree<A>, path: u64, level: u32, block: u32, hea
     requires low { tree.now.first ≤ level }
     requires deep { level ≤ 5 }
     requires at { block ≡ block_at (cells_of tree.now) path (level - tree.now.first) }
-    requires head { IsHead (words_of (blocks tree.now.pool block)) head }
+    requires head { IsHead (words_in_block (blocks tree.now.pool block)) head }
     ensures bit { result.there < 2 }
     ensures some { result.there ≡ 1
         → result.place ≡ block_at (cells_of tree.now) path (level + 1 - tree.now.first) }
@@ -192,7 +192,7 @@ fn words_all<A: Allocator>(tree: &Tree<A>, addrs: &[u32], words: &mut [u32])
     requires sound { IsSoundTree tree.now }
     requires few { length addrs.now ≤ 32 }
     requires room { length addrs.now ≤ length words.old }
-    ensures done { (k : ℕ) → k < length addrs.now → IsDone (cells_of tree.now)
+    ensures done { (k : ℕ) → k < length addrs.now → IsLongestWord (cells_of tree.now)
         (slice_index addrs.now k) (slice_index words.new k) }
     ensures count { length words.new ≡ length words.old }
 {

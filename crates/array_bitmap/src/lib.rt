@@ -49,7 +49,7 @@
 //!
 //! What always holds: each place in the array or in a block is that of a block in use, or 0, and no
 //! block has two names; a block is as large as its words want; the array has the longest of its rows
-//! (`IsSound` in `specs/Tree.antt`). Contracts see an image as its rows and its generation, and no word.
+//! (`IsSoundCells` in `specs/Tree.antt`). Contracts see an image as its rows and its generation, and no word.
 //!
 //! Where there was a choice:
 //!

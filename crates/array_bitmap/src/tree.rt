@@ -3,11 +3,10 @@
 ghost use Rattle.std.specs.Prelude.{◌≡◌, ◌≢◌, ℕ, ◌+◌, ◌-◌, ◌*◌, ◌^◌, ◌<◌, ◌≤◌, min, ◌==◌, vec_len, replicate, [], cond, nat_le, is_some, true, false, Option, Some, None, MatchOption, IfOk, OnOk, OnErr};
 ghost use Rattle.std.specs.Int.{bit_at};
 ghost use Rattle.array_bitmap.specs.Bits.{depth_of};
-ghost use Rattle.array_bitmap.specs.Words.{found, len_of};
-ghost use Rattle.array_bitmap.specs.Greatest.{GreatestBelow};
-ghost use Rattle.array_bitmap.specs.Words.{IsRowWord};
-ghost use Rattle.array_bitmap.specs.Blocks.{rows_of, kids_of, IsBlock, IsHead};
-ghost use Rattle.array_bitmap.specs.Tree.{words_of, block_at, word_at, SetsWord};
+ghost use Rattle.array_bitmap.specs.Words.{found, len_of, IsRowWord};
+ghost use Rattle.bitmaps.specs.Greatest.{GreatestBelow};
+ghost use Rattle.array_bitmap.specs.Blocks.{row_map, kid_map, IsBlock, IsHead};
+ghost use Rattle.array_bitmap.specs.Tree.{words_in_block, block_at, word_at, SetsWord};
 ghost use Rattle.array_bitmap.specs.Changes.{WritesName};
 ghost use Rattle.array_bitmap.specs.Image.{cells_of, rows_in, top_at, IsSoundTree, IsStand, LosesBlock};
 ghost use Rattle.std.specs.FinMap.{put, find as row_of};
@@ -120,7 +119,7 @@ impl<A: Allocator> Tree<A> {
     pub(crate) fn head(&self, path: u64, level: u32, block: u32) -> Head
         requires sound { IsSoundTree self.now }
         requires at { block ≡ block_at (cells_of self.now) path (level - self.now.first) }
-        ensures { IsHead (words_of (blocks self.now.pool block)) result }
+        ensures { IsHead (words_in_block (blocks self.now.pool block)) result }
     {
         head_of(&self.pool, block)
     }
@@ -133,7 +132,7 @@ impl<A: Allocator> Tree<A> {
         requires low { self.now.first ≤ level }
         requires deep { level ≤ 5 }
         requires at { block ≡ block_at (cells_of self.now) path (level - self.now.first) }
-        requires head { IsHead (words_of (blocks self.now.pool block)) head }
+        requires head { IsHead (words_in_block (blocks self.now.pool block)) head }
         requires above { GreatestBelow (word_at (cells_of self.now) path) (depth_of level + 1) (found best) }
         ensures { GreatestBelow (word_at (cells_of self.now) path) (min (depth_of (level + 1) + 1) 33) (found result) }
     {
@@ -152,7 +151,7 @@ impl<A: Allocator> Tree<A> {
         requires low { self.now.first ≤ level }
         requires deep { level ≤ 5 }
         requires at { block ≡ block_at (cells_of self.now) path (level - self.now.first) }
-        requires head { IsHead (words_of (blocks self.now.pool block)) head }
+        requires head { IsHead (words_in_block (blocks self.now.pool block)) head }
         ensures { result ≡ block_at (cells_of self.now) path (level + 1 - self.now.first) }
     {
         kid_by(&self.pool, block, head, five_bits(path, level))
@@ -181,8 +180,8 @@ impl<A: Allocator> Tree<A> {
     /// Writes the place of a block at its name.
     fn rename(&mut self, holder: u32, index: u32, place: u32)
         requires within { holder ≡ 0 → index < vec_len self.old.tops }
-        requires is_block { IsBlock (words_of (blocks self.old.pool holder)) }
-        requires kid { holder ≢ 0 → bit_at (kids_of (words_of (blocks self.old.pool holder))) index ≡ 1 }
+        requires is_block { IsBlock (words_in_block (blocks self.old.pool holder)) }
+        requires kid { holder ≢ 0 → bit_at (kid_map (words_in_block (blocks self.old.pool holder))) index ≡ 1 }
         requires five { holder ≢ 0 → index < 32 }
         requires real { place ≢ 0 }
         ensures name { WritesName (cells_of self.old) (cells_of self.new) holder index place }
@@ -480,8 +479,8 @@ impl<A: Allocator> Tree<A> {
         requires low { self.old.first ≤ level }
         requires deep { level ≤ 5 }
         requires stand { IsStand (cells_of self.old) path (level - self.old.first) stand }
-        requires no_rows { rows_of (words_of (blocks self.old.pool stand.block)) ≡ 0 }
-        requires no_kids { kids_of (words_of (blocks self.old.pool stand.block)) ≡ 0 }
+        requires no_rows { row_map (words_in_block (blocks self.old.pool stand.block)) ≡ 0 }
+        requires no_kids { kid_map (words_in_block (blocks self.old.pool stand.block)) ≡ 0 }
         ensures lost { LosesBlock (cells_of self.old) (cells_of self.new) stand.block }
         ensures first { self.new.first ≡ self.old.first }
         ensures shorts { vec_len self.new.shorts ≡ vec_len self.old.shorts }

@@ -1,7 +1,7 @@
 //! Answer words: what a row answers, in 32 bits.
 
 ghost use Rattle.std.specs.Prelude.{◌≡◌, ◌≤◌, ◌<◌};
-ghost use Rattle.array_bitmap.specs.Words.{len_of, word_of, entry_of, IsRowWord};
+ghost use Rattle.array_bitmap.specs.Words.{len_of, row_word, word_entry, IsRowWord};
 
 use network_model::Entry;
 
@@ -11,9 +11,9 @@ pub(crate) const NOTHING: u32 = 0x0300_0000;
 /// The word of a row.
 pub(crate) fn word_of(len: u8, entry: Entry) -> u32
     requires { len ≤ 32 }
-    ensures value { result ≡ word_of len entry }
+    ensures value { result ≡ row_word len entry }
     ensures row { IsRowWord len result }
-    ensures back { entry_of result ≡ entry }
+    ensures back { word_entry result ≡ entry }
 {
     let length = u32::from(len) << 26;
     match entry {
@@ -35,7 +35,7 @@ pub(crate) fn len_of(word: u32) -> u32
 
 /// The entry of a row's word.
 pub(crate) fn entry_of(word: u32) -> Entry
-    ensures { result ≡ entry_of word }
+    ensures { result ≡ word_entry word }
 {
     match (word >> 24) % 4 {
         0 => Entry::Local,

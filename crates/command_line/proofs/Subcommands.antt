@@ -7,7 +7,7 @@ use Rattle.faults.specs.declared.kind.FaultKind.{FaultKind}
 use Rattle.clap.specs.Words.{Row, Text, found_of, rows_of, subcommand_rows}
 use Rattle.clap.specs.declared.parser.matches.SubCommand.{SubCommand}
 use Rattle.clap.specs.declared.parser.matches.ArgMatches.TheViews.{out-SubCommand}
-use Rattle.command_line.specs.Asked.{Asks, AsksAs, IsAsked, command_name}
+use Rattle.command_line.specs.Asked.{AsksByMatches, AsksAs, IsAsked, command_name}
 use Rattle.command_line.specs.declared.format.Format.{Format}
 use Rattle.command_line.specs.declared.words.Words.{Words}
 use Rattle.command_line.specs.declared.words.Words.TheVariants.{Check, Run, Replay, Time, Explain, Shell}
@@ -34,7 +34,7 @@ module _ (met : Option (Text × List Row)) (name : Text) (rows : List Row) (is :
   pub none_asked : (r : Option Words) → IfNone r ((w : Words) → AsksAs name rows w → ⊥) → IfNone r ((w : Words) → IsAsked met w → ⊥)
   none_asked r none = passed_on r _ _ (λ other w it.
       let same : Some (command_name w, it.0) ≡ Some (name, rows) = sym it.1 ∙ is in
-      other w (ap (λ o. option_map_or (λ p. p.0) o name) same, subst (λ r. Asks r w) (ap (λ o. option_map_or (λ p. p.1) o rows) same) it.2)) none
+      other w (ap (λ o. option_map_or (λ p. p.0) o name) same, subst (λ r. AsksByMatches r w) (ap (λ o. option_map_or (λ p. p.1) o rows) same) it.2)) none
 
 -- ---- what was asked for, by the name of its command
 
@@ -43,7 +43,7 @@ abbrev name_key : Text → ℕ
 name_key name = 256 * length name + slice_index name 0
 
 module _ (P : Words → Type 0) (rows : List Row) where
-  pub of_check : ((f : Bor Text) (e : Bool) → Asks rows (Check f e) → P (Check f e)) → (w : Words) → AsksAs (codes "check") rows w → P w
+  pub of_check : ((f : Bor Text) (e : Bool) → AsksByMatches rows (Check f e) → P (Check f e)) → (w : Words) → AsksAs (codes "check") rows w → P w
   of_check it (Check f e) h = it f e h.1
   of_check it (Run f t k j n e o p) h = absurd (omega (arith, ap name_key h.0))
   of_check it (Replay f j e o p) h = absurd (omega (arith, ap name_key h.0))
@@ -51,7 +51,7 @@ module _ (P : Words → Type 0) (rows : List Row) where
   of_check it (Explain k) h = absurd (omega (arith, ap name_key h.0))
   of_check it (Shell f j n e o) h = absurd (omega (arith, ap name_key h.0))
 
-  pub of_run : ((f : Bor Text) (t k : ℕ) (j : Option (Bor Text)) (n e : Bool) (o : Format) (p : Bool) → Asks rows (Run f t k j n e o p) → P (Run f t k j n e o p)) → (w : Words) → AsksAs (codes "run") rows w → P w
+  pub of_run : ((f : Bor Text) (t k : ℕ) (j : Option (Bor Text)) (n e : Bool) (o : Format) (p : Bool) → AsksByMatches rows (Run f t k j n e o p) → P (Run f t k j n e o p)) → (w : Words) → AsksAs (codes "run") rows w → P w
   of_run it (Check f e) h = absurd (omega (arith, ap name_key h.0))
   of_run it (Run f t k j n e o p) h = it f t k j n e o p h.1
   of_run it (Replay f j e o p) h = absurd (omega (arith, ap name_key h.0))
@@ -59,7 +59,7 @@ module _ (P : Words → Type 0) (rows : List Row) where
   of_run it (Explain k) h = absurd (omega (arith, ap name_key h.0))
   of_run it (Shell f j n e o) h = absurd (omega (arith, ap name_key h.0))
 
-  pub of_replay : ((f j : Bor Text) (e : Bool) (o : Format) (p : Bool) → Asks rows (Replay f j e o p) → P (Replay f j e o p)) → (w : Words) → AsksAs (codes "replay") rows w → P w
+  pub of_replay : ((f j : Bor Text) (e : Bool) (o : Format) (p : Bool) → AsksByMatches rows (Replay f j e o p) → P (Replay f j e o p)) → (w : Words) → AsksAs (codes "replay") rows w → P w
   of_replay it (Check f e) h = absurd (omega (arith, ap name_key h.0))
   of_replay it (Run f t k j n e o p) h = absurd (omega (arith, ap name_key h.0))
   of_replay it (Replay f j e o p) h = it f j e o p h.1
@@ -67,7 +67,7 @@ module _ (P : Words → Type 0) (rows : List Row) where
   of_replay it (Explain k) h = absurd (omega (arith, ap name_key h.0))
   of_replay it (Shell f j n e o) h = absurd (omega (arith, ap name_key h.0))
 
-  pub of_time : ((f t : Bor Text) (s e : Bool) (o : Format) → Asks rows (Time f t s e o) → P (Time f t s e o)) → (w : Words) → AsksAs (codes "time") rows w → P w
+  pub of_time : ((f t : Bor Text) (s e : Bool) (o : Format) → AsksByMatches rows (Time f t s e o) → P (Time f t s e o)) → (w : Words) → AsksAs (codes "time") rows w → P w
   of_time it (Check f e) h = absurd (omega (arith, ap name_key h.0))
   of_time it (Run f t k j n e o p) h = absurd (omega (arith, ap name_key h.0))
   of_time it (Replay f j e o p) h = absurd (omega (arith, ap name_key h.0))
@@ -75,7 +75,7 @@ module _ (P : Words → Type 0) (rows : List Row) where
   of_time it (Explain k) h = absurd (omega (arith, ap name_key h.0))
   of_time it (Shell f j n e o) h = absurd (omega (arith, ap name_key h.0))
 
-  pub of_explain : ((k : FaultKind) → Asks rows (Explain k) → P (Explain k)) → (w : Words) → AsksAs (codes "explain") rows w → P w
+  pub of_explain : ((k : FaultKind) → AsksByMatches rows (Explain k) → P (Explain k)) → (w : Words) → AsksAs (codes "explain") rows w → P w
   of_explain it (Check f e) h = absurd (omega (arith, ap name_key h.0))
   of_explain it (Run f t k j n e o p) h = absurd (omega (arith, ap name_key h.0))
   of_explain it (Replay f j e o p) h = absurd (omega (arith, ap name_key h.0))
@@ -83,7 +83,7 @@ module _ (P : Words → Type 0) (rows : List Row) where
   of_explain it (Explain k) h = it k h.1
   of_explain it (Shell f j n e o) h = absurd (omega (arith, ap name_key h.0))
 
-  pub of_shell : ((f : Bor Text) (j : Option (Bor Text)) (n e : Bool) (o : Format) → Asks rows (Shell f j n e o) → P (Shell f j n e o)) → (w : Words) → AsksAs (codes "shell") rows w → P w
+  pub of_shell : ((f : Bor Text) (j : Option (Bor Text)) (n e : Bool) (o : Format) → AsksByMatches rows (Shell f j n e o) → P (Shell f j n e o)) → (w : Words) → AsksAs (codes "shell") rows w → P w
   of_shell it (Check f e) h = absurd (omega (arith, ap name_key h.0))
   of_shell it (Run f t k j n e o p) h = absurd (omega (arith, ap name_key h.0))
   of_shell it (Replay f j e o p) h = absurd (omega (arith, ap name_key h.0))

@@ -52,39 +52,39 @@ command_name (Explain _) = codes "explain"
 command_name (Shell _ _ _ _ _) = codes "shell"
 
 -- the matches of its command ask for this
-abbrev pub Asks : List Row → Words → Type 0
+abbrev pub AsksByMatches : List Row → Words → Type 0
 -- a file
-Asks rows (Check file explain) = (first_of (codes "file") rows ≡ Some file.now)
+AsksByMatches rows (Check file explain) = (first_of (codes "file") rows ≡ Some file.now)
     × IsFlag rows (codes "explain") explain
 -- a file, two numbers, a path if one is given, and a format; if the options do not go together, nothing is asked for
-Asks rows (Run file threads workers journal no_journal explain format progress) = (first_of (codes "file") rows ≡ Some file.now)
+AsksByMatches rows (Run file threads workers journal no_journal explain format progress) = (first_of (codes "file") rows ≡ Some file.now)
     × HasNumber rows (codes "threads") 16 threads × HasNumber rows (codes "workers") 16 workers
     × (first_of (codes "journal") rows ≡ option_map (λ path. path.now) journal)
     × IsFlag rows (codes "explain") explain × HasFormat rows format × IsFlag rows (codes "progress") progress
     × HasFlag rows (codes "no-journal") no_journal × GoTogether no_journal journal threads workers
 -- two files, and a format
-Asks rows (Replay file journal explain format progress) = (first_of (codes "file") rows ≡ Some file.now)
+AsksByMatches rows (Replay file journal explain format progress) = (first_of (codes "file") rows ≡ Some file.now)
     × (first_of (codes "journal") rows ≡ Some journal.now)
     × IsFlag rows (codes "explain") explain × HasFormat rows format × IsFlag rows (codes "progress") progress
 -- two files, whether spells are asked for, and a format
-Asks rows (Time file times spells explain format) = (first_of (codes "file") rows ≡ Some file.now)
+AsksByMatches rows (Time file times spells explain format) = (first_of (codes "file") rows ≡ Some file.now)
     × (first_of (codes "times") rows ≡ Some times.now)
     × IsFlag rows (codes "spells") spells × IsFlag rows (codes "explain") explain × HasFormat rows format
 -- the number of a fault
-Asks rows (Explain kind) = HasNumber rows (codes "number") 55 (kind_number kind)
+AsksByMatches rows (Explain kind) = HasNumber rows (codes "number") 55 (kind_number kind)
 -- a file, a path if one is given, and a format; if the options do not go together, nothing is asked for
-Asks rows (Shell file journal no_journal explain format) = (first_of (codes "file") rows ≡ Some file.now)
+AsksByMatches rows (Shell file journal no_journal explain format) = (first_of (codes "file") rows ≡ Some file.now)
     × (first_of (codes "journal") rows ≡ option_map (λ path. path.now) journal)
     × IsFlag rows (codes "explain") explain × HasFormat rows format
     × HasFlag rows (codes "no-journal") no_journal × GoTogether no_journal journal 1 1
 
 -- the matches of the command of this name ask for this
 abbrev pub AsksAs : Text → List Row → Words → Type 0
-AsksAs name rows words = (command_name words ≡ name) × Asks rows words
+AsksAs name rows words = (command_name words ≡ name) × AsksByMatches rows words
 
 -- the subcommand that was met, with its matches, asks for this
 abbrev pub IsAsked : Option (Text × List Row) → Words → Type 0
-IsAsked met words = (rows : List Row) × (met ≡ Some (command_name words, rows)) × Asks rows words
+IsAsked met words = (rows : List Row) × (met ≡ Some (command_name words, rows)) × AsksByMatches rows words
 
 -- the words are the program's name, the command and a file, which does not begin with a hyphen
 pub record IsFileLine (command file : Text) (words : List Text) : Type 0 where

@@ -10,7 +10,7 @@ use Rattle.world.specs.Steps.{CanBeRefused, HasRoomForSteps, IsDoneOr}
 use Rattle.world.proofs.Runs.{with_last_step, run-room, opening-room}
 use Rattle.course.specs.declared.sent.Sent.{Sent}
 use Rattle.course.specs.Counts.{leaving, none_sent, one_sent, sent_count, with_sent}
-use Rattle.course.specs.Course.{Course, after_step, after_steps, course_of, course_refusal, opening_course, IsCourse}
+use Rattle.course.specs.Course.{Course, course_after, course_after_all, course_of, course_refusal, opening_course, IsCourse}
 
 -- so few steps were done that no generation passes 64 bits with one more
 pub room_left : (c : Course) → IsCourse c → c.steps + 1 < 2 ^ 64 → HasRoomForSteps 1 c.world
@@ -45,7 +45,7 @@ sent_few None s = omega arith
 sent_few (Some k) s = (let more = sent_more k s in omega (arith, more))
 
 -- a step leaves what every course keeps
-pub kept_after : (c : Course) (step : Step) → IsCourse c → Lawful c.world step → c.steps + 1 < 2 ^ 64 → IsCourse (after_step c step)
+pub kept_after : (c : Course) (step : Step) → IsCourse c → Lawful c.world step → c.steps + 1 < 2 ^ 64 → IsCourse (course_after c step)
 kept_after c step kept lawful short = record {
   done = kept.done ++ step ∷ [];
   count = (let longer : length (kept.done ++ step ∷ []) ≡ length kept.done + 1 = length-append kept.done (step ∷ []) in let count = kept.count in omega (arith, longer, count));
@@ -55,14 +55,14 @@ kept_after c step kept lawful short = record {
 }
 
 -- so what is made of the parts after the step is the course after it
-pub is_after : (c : Course) (step : Step) (w : World) (sent : Sent) → w ≡ next c.world step → sent ≡ with_sent (leaving c.world step) c.sent → after_step c step ≡ course_of c.network w (c.steps + 1) sent
+pub is_after : (c : Course) (step : Step) (w : World) (sent : Sent) → w ≡ next c.world step → sent ≡ with_sent (leaving c.world step) c.sent → course_after c step ≡ course_of c.network w (c.steps + 1) sent
 is_after c step w sent world counted =
     ap (λ v. course_of c.network v (c.steps + 1) (with_sent (leaving c.world step) c.sent)) (sym world) ∙ ap (course_of c.network w (c.steps + 1)) (sym counted)
 
 -- steps after steps
-pub after_push : (c : Course) (xs : List Step) (x : Step) → after_steps c (xs ++ x ∷ []) ≡ after_step (after_steps c xs) x
+pub after_push : (c : Course) (xs : List Step) (x : Step) → course_after_all c (xs ++ x ∷ []) ≡ course_after (course_after_all c xs) x
 after_push c [] x = refl
-after_push c (y ∷ ys) x = after_push (after_step c y) ys x
+after_push c (y ∷ ys) x = after_push (course_after c y) ys x
 
 -- ---- a step that is refused
 

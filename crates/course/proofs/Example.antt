@@ -5,14 +5,14 @@ use Rattle.network_model.specs.declared.step.Step.{Step}
 use Rattle.network_model.specs.declared.step.Step.TheVariants.{LinkUp, LinkDown, Deliver, Publish, Release}
 use Rattle.network_model.specs.Turns.{next_step}
 use Rattle.course.specs.Counts.{none_sent}
-use Rattle.course.specs.Course.{Course, after_steps, opening_course}
+use Rattle.course.specs.Course.{Course, course_after_all, opening_course}
 
 -- the link comes up, both routers hear of that, and router 0 publishes
 abbrev told : List Step
 told = LinkUp 0 ∷ Deliver 0 0 ∷ Deliver 1 0 ∷ Publish 0 ∷ []
 
 abbrev after : List Step → Course
-after steps = after_steps (after_steps (opening_course pair) told) steps
+after steps = course_after_all (course_after_all (opening_course pair) told) steps
 
 -- router 0 tells router 1 of its prefix: that is one update, and one step more
 one_update : (after (Release 0 ∷ [])).sent ≡ record { updates = 1; queries = 0; replies = 0 }

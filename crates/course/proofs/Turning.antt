@@ -7,31 +7,31 @@ use Rattle.network_model.specs.Turns.{next_step}
 use Rattle.world.specs.Steps.{CanBeRefused}
 use Rattle.world.proofs.Runs.{with_last_step}
 use Rattle.convergence.proofs.Turns.{next_chosen}
-use Rattle.course.specs.Course.{Course, after_step, course_refusal}
-use Rattle.course.specs.Turns.{AreTurns, HasTurned, IsStopped, IsTurn, none_shut, open_step}
+use Rattle.course.specs.Course.{Course, course_after, course_refusal}
+use Rattle.course.specs.Turns.{AreNextSteps, HasTakenTurns, IsCourseStopped, IsNextStep, none_shut, open_step}
 use Rattle.course.proofs.Idle.{busy-unsettled}
 use Rattle.course.proofs.Courses.{after_push}
 
 -- no turn
-pub turned_none : (c : Course) → HasTurned c c 0
+pub turned_none : (c : Course) → HasTakenTurns c c 0
 turned_none c = record { steps = []; count = refl; turns = tt; runs = refl; after = refl }
 
-turns_push : (w : World) (ss : List Step) (v : World) (s : Step) → AreTurns w ss → Runs w ss v → IsTurn v s → AreTurns w (ss ++ s ∷ [])
-turns_push w [] v s turns runs turn = (subst (λ u. IsTurn u s) (sym runs) turn, tt)
+turns_push : (w : World) (ss : List Step) (v : World) (s : Step) → AreNextSteps w ss → Runs w ss v → IsNextStep v s → AreNextSteps w (ss ++ s ∷ [])
+turns_push w [] v s turns runs turn = (subst (λ u. IsNextStep u s) (sym runs) turn, tt)
 turns_push w (x ∷ xs) v s turns runs turn = (turns.0, turns_push (next w x) xs v s turns.1 runs.1 turn)
 
 -- one turn more
-pub turned_more : (old mid new : Course) (done : ℕ) (s : Step) → HasTurned old mid done → IsTurn mid.world s → Lawful mid.world s → new ≡ after_step mid s → HasTurned old new (done + 1)
+pub turned_more : (old mid new : Course) (done : ℕ) (s : Step) → HasTakenTurns old mid done → IsNextStep mid.world s → Lawful mid.world s → new ≡ course_after mid s → HasTakenTurns old new (done + 1)
 turned_more old mid new done s turned turn lawful is = record {
   steps = turned.steps ++ s ∷ [];
   count = (let longer : length (turned.steps ++ s ∷ []) ≡ length turned.steps + 1 = length-append turned.steps (s ∷ []) in let count = turned.count in omega (arith, longer, count));
   turns = turns_push old.world turned.steps mid.world s turned.turns turned.runs turn;
   runs = subst (Runs old.world (turned.steps ++ s ∷ [])) (sym (ap (λ (x : Course). x.world) is)) (with_last_step old.world turned.steps mid.world s turned.runs lawful);
-  after = is ∙ ap (λ x. after_step x s) turned.after ∙ sym (after_push old turned.steps s);
+  after = is ∙ ap (λ x. course_after x s) turned.after ∙ sym (after_push old turned.steps s);
 }
 
 -- a turn that is refused is so because no step can be counted, or for want of memory
-pub stopped : (c : Course) (step : Step) (e : Refusal) → IsTurn c.world step → CanBeRefused (course_refusal c step) e → IsStopped c e
+pub stopped : (c : Course) (step : Step) (e : Refusal) → IsNextStep c.world step → CanBeRefused (course_refusal c step) e → IsCourseStopped c e
 stopped c step e turn refused = record {
   unsettled = busy-unsettled c.world turn.0 step turn.1;
   cause = by_room (nat_lt (c.steps + 1) (2 ^ 64)) refl refused;

@@ -24,13 +24,13 @@ abbrev pub opening_course : Network → Course
 opening_course n = course_of n (opening n) 0 none_sent
 
 -- with one more step done
-abbrev pub after_step : Course → Step → Course
-after_step c s = course_of c.network (next c.world s) (c.steps + 1) (with_sent (leaving c.world s) c.sent)
+abbrev pub course_after : Course → Step → Course
+course_after c s = course_of c.network (next c.world s) (c.steps + 1) (with_sent (leaving c.world s) c.sent)
 
 -- with these steps done, one after another
-abbrev pub after_steps : Course → List Step → Course
-after_steps c [] = c
-after_steps c (x ∷ xs) = after_steps (after_step c x) xs
+abbrev pub course_after_all : Course → List Step → Course
+course_after_all c [] = c
+course_after_all c (x ∷ xs) = course_after_all (course_after c x) xs
 
 -- why a step is refused: the count of steps, of 64 bits, is full; or as the world refuses it
 abbrev pub course_refusal : Course → Step → Option Refusal

@@ -7,7 +7,7 @@ use Rattle.network_model.specs.World.{World}
 use Rattle.network_model.specs.Step.{next}
 use Rattle.network_model.specs.Run.{Runs}
 use Rattle.network_model.specs.Turns.{is_settled, next_step}
-use Rattle.course.specs.Course.{Course, after_steps}
+use Rattle.course.specs.Course.{Course, course_after_all}
 
 -- what router i has to do next, if that is not shut
 abbrev pub open_step : (Step → Bool) → World → ℕ → Option Step
@@ -18,23 +18,23 @@ abbrev pub none_shut : Step → Bool
 none_shut s = false
 
 -- the step is what some router has to do next
-abbrev pub IsTurn : World → Step → Type 0
-IsTurn w s = (i : ℕ) × (next_step w i ≡ Some s)
+abbrev pub IsNextStep : World → Step → Type 0
+IsNextStep w s = (i : ℕ) × (next_step w i ≡ Some s)
 
 -- so is each of these steps, where it is done
-abbrev pub AreTurns : World → List Step → Type 0
-AreTurns w [] = ⊤
-AreTurns w (s ∷ ss) = IsTurn w s × AreTurns (next w s) ss
+abbrev pub AreNextSteps : World → List Step → Type 0
+AreNextSteps w [] = ⊤
+AreNextSteps w (s ∷ ss) = IsNextStep w s × AreNextSteps (next w s) ss
 
 -- the one course is the other with so many steps more, each lawful, and what some router had to do next
-pub record HasTurned (old new : Course) (done : ℕ) : Type 0 where
+pub record HasTakenTurns (old new : Course) (done : ℕ) : Type 0 where
   pub steps : List Step
   pub count : length steps ≡ done
-  pub turns : AreTurns old.world steps
+  pub turns : AreNextSteps old.world steps
   pub runs : Runs old.world steps new.world
-  pub after : new ≡ after_steps old steps
+  pub after : new ≡ course_after_all old steps
 
 -- why turns end though something is left to do: no further step can be counted, or there is no memory for the next
-pub record IsStopped (c : Course) (e : Refusal) : Type 0 where
+pub record IsCourseStopped (c : Course) (e : Refusal) : Type 0 where
   pub unsettled : is_settled c.world ≡ false
   pub cause : ((e ≡ JournalFull) × (2 ^ 64 ≤ c.steps + 1)) ⊎ (e ≡ NoMemory)

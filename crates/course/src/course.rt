@@ -6,7 +6,7 @@ ghost use Rattle.network_model.specs.Turns as turns;
 ghost use Rattle.network_model.specs.Forwarding.{is_quiet};
 ghost use Rattle.world.specs.Steps.{DeliversWithRoom, DiscardsStale, HasRoomForSteps, IsDoneOr};
 ghost use Rattle.world.specs.Headline.{HasWorldHeadline, IsReached};
-ghost use Rattle.course.specs.Course.{after_step, course_refusal, opening_course};
+ghost use Rattle.course.specs.Course.{course_after, course_refusal, opening_course};
 ghost use Rattle.course.specs.Links.{HasShortWays, LeadsToRouters};
 ghost use Rattle.course.specs.Turns.{open_step};
 
@@ -176,7 +176,7 @@ impl<A: SmallAllocator> Course<A> {
     /// goes down, nor the release of a stale message.
     pub fn step(&mut self, step: Step) -> Result<(), Refusal>
         ensures ok { OnOk result (steps.Lawful (self.old).world step
-            × (self.new ≡ after_step self.old step)) }
+            × (self.new ≡ course_after self.old step)) }
         ensures err { OnErr result (self.new ≡ self.old) }
         ensures cause { IsDoneOr (course_refusal self.old step) result }
         ensures publication { (i : ℕ) → step ≡ Step.Publish i

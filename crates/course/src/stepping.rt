@@ -4,8 +4,8 @@ ghost use Rattle.std.specs.Prelude.{ℕ, ◌≡◌, ◌≤◌, ◌⊎◌, None, 
 ghost use Rattle.network_model.specs.Run.{Runs};
 ghost use Rattle.network_model.specs.Turns as turns;
 ghost use Rattle.world.specs.Steps.{StopsAt};
-ghost use Rattle.course.specs.Course.{after_steps, course_refusal};
-ghost use Rattle.course.specs.Turns.{HasTurned, IsStopped};
+ghost use Rattle.course.specs.Course.{course_after_all, course_refusal};
+ghost use Rattle.course.specs.Turns.{HasTakenTurns, IsCourseStopped};
 
 use crate::order::{Order, Turns};
 use network_model::{Refusal, Step};
@@ -17,7 +17,7 @@ pub trait Stepping {
     ghost use Rattle.network_model.specs.Step as steps;
     ghost use Rattle.network_model.specs.Turns as turns;
     ghost use Rattle.world.specs.Steps.{IsDoneOr};
-    ghost use Rattle.course.specs.Course.{Course, after_step, course_refusal};
+    ghost use Rattle.course.specs.Course.{Course, course_after, course_refusal};
 
     /// The course that it is at.
     ghost course: { Self → Course };
@@ -25,7 +25,7 @@ pub trait Stepping {
     /// Does one step.
     fn advance(&mut self, step: Step) -> Result<(), Refusal>
         ensures ok { OnOk result (steps.Lawful (course self.old).world step
-            × (course self.new ≡ after_step (course self.old) step)) }
+            × (course self.new ≡ course_after (course self.old) step)) }
         ensures err { OnErr result (course self.new ≡ course self.old) }
         ensures cause { IsDoneOr (course_refusal (course self.old) step) result };
 
@@ -46,7 +46,7 @@ pub fn run<M: Stepping>(mover: &mut M, steps: &[Step]) -> Ran
     ensures runs { Runs (M.course mover.old).world (take result.done steps.now)
         (M.course mover.new).world }
     ensures after { M.course mover.new
-        ≡ after_steps (M.course mover.old) (take result.done steps.now) }
+        ≡ course_after_all (M.course mover.old) (take result.done steps.now) }
     ensures stop { MatchOption result.refusal (result.done ≡ length steps.now)
         (StopsAt (course_refusal (M.course mover.new)) steps.now result.done) }
 {
@@ -68,11 +68,11 @@ pub fn run<M: Stepping>(mover: &mut M, steps: &[Step]) -> Ran
 /// `JournalFull` where 2^64 - 1 steps were done, or with `NoMemory`. A turn is the step that a router has to
 /// do next.
 pub fn settle<M: Stepping>(mover: &mut M, order: Order, most: usize) -> Ran
-    ensures turns { HasTurned (M.course mover.old) (M.course mover.new) result.done }
+    ensures turns { HasTakenTurns (M.course mover.old) (M.course mover.new) result.done }
     ensures most { result.done ≤ most }
     ensures stop { MatchOption result.refusal
         ((turns.is_settled (M.course mover.new).world ≡ true) ⊎ (result.done ≡ most))
-        (IsStopped (M.course mover.new)) }
+        (IsCourseStopped (M.course mover.new)) }
 {
     let mut round = Turns::new(order, mover.router_count());
     for done in 0..most {

@@ -3,12 +3,12 @@ use Rattle.std.proofs.Common.{List, [], ◌∷◌, inl, ℕ}
 use Rattle.no_packet_loops.proofs.Common.{Prefix, Topology}
 use Rattle.loop_freedom.proofs.FourFacts.{link_facts}
 use Rattle.daemon_laws.specs.Processes.{Processes}
-use Rattle.daemon_laws.specs.Packets.{NoPacketCircles, NoPacketLoops, NoMixtureLoops, NoUnmarkedCircles, NoUnmarkedLoops, NoUnmarkedMixtureLoops, NoUnmarkedWrittenCircles, NoWrittenCircles}
+use Rattle.daemon_laws.specs.Packets.{NoPacketCirclesAtDaemons, NoPacketLoopsAtDaemons, NoMixtureLoopsAtDaemons, NoUnmarkedCircles, NoUnmarkedLoops, NoUnmarkedMixtureLoops, NoUnmarkedWrittenCircles, NoWrittenCircles}
 use Rattle.daemon_laws.proofs.Shown.{AllShown, next_shown, begins_shown}
 use Rattle.daemon_laws.proofs.Ways.{marked_free, unmarked_free, marked_written, unmarked_written}
-use Rattle.daemon_laws.specs.Happenings.{Happening, Begins, AllCanHappen, after, AfterIsReached, next, IsReached, Begun, Happened, Rewired, MayRewire, rewired, CanHappen, HoldsAlways, NoneRefused}
-use Rattle.daemon_laws.specs.Facts.{fds_next, fds_after, first_fds, end_from, FourFactsAlwaysHold}
-use Rattle.daemon_laws.specs.Moments.{fds_reached, FourFactsHoldThere}
+use Rattle.daemon_laws.specs.Happenings.{Happening, IsOpening, AllCanHappen, after_happenings, AfterIsReached, after_happening, AreReached, Begun, Happened, Rewired, MayRewire, rewired, CanHappen, HoldsAlways, NoneRefused}
+use Rattle.daemon_laws.specs.Facts.{fds_next, fds_after, first_fds, end_from, LinkFactsAlwaysHold}
+use Rattle.daemon_laws.specs.Moments.{fds_reached, LinkFactsHoldThere}
 use Rattle.daemon_laws.specs.Rest.{RestIsAlwaysBest}
 use Rattle.daemon_laws.proofs.Beginning.{begins_kept}
 use Rattle.daemon_laws.proofs.Invariant.{Placed, Invariant, links_far}
@@ -33,7 +33,7 @@ pub record Always (t : Topology) (p : Prefix) (fds : ℕ → ℕ) (w : Processes
   pub shown : AllShown p w.routers fds
 
 -- so it is after what happens
-pub always_next : (t : Topology) (p : Prefix) (fds : ℕ → ℕ) (w : Processes) (h : Happening) → Always t p fds w → CanHappen w h → Always t p (fds_next p w h fds) (next t w h)
+pub always_next : (t : Topology) (p : Prefix) (fds : ℕ → ℕ) (w : Processes) (h : Happening) → Always t p fds w → CanHappen w h → Always t p (fds_next p w h fds) (after_happening t w h)
 always_next t p fds w h A can = record {
   invariant = next_keeps t p fds w A.invariant A.orderly A.placed h can;
   orderly = next_orderly t p fds w A.invariant A.orderly h can;
@@ -51,7 +51,7 @@ always_rewired t t' p fds w A R = record {
 }
 
 -- so it is, whatever has happened, and whichever neighbours ports have got
-pub always : (p : Prefix) (t : Topology) (w : Processes) (M : IsReached t w) → Always t p (fds_reached t w M p) w
+pub always : (p : Prefix) (t : Topology) (w : Processes) (M : AreReached t w) → Always t p (fds_reached t w M p) w
 always p _ _ (Begun t w B) = record {
   invariant = begins_kept t p w B;
   orderly = begins_orderly t p w B;
@@ -65,20 +65,20 @@ always p _ _ (Rewired t t' w M R) = always_rewired t t' p (fds_reached t w M p) 
 pub after_is_reached : AfterIsReached
 after_is_reached t first hs B can = from t first hs (Begun t first B) can
   where
-    from : (t : Topology) (w : Processes) (hs : List Happening) → IsReached t w → AllCanHappen t w hs → IsReached t (after t w hs)
+    from : (t : Topology) (w : Processes) (hs : List Happening) → AreReached t w → AllCanHappen t w hs → AreReached t (after_happenings t w hs)
     from t w [] M can = M
-    from t w (h ∷ hs) M can = from t (next t w h) hs (Happened t w h M can.0) can.1
+    from t w (h ∷ hs) M can = from t (after_happening t w h) hs (Happened t w h M can.0) can.1
 
 -- the invariant holds
-kept_always : (t : Topology) (first : Processes) (hs : List Happening) → Begins first → AllCanHappen t first hs → (p : Prefix) → Invariant t p (fds t first hs p) (after t first hs)
+kept_always : (t : Topology) (first : Processes) (hs : List Happening) → IsOpening first → AllCanHappen t first hs → (p : Prefix) → Invariant t p (fds t first hs p) (after_happenings t first hs)
 kept_always t first hs B can p = after_keeps t p (first_fds p first) first hs (begins_kept t p first B) (begins_orderly t p first B) (λ e out. B.nothing_comes e) can
 
 -- no packet meets a router twice
-pub always_packets_free : HoldsAlways NoPacketLoops
+pub always_packets_free : HoldsAlways NoPacketLoopsAtDaemons
 always_packets_free t w M addr p walk h = let A = always p t w M in published_free t p (fds_reached t w M p) w A.invariant addr walk h
 
 -- nor in a mixture
-pub always_mixtures_free : HoldsAlways NoMixtureLoops
+pub always_mixtures_free : HoldsAlways NoMixtureLoopsAtDaemons
 always_mixtures_free t w M by_control addr p walk h = let A = always p t w M in mixture_free t p (fds_reached t w M p) w A.invariant by_control addr walk h
 
 -- where packets carry no session, none meets a router twice
@@ -90,14 +90,14 @@ pub always_unmarked_mixtures_free : HoldsAlways NoUnmarkedMixtureLoops
 always_unmarked_mixtures_free t w M by_control addr p walk h = let A = always p t w M in unmarked_mixture_free t p (fds_reached t w M p) w A.invariant A.orderly by_control addr walk h
 
 -- the four facts hold
-pub always_facts : FourFactsAlwaysHold
+pub always_facts : LinkFactsAlwaysHold
 always_facts t first hs B can p e n v one two =
     let I = kept_always t first hs B can p in
-    let w = after t first hs in
+    let w = after_happenings t first hs in
     link_facts (end_from t p n (fds t first hs p) w e) (end_from t p n (fds t first hs p) w (t.far e)) (I.links e v n (inl one) (inl two)) (links_far I e v n (inl one) (inl two))
 
 -- also where ports have got other neighbours
-pub facts_there : FourFactsHoldThere
+pub facts_there : LinkFactsHoldThere
 facts_there t w M p e n v one two =
     let I = (always p t w M).invariant in
     let here = fds_reached t w M p in
@@ -108,7 +108,7 @@ pub rest_is_always_best : RestIsAlwaysBest
 rest_is_always_best t w M n few R p i l = let A = always p t w M in best t p (fds_reached t w M p) w A.invariant n few R i l
 
 -- no packet circles, whichever prefixes match it
-pub always_no_circles : HoldsAlways NoPacketCircles
+pub always_no_circles : HoldsAlways NoPacketCirclesAtDaemons
 always_no_circles t w M = marked_free t w (fds_reached t w M) (λ p. (always p t w M).invariant) (λ p. (always p t w M).shown)
 
 -- nor where packets carry no session

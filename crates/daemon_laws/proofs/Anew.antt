@@ -7,19 +7,19 @@ use Rattle.loop_freedom.specs.Facts.{messages}
 use Rattle.loop_freedom.proofs.Notices.{IsLawfullyHeld}
 use Rattle.daemon_laws.specs.Processes.{Carried, Processes}
 use Rattle.daemon_laws.specs.Happenings.{latest, latest_coming, last_anew, may_come_again, lost_anew}
-use Rattle.daemon_laws.proofs.Seen.{carried, arriving}
+use Rattle.daemon_laws.proofs.Seen.{carried, arriving_in}
 use Rattle.daemon_laws.proofs.Invariant.{session_of}
 use Rattle.daemon_laws.proofs.Orderly.{CarriedPast}
 
 -- ---- messages
 
 -- nothing that is on its way is of a session later than the latest
-pub none_of : (p : Prefix) (n : ℕ) (cs : List Carried) → latest cs < n → messages (arriving n (carried p cs)) ≡ []
+pub none_of : (p : Prefix) (n : ℕ) (cs : List Carried) → latest cs < n → messages (arriving_in n (carried p cs)) ≡ []
 none_of p n [] lt = refl
 none_of p n (c ∷ cs) lt = by_prefix (prefix_eq p (c.message).prefix) (none_of p n cs (omega (arith, lt)))
   where
-    by_prefix : (b : Bool) → messages (arriving n (carried p cs)) ≡ [] → messages (arriving n (if b then record { session = c.session; message = msg_of c.message } ∷ carried p cs else carried p cs)) ≡ []
-    by_prefix true rest = ap (λ d. messages (if d then Reported (msg_of c.message) ∷ arriving n (carried p cs) else arriving n (carried p cs))) (ne_eqb c.session n (λ e. omega (arith, e, lt))) ∙ rest
+    by_prefix : (b : Bool) → messages (arriving_in n (carried p cs)) ≡ [] → messages (arriving_in n (if b then record { session = c.session; message = msg_of c.message } ∷ carried p cs else carried p cs)) ≡ []
+    by_prefix true rest = ap (λ d. messages (if d then Reported (msg_of c.message) ∷ arriving_in n (carried p cs) else arriving_in n (carried p cs))) (ne_eqb c.session n (λ e. omega (arith, e, lt))) ∙ rest
     by_prefix false rest = rest
 
 -- what is lawful up to a session is so up to the latest of it

@@ -6,7 +6,7 @@ use Rattle.network_model.proofs.Common.{both_ways, and_left, Query, Reply, one_i
 use Rattle.metric.specs.Distance.{greatest_cost}
 use Rattle.network_model.specs.Network.{most_ports}
 use Rattle.std.specs.FinMap.{find as row_of}
-use Rattle.machine_laws.specs.Laws.{awaits, owes, is_active}
+use Rattle.machine_laws.specs.Laws.{awaits, owes_port, is_active}
 use Rattle.machine_laws.proofs.Opened.{opened_sound}
 use Rattle.loop_freedom.specs.Facts.{pipe, count, messages, live}
 use Rattle.loop_freedom.proofs.Lists.{one_if_at_most_one}
@@ -18,9 +18,9 @@ use Rattle.c_interface.specs.Rows.{prefix_fault}
 use Rattle.single_router.specs.Inputs.{cost_fault}
 use Rattle.single_router.specs.Openings.{first_fault_in, attachment_fault, attachment_row, attachments_fault, costs_fault, make_fault, made_router, unused_port}
 use Rattle.daemon_laws.specs.Processes.{Processes}
-use Rattle.daemon_laws.specs.Happenings.{IsMade, Begins}
+use Rattle.daemon_laws.specs.Happenings.{IsMade, IsOpening}
 use Rattle.daemon_laws.specs.Facts.{first_fds}
-use Rattle.daemon_laws.proofs.Seen.{carried, arriving, is_in}
+use Rattle.daemon_laws.proofs.Seen.{carried, arriving_in, is_port_in}
 use Rattle.daemon_laws.proofs.Routers.{faces, faces_opened, RouterKept}
 use Rattle.daemon_laws.proofs.Cheap.{IsCheap}
 use Rattle.daemon_laws.proofs.Telling.{neither}
@@ -212,7 +212,7 @@ made p r M = subst (Made p) (sym M.made) (record {
 
 -- ---- all routers
 
-module _ (t : Topology) (p : Prefix) (w : Processes) (B : Begins w) where
+module _ (t : Topology) (p : Prefix) (w : Processes) (B : IsOpening w) where
   -- what is known of each router
   known : (i : ℕ) → Made p (w.routers i)
   known i = made p (w.routers i) (B.routers_made i)
@@ -222,7 +222,7 @@ module _ (t : Topology) (p : Prefix) (w : Processes) (B : Begins w) where
   fds = first_fds p w
 
   -- no router is in a session
-  off : (e : LinkEnd) (n : ℕ) → is_in p (router_at w e) e.port n ≡ false
+  off : (e : LinkEnd) (n : ℕ) → is_port_in p (router_at w e) e.port n ≡ false
   off e n = and_left (is_up_at (machine_of (router_at w e) p) e.port) (session_of w e == n) ((known e.router).none_up e.port)
 
   -- nothing is held for a port
@@ -236,7 +236,7 @@ module _ (t : Topology) (p : Prefix) (w : Processes) (B : Begins w) where
   -- nothing is on its way from an end
   nothing_out : (n : ℕ) (e : LinkEnd) → pipe (end_from t p n fds w e) ≡ []
   nothing_out n e =
-      (λ z. (messages (arriving n (carried p (B.nothing_comes (t.far e) z))) ++ live n (ripe_empty e.router e.port z)) ++ live n (unripe_empty e.router e.port z))
+      (λ z. (messages (arriving_in n (carried p (B.nothing_comes (t.far e) z))) ++ live n (ripe_empty e.router e.port z)) ++ live n (unripe_empty e.router e.port z))
 
   -- a published row shows no port
   hidden : (n : ℕ) (e : LinkEnd) → (end_from t p n fds w e).shown ≡ false
@@ -257,16 +257,16 @@ module _ (t : Topology) (p : Prefix) (w : Processes) (B : Begins w) where
     last_is = λ e. (let z = (known e.router).never e.port in omega (arith, z));
     coming_lawful = λ e. rw (B.nothing_comes e) tt;
     cheap = λ i. (known i).cheap;
-    told = λ e v n whole one two. record { last_is = λ on. absurd (both_ways (is_in p (router_at w (t.far e)) (t.far e).port n) (off (t.far e) n) on); answers = record { answered = (let a : one_if (end_from t p n fds w e).awaits ≡ 0 = ap one_if (and_left (is_in p (router_at w e) e.port n) (awaits (machine_of (router_at w e) p) e.port) (off e n)) in omega (arith, a)) } };
+    told = λ e v n whole one two. record { last_is = λ on. absurd (both_ways (is_port_in p (router_at w (t.far e)) (t.far e).port n) (off (t.far e) n) on); answers = record { answered = (let a : one_if (end_from t p n fds w e).awaits ≡ 0 = ap one_if (and_left (is_port_in p (router_at w e) e.port n) (awaits (machine_of (router_at w e) p) e.port) (off e n)) in omega (arith, a)) } };
     links = λ e v n one two.
         let f = t.far e in
         let mx = machine_of (router_at w e) p in
         let my = machine_of (router_at w f) p in
         end_invariant_new (end_from t p n fds w e) (end_from t p n fds w f) (off e n) (nothing_out n e) (nothing_out n f) (off f n)
-        (and_left (is_in p (router_at w e) e.port n) (is_port e.port mx.successor) (off e n))
+        (and_left (is_port_in p (router_at w e) e.port n) (is_port e.port mx.successor) (off e n))
         (hidden n e)
-        (and_left (is_in p (router_at w e) e.port n) (awaits mx e.port) (off e n))
-        (and_left (is_in p (router_at w f) f.port n) (owes my f.port) (off f n))
+        (and_left (is_port_in p (router_at w e) e.port n) (awaits mx e.port) (off e n))
+        (and_left (is_port_in p (router_at w f) f.port n) (owes_port my f.port) (off f n))
         (bounded e.router);
     alone = λ e v n left two. record {
       shown_current = λ s. absurd (both_ways (end_from t p n fds w e).shown (hidden n e) s);

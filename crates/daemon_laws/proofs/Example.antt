@@ -6,8 +6,8 @@ use Rattle.single_router.specs.declared.opening.Attachment.{Attachment}
 use Rattle.single_router.specs.Openings.{made_router}
 use Rattle.single_router.specs.declared.input.Input.TheVariants as input
 use Rattle.daemon_laws.specs.Processes.{Processes}
-use Rattle.daemon_laws.specs.Happenings.{Happening, Begins, Tells, Takes, Publishes, Releases, IsMade}
-use Rattle.daemon_laws.specs.Reached.{SomeForgets, SomeNeighbour, SomePacketGoes, SomeSessionAgain}
+use Rattle.daemon_laws.specs.Happenings.{Happening, IsOpening, Tells, Takes, Publishes, Releases, IsMade}
+use Rattle.daemon_laws.specs.Reached.{SomeForgets, SomeNeighbour, SomePacketGoesAtDaemons, SomeSessionAgain}
 use Rattle.daemon_laws.specs.Packets.{is_in_session}
 
 -- all addresses, at cost 1
@@ -29,7 +29,7 @@ made_one true = record { costs = 7 ∷ []; attachments = homes true; good = refl
 made_one false = record { costs = 7 ∷ []; attachments = homes false; good = refl; made = refl }
 
 -- so they begin
-pub begins : Begins first
+pub begins : IsOpening first
 begins = record { routers_made = λ i. made_one (i == 0); nothing_comes = λ e. refl; never_up = λ e. refl; never_heard = λ e. refl; never_lost = λ e s. refl }
 
 -- each end comes up by itself; the first router tells the other, which takes that and publishes
@@ -48,7 +48,7 @@ pub seven : IsCost 7
 seven = record { positive = omega arith; small = omega arith }
 
 -- a packet goes from router 1 to router 0
-pub some_packet : SomePacketGoes
+pub some_packet : SomePacketGoesAtDaemons
 some_packet = record {
   topology = pair;
   first = first;

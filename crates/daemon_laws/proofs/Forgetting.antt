@@ -5,7 +5,7 @@ use Rattle.no_packet_loops.proofs.Common.{option_map_or, None_not_Some, Some_inj
 use Rattle.network_model.proofs.Common.{infinity}
 use Rattle.network_model.specs.declared.route.Entry.TheVariants.{Unreachable}
 use Rattle.std.specs.FinMap.{find as row_of}
-use Rattle.machine_laws.specs.Laws.{awaits_of, owes_of, reported_at, reported_of}
+use Rattle.machine_laws.specs.Laws.{awaits_of, owes_of, reported_at, reported_by}
 use Rattle.machine_laws.proofs.Opened.{opened_sound}
 use Rattle.no_packet_loops.proofs.Machines.{prefix_same}
 use Rattle.route_table.specs.Place.{without}
@@ -49,7 +49,7 @@ knows_by_test m h =
     record { computation_none = none_by_test m.computation a.0; attachment_none = none_by_test m.attachment a.1; successor_none = none_by_test m.successor b.1; rd_is = eqb-true m.rd infinity c.1; fd_is = eqb-true m.fd infinity d.1; unreported = e.1 }
 
 -- at a port that is up, infinity was reported
-unreported_up : (ns : List Neighbour) → list_all is_unreported ns ≡ true → (q : ℕ) → test_at (λ (n : Neighbour). n.up) (slice_get ns q) ≡ true → reported_of (slice_get ns q) ≡ infinity
+unreported_up : (ns : List Neighbour) → list_all is_unreported ns ≡ true → (q : ℕ) → test_at (λ (n : Neighbour). n.up) (slice_get ns q) ≡ true → reported_by (slice_get ns q) ≡ infinity
 unreported_up [] h q up = absurd (false≢true up)
 unreported_up (n ∷ ns) h zero up = by_up n.up refl (and_parts (is_unreported n) (list_all is_unreported ns) h).0 up
   where
@@ -141,7 +141,7 @@ module _ (p : Prefix) (r : Router) (R : RouterKept p r) (sound : IsSound (machin
   reported_none : (q : ℕ) → reported_at (machine_of r' p) q ≡ infinity
   reported_none q = ap (λ (m : Machine). reported_at m q) machine_now ∙ by_port (slice_get (neighbours r.ports) q) refl
     where
-      by_port : (o : Option Neighbour) → slice_get (neighbours r.ports) q ≡ o → reported_of o ≡ infinity
+      by_port : (o : Option Neighbour) → slice_get (neighbours r.ports) q ≡ o → reported_by o ≡ infinity
       by_port None at = refl
       by_port (Some n) at = (port_there q n at).nothing
 

@@ -10,7 +10,7 @@ use Rattle.loop_freedom.proofs.OnTheWay.{live-append}
 use Rattle.daemon_laws.specs.Processes.{Carried}
 use Rattle.metric.specs.Distance.{greatest_cost}
 use Rattle.daemon_laws.proofs.Cheap.{IsCheap, cheap_after, cheap_event}
-use Rattle.daemon_laws.proofs.Seen.{is_in, MayBeIn}
+use Rattle.daemon_laws.proofs.Seen.{is_port_in, MayBeIn}
 use Rattle.daemon_laws.proofs.Routers.{RouterKept, Met, Unmoved}
 use Rattle.daemon_laws.proofs.Moving.{earlier, nothing_sent, Moved, moved_unmoved, Took, took_beside, took_in, took_out}
 use Rattle.daemon_laws.proofs.Items.{met_home, moved_home, unmoved_home}
@@ -32,7 +32,7 @@ pub record Goes (p : Prefix) (r r' : Router) (q : ℕ) (took : ℕ → Option Re
   pub unripe_lawful : (j : ℕ) → IsLawfullyHeld (session_at r.ports j) (kept p j (unripe_of r)) → IsLawfullyHeld (session_at r'.ports j) (kept p j (unripe_of r'))
   pub moves_at : (n pfd : ℕ) (cs cs' : List Carried) → MayBeIn p r' q n → Moved p n pfd r r' q cs cs' (took n)
   pub moves_beside : (n pfd j : ℕ) (cs cs' : List Carried) → j ≢ q → MayBeIn p r' j n → Moved p n pfd r r' j cs cs' None
-  pub silent : (n j : ℕ) → is_in p r' j n ≡ false → live n (kept p j (unripe_of r')) ≡ live n (kept p j (unripe_of r))
+  pub silent : (n j : ℕ) → is_port_in p r' j n ≡ false → live n (kept p j (unripe_of r')) ≡ live n (kept p j (unripe_of r))
 
 -- nothing is taken in any session
 abbrev pub nothing : ℕ → Option Report
@@ -73,7 +73,7 @@ module _ (p : Prefix) (r r' : Router) (e : Event) (sound : IsSound (machine_of r
       (lawfully_held_for (session_at r'.ports j) (session_at r'.ports j) j (reaction m e).sends (omega arith) bounded))
 
   -- it holds nothing more for a session that it is not in
-  silent_met : (n j : ℕ) → is_in p r' j n ≡ false → live n (kept p j (unripe_of r')) ≡ live n (kept p j (unripe_of r))
+  silent_met : (n j : ℕ) → is_port_in p r' j n ≡ false → live n (kept p j (unripe_of r')) ≡ live n (kept p j (unripe_of r))
   silent_met n j off =
       let sent = held_for (session_at r'.ports j) (sent_to j (reaction (machine_of r p) e).sends) in
       ap (live n) (M.unripe_is j) ∙ live-append n (kept p j (unripe_of r)) sent
@@ -82,7 +82,7 @@ module _ (p : Prefix) (r r' : Router) (e : Event) (sound : IsSound (machine_of r
 
 -- the message that an item is, in a session that the router is then in
 abbrev pub taken_in : Prefix → Router → ℕ → SeenItem → ℕ → Option Report
-taken_in p r' q item n = if is_in p r' q n then message_of item else None
+taken_in p r' q item n = if is_port_in p r' q n then message_of item else None
 
 -- a router that took an item
 pub goes_took : (p : Prefix) (q : ℕ) (item : SeenItem) (r r' : Router) → IsSound (machine_of r p) → Took p q item r r' → Goes p r r' q (taken_in p r' q item)
@@ -107,7 +107,7 @@ goes_took p q item r r' sound T = record {
     ]
 
     at : (n pfd : ℕ) (cs cs' : List Carried) → MayBeIn p r' q n → Moved p n pfd r r' q cs cs' (taken_in p r' q item n)
-    at n pfd cs cs' may = elim (cases_Bool (is_in p r' q n)) [
+    at n pfd cs cs' may = elim (cases_Bool (is_port_in p r' q n)) [
       | inl on ↦ subst (λ t. Moved p n pfd r r' q cs cs' t) (sym (ap (λ b. if b then message_of item else None) on)) (took_in p q item r r' sound T n pfd cs cs' on)
       | inr off ↦ subst (λ t. Moved p n pfd r r' q cs cs' t) (sym (ap (λ b. if b then message_of item else None) off)) (took_out p q item r r' sound T n pfd cs cs' (earlier p r' q n may off))
     ]

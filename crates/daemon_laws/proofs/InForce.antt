@@ -10,7 +10,7 @@ use Rattle.loop_freedom.proofs.Published.{ShownAs, invariant_here, invariant_the
 use Rattle.loop_freedom.proofs.Notices.{IsLawfullyHeld}
 use Rattle.daemon_laws.specs.Processes.{Carried, Processes}
 use Rattle.daemon_laws.proofs.Cases.{each_but}
-use Rattle.daemon_laws.proofs.Seen.{carried, arriving, end_in, is_in}
+use Rattle.daemon_laws.proofs.Seen.{carried, arriving_in, end_in, is_port_in}
 use Rattle.daemon_laws.proofs.Routers.{RouterKept}
 use Rattle.daemon_laws.proofs.Cheap.{IsCheap}
 use Rattle.daemon_laws.proofs.Told.{Told}
@@ -60,7 +60,7 @@ pub puts_nothing : (p : Prefix) (r r' : Router) (fd fd' : ℕ) → IsSound (mach
 puts_nothing p r r' fd fd' sound keeps cheap bounded ports gate machine row same =
     puts_held p r r' fd fd' (subst IsSound (sym machine) sound) keeps (subst IsCheap (sym machine) cheap) ports gate (λ q. ap (λ m. is_up_at m q) machine) (omega (arith, bounded, same))
     (AsBefore
-    (λ n q cs. λ z. end_of (machine z) q (session_at (ports z) q) n (option_and_then next_hop (row z)) (same z) (arriving n (carried p cs)) (kept p q (take (gate z).ripe (gate z).held)) (kept p q (drop (gate z).ripe (gate z).held)))
+    (λ n q cs. λ z. end_of (machine z) q (session_at (ports z) q) n (option_and_then next_hop (row z)) (same z) (arriving_in n (carried p cs)) (kept p q (take (gate z).ripe (gate z).held)) (kept p q (drop (gate z).ripe (gate z).held)))
     (λ z. take (gate z).ripe (gate z).held))
 
 -- ---- the processes
@@ -110,17 +110,17 @@ module _ (t : Topology) (p : Prefix) (pfd pfd' : ℕ → ℕ) (w w' : Processes)
 
   -- a router is in the sessions that it was in, and was last in the same session
   record SameAt (e : LinkEnd) : Type 0 where
-    in_is : (n : ℕ) → is_in p (router_at w' e) e.port n ≡ is_in p (router_at w e) e.port n
+    in_is : (n : ℕ) → is_port_in p (router_at w' e) e.port n ≡ is_port_in p (router_at w e) e.port n
     session_is : session_of w' e ≡ session_of w e
 
   -- so it is at each end
   same_at : (e : LinkEnd) → SameAt e
   same_at e = elim (cases_eq e.router P.i) [
     | inl r ↦ record {
-      in_is = λ n. subst (λ (j : ℕ). is_in p (w'.routers j) e.port n ≡ is_in p (w.routers j) e.port n) (sym r) (λ z. (P.puts).up_is e.port z && (session_at ((P.puts).ports_are z) e.port == n));
+      in_is = λ n. subst (λ (j : ℕ). is_port_in p (w'.routers j) e.port n ≡ is_port_in p (w.routers j) e.port n) (sym r) (λ z. (P.puts).up_is e.port z && (session_at ((P.puts).ports_are z) e.port == n));
       session_is = subst (λ (j : ℕ). session_at (w'.routers j).ports e.port ≡ session_at (w.routers j).ports e.port) (sym r) (ap (λ ports. session_at ports e.port) (P.puts).ports_are);
     }
-    | inr d ↦ record { in_is = λ n. ap (λ (x : Router). is_in p x e.port n) (P.routers_elsewhere e.router d); session_is = ap (λ (x : Router). session_at x.ports e.port) (P.routers_elsewhere e.router d) }
+    | inr d ↦ record { in_is = λ n. ap (λ (x : Router). is_port_in p x e.port n) (P.routers_elsewhere e.router d); session_is = ap (λ (x : Router). session_at x.ports e.port) (P.routers_elsewhere e.router d) }
   ]
 
   -- a router may be in the sessions that it might be in

@@ -6,9 +6,9 @@ use Rattle.loop_freedom.specs.Facts.{End, pipe, count, messages, live, AtLeast, 
 use Rattle.loop_freedom.proofs.Link.{EndInvariant}
 use Rattle.loop_freedom.proofs.Notices.{IsLawfullyHeld}
 use Rattle.daemon_laws.specs.Processes.{Carried, Processes}
-use Rattle.daemon_laws.specs.Happenings.{Loses, is_same_end, is_first_of, next}
+use Rattle.daemon_laws.specs.Happenings.{Loses, is_same_end, is_first_of, after_happening}
 use Rattle.daemon_laws.proofs.Told.{Told}
-use Rattle.daemon_laws.proofs.Seen.{carried, arriving}
+use Rattle.daemon_laws.proofs.Seen.{carried, arriving_in}
 use Rattle.daemon_laws.proofs.Gone.{Gone, gone_less}
 use Rattle.daemon_laws.proofs.Invariant.{end_from, Invariant}
 
@@ -100,7 +100,7 @@ module _ (x y : End) (m : Report) (out : List Report) (is : x.out ≡ m ∷ out)
 module _ (t : Topology) (p : Prefix) (pfd : ℕ → ℕ) (w : Processes) (I : Invariant t p pfd w) (e0 : LinkEnd) where
   -- the processes after the message is lost
   abbrev w' : Processes
-  w' = next t w (Loses e0)
+  w' = after_happening t w (Loses e0)
 
   -- what an end shows before
   abbrev old : ℕ → LinkEnd → End
@@ -116,17 +116,17 @@ module _ (t : Topology) (p : Prefix) (pfd : ℕ → ℕ) (w : Processes) (I : In
     First : (m : Report) → (old n e).out ≡ m ∷ (new n e).out → Out n e
 
   -- what the prefix sees of messages without the first, in a session
-  drop_one : (n : ℕ) (cs : List Carried) → (messages (arriving n (carried p (drop 1 cs))) ≡ messages (arriving n (carried p cs))) ⊎ ((m : Report) × (messages (arriving n (carried p cs)) ≡ m ∷ messages (arriving n (carried p (drop 1 cs)))))
+  drop_one : (n : ℕ) (cs : List Carried) → (messages (arriving_in n (carried p (drop 1 cs))) ≡ messages (arriving_in n (carried p cs))) ⊎ ((m : Report) × (messages (arriving_in n (carried p cs)) ≡ m ∷ messages (arriving_in n (carried p (drop 1 cs)))))
   drop_one n [] = inl refl
   drop_one n (c ∷ cs) = by_prefix (prefix_eq p (c.message).prefix)
     where
-      by_session : (b : Bool) → (messages (arriving n (carried p cs)) ≡ messages (if b then Reported (msg_of c.message) ∷ arriving n (carried p cs) else arriving n (carried p cs)))
-          ⊎ ((m : Report) × (messages (if b then Reported (msg_of c.message) ∷ arriving n (carried p cs) else arriving n (carried p cs)) ≡ m ∷ messages (arriving n (carried p cs))))
+      by_session : (b : Bool) → (messages (arriving_in n (carried p cs)) ≡ messages (if b then Reported (msg_of c.message) ∷ arriving_in n (carried p cs) else arriving_in n (carried p cs)))
+          ⊎ ((m : Report) × (messages (if b then Reported (msg_of c.message) ∷ arriving_in n (carried p cs) else arriving_in n (carried p cs)) ≡ m ∷ messages (arriving_in n (carried p cs))))
       by_session true = inr (msg_of c.message, refl)
       by_session false = inl refl
 
-      by_prefix : (b : Bool) → (messages (arriving n (carried p cs)) ≡ messages (arriving n (if b then record { session = c.session; message = msg_of c.message } ∷ carried p cs else carried p cs)))
-          ⊎ ((m : Report) × (messages (arriving n (if b then record { session = c.session; message = msg_of c.message } ∷ carried p cs else carried p cs)) ≡ m ∷ messages (arriving n (carried p cs))))
+      by_prefix : (b : Bool) → (messages (arriving_in n (carried p cs)) ≡ messages (arriving_in n (if b then record { session = c.session; message = msg_of c.message } ∷ carried p cs else carried p cs)))
+          ⊎ ((m : Report) × (messages (arriving_in n (if b then record { session = c.session; message = msg_of c.message } ∷ carried p cs else carried p cs)) ≡ m ∷ messages (arriving_in n (carried p cs))))
       by_prefix true = by_session (c.session == n)
       by_prefix false = inl refl
 
@@ -134,29 +134,29 @@ module _ (t : Topology) (p : Prefix) (pfd : ℕ → ℕ) (w : Processes) (I : In
   out : (n : ℕ) (e : LinkEnd) → Out n e
   out n e = by_same (is_same_end (t.far e) e0) refl
     where
-      as_out : (cs : List Carried) → w'.coming (t.far e) ≡ cs → (messages (arriving n (carried p cs)) ≡ messages (arriving n (carried p (w.coming (t.far e))))) ⊎ ((m : Report) × (messages (arriving n (carried p (w.coming (t.far e)))) ≡ m ∷ messages (arriving n (carried p cs)))) → Out n e
-      as_out cs is (inl same) = Same (λ z. with_out ((ap (λ ds. messages (arriving n (carried p ds))) is ∙ same) z ++ live n (kept p e.port (ripe_of (w.routers e.router)))) (old n e))
-      as_out cs is (inr first) = First first.0 (ap (λ ms. ms ++ live n (kept p e.port (ripe_of (w.routers e.router)))) (first.1 ∙ ap (λ ds. first.0 ∷ messages (arriving n (carried p ds))) (sym is)))
+      as_out : (cs : List Carried) → w'.coming (t.far e) ≡ cs → (messages (arriving_in n (carried p cs)) ≡ messages (arriving_in n (carried p (w.coming (t.far e))))) ⊎ ((m : Report) × (messages (arriving_in n (carried p (w.coming (t.far e)))) ≡ m ∷ messages (arriving_in n (carried p cs)))) → Out n e
+      as_out cs is (inl same) = Same (λ z. with_out ((ap (λ ds. messages (arriving_in n (carried p ds))) is ∙ same) z ++ live n (kept p e.port (ripe_of (w.routers e.router)))) (old n e))
+      as_out cs is (inr first) = First first.0 (ap (λ ms. ms ++ live n (kept p e.port (ripe_of (w.routers e.router)))) (first.1 ∙ ap (λ ds. first.0 ∷ messages (arriving_in n (carried p ds))) (sym is)))
 
       by_same : (b : Bool) → is_same_end (t.far e) e0 ≡ b → Out n e
       by_same true is = as_out (drop 1 (w.coming (t.far e))) (ap (λ b. if b then drop 1 (w.coming (t.far e)) else w.coming (t.far e)) is) (drop_one n (w.coming (t.far e)))
       by_same false is = as_out (w.coming (t.far e)) (ap (λ b. if b then drop 1 (w.coming (t.far e)) else w.coming (t.far e)) is) (inl refl)
 
   -- where the first message is not of the session, nothing of it goes with that
-  drop_same : (n : ℕ) (cs : List Carried) → is_first_of n cs ≡ false → messages (arriving n (carried p (drop 1 cs))) ≡ messages (arriving n (carried p cs))
+  drop_same : (n : ℕ) (cs : List Carried) → is_first_of n cs ≡ false → messages (arriving_in n (carried p (drop 1 cs))) ≡ messages (arriving_in n (carried p cs))
   drop_same n [] other = refl
   drop_same n (c ∷ cs) other = by_prefix (prefix_eq p (c.message).prefix)
     where
-      by_prefix : (b : Bool) → messages (arriving n (carried p cs)) ≡ messages (arriving n (if b then record { session = c.session; message = msg_of c.message } ∷ carried p cs else carried p cs))
-      by_prefix true = sym (ap (λ b. messages (if b then Reported (msg_of c.message) ∷ arriving n (carried p cs) else arriving n (carried p cs))) other)
+      by_prefix : (b : Bool) → messages (arriving_in n (carried p cs)) ≡ messages (arriving_in n (if b then record { session = c.session; message = msg_of c.message } ∷ carried p cs else carried p cs))
+      by_prefix true = sym (ap (λ b. messages (if b then Reported (msg_of c.message) ∷ arriving_in n (carried p cs) else arriving_in n (carried p cs))) other)
       by_prefix false = refl
 
   -- so where nothing of the session was lost, an end is as before
   out_same : (n : ℕ) (e : LinkEnd) → w'.lost (t.far e) n ≡ false → new n e ≡ old n e
   out_same n e whole = by_same (is_same_end (t.far e) e0) refl
     where
-      as_same : (cs : List Carried) → w'.coming (t.far e) ≡ cs → messages (arriving n (carried p cs)) ≡ messages (arriving n (carried p (w.coming (t.far e)))) → new n e ≡ old n e
-      as_same cs is same = λ z. with_out ((ap (λ ds. messages (arriving n (carried p ds))) is ∙ same) z ++ live n (kept p e.port (ripe_of (w.routers e.router)))) (old n e)
+      as_same : (cs : List Carried) → w'.coming (t.far e) ≡ cs → messages (arriving_in n (carried p cs)) ≡ messages (arriving_in n (carried p (w.coming (t.far e)))) → new n e ≡ old n e
+      as_same cs is same = λ z. with_out ((ap (λ ds. messages (arriving_in n (carried p ds))) is ∙ same) z ++ live n (kept p e.port (ripe_of (w.routers e.router)))) (old n e)
 
       other : (b : Bool) → (b && is_first_of n (w.coming (t.far e))) ≡ false → b ≡ true → is_first_of n (w.coming (t.far e)) ≡ false
       other true h is = h
@@ -205,7 +205,7 @@ module _ (t : Topology) (p : Prefix) (pfd : ℕ → ℕ) (w : Processes) (I : In
       by_same false = I.coming_lawful e
 
   -- a message that is lost keeps the invariant
-  pub loses_keeps : Invariant t p pfd (next t w (Loses e0))
+  pub loses_keeps : Invariant t p pfd (after_happening t w (Loses e0))
   loses_keeps = record {
     sound = I.sound;
     pfd_bounded = I.pfd_bounded;

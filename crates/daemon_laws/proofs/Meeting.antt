@@ -9,7 +9,7 @@ use Rattle.loop_freedom.proofs.LinkSteps.{LinkStep, step_keeps}
 use Rattle.loop_freedom.proofs.Notices.{IsLawfullyHeld, lawfully_held_later}
 use Rattle.daemon_laws.specs.Processes.{Processes}
 use Rattle.daemon_laws.proofs.Cases.{each_but}
-use Rattle.daemon_laws.proofs.Seen.{carried, messages_arriving, is_in, MayBeIn}
+use Rattle.daemon_laws.proofs.Seen.{carried, messages_arriving, is_port_in, MayBeIn}
 use Rattle.daemon_laws.proofs.Routers.{RouterKept, Unmoved}
 use Rattle.daemon_laws.proofs.Moving.{in_session, hop_same, Moved, moved_unmoved}
 use Rattle.daemon_laws.proofs.Goes.{Goes}
@@ -73,7 +73,7 @@ module _ (t : Topology) (p : Prefix) (pfd : ℕ → ℕ) (w w' : Processes) (I :
 
       before : MayBeIn p (w.routers G.i) j n
       before = elim (cases_eq j G.q) [
-        | inl e ↦ subst (λ (k : ℕ). is_in p (w'.routers G.i) k n ≡ true → MayBeIn p (w.routers G.i) k n) (sym e) (λ o. ((G.goes).moves_at n 0 [] [] (inl o)).was) on
+        | inl e ↦ subst (λ (k : ℕ). is_port_in p (w'.routers G.i) k n ≡ true → MayBeIn p (w.routers G.i) k n) (sym e) (λ o. ((G.goes).moves_at n 0 [] [] (inl o)).was) on
         | inr d ↦ ((G.goes).moves_beside n 0 j [] [] d (inl on)).was
       ]
 
@@ -121,7 +121,7 @@ module _ (t : Topology) (p : Prefix) (pfd : ℕ → ℕ) (w w' : Processes) (I :
       near_away (inr lt) = inr (let le = G.last_after e in omega (arith, le, lt))
 
       by_may : MayBe p n w' e → MayBe p n w e
-      by_may (inl on) = inl (ap (λ (r : Router). is_in p r e.port n) (sym (G.routers_elsewhere e.router d)) ∙ on)
+      by_may (inl on) = inl (ap (λ (r : Router). is_port_in p r e.port n) (sym (G.routers_elsewhere e.router d)) ∙ on)
       by_may (inr lt) = inr (let le = G.last_grows e in omega (arith, le, lt))
 
   -- each end of a router that may be in the session after the step makes an end step
@@ -138,9 +138,9 @@ module _ (t : Topology) (p : Prefix) (pfd : ℕ → ℕ) (w w' : Processes) (I :
     unripe_is : live n (kept p e.port (unripe_of (router_at w' e))) ≡ live n (kept p e.port (unripe_of (router_at w e)))
 
   -- so it is of each router that has left the session
-  silent : (n : ℕ) (e : LinkEnd) → is_in p (router_at w' e) e.port n ≡ false → Silent n e
+  silent : (n : ℕ) (e : LinkEnd) → is_port_in p (router_at w' e) e.port n ≡ false → Silent n e
   silent n e off = elim (cases_eq e.router G.i) [
-    | inl r ↦ subst (λ (f : LinkEnd). is_in p (router_at w' f) f.port n ≡ false → Silent n f) (sym (ap (λ (k : ℕ). at_port k e.port) r))
+    | inl r ↦ subst (λ (f : LinkEnd). is_port_in p (router_at w' f) f.port n ≡ false → Silent n f) (sym (ap (λ (k : ℕ). at_port k e.port) r))
         (λ m. record { hop_is = hop_same p (w.routers G.i) (w'.routers G.i) (G.goes).published_is; ripe_is = (G.goes).ripe_is e.port; unripe_is = (G.goes).silent n e.port m }) off
     | inr d ↦
         let same : router_at w' e ≡ router_at w e = G.routers_elsewhere e.router d in

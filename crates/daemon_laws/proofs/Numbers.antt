@@ -5,7 +5,7 @@ use Rattle.network_model.proofs.Common.{cases_eq, cases_Bool}
 use Rattle.router_core.specs.Alone.{router_publishing_some, may_forget, router_forgetting}
 use Rattle.single_router.specs.Openings.{made_router}
 use Rattle.daemon_laws.specs.Processes.{Processes}
-use Rattle.daemon_laws.specs.Happenings.{Happening, Tells, Takes, Loses, Publishes, PublishesSome, Forgets, Releases, BeginsAnew, CanHappen, with_router, is_same_end, forgotten, with_released, next, latest, latest_coming, last_anew, link_stays, rewired, Begun, Happened, Rewired}
+use Rattle.daemon_laws.specs.Happenings.{Happening, Tells, Takes, Loses, Publishes, PublishesSome, Forgets, Releases, BeginsAnew, CanHappen, with_process, is_same_end, forgotten, having_released, after_happening, latest, latest_coming, last_anew, link_stays, rewired, Begun, Happened, Rewired}
 use Rattle.daemon_laws.specs.Moments.{fds_reached}
 use Rattle.daemon_laws.specs.Numbers.{EndsCleanly, BothKnow, NumbersSuffice}
 use Rattle.daemon_laws.proofs.Cases.{after_message, by_take, by_release}
@@ -23,7 +23,7 @@ at_grows t p w w' G e = elim (cases_eq e.router G.i) [
 ]
 
 -- where ports stay so do sessions
-ports_stay : (i : ℕ) (f : Router → Router) (rs : ℕ → Router) → ((r : Router) → (f r).ports ≡ r.ports) → (e : LinkEnd) → session_at (with_router i f rs e.router).ports e.port ≡ session_at (rs e.router).ports e.port
+ports_stay : (i : ℕ) (f : Router → Router) (rs : ℕ → Router) → ((r : Router) → (f r).ports ≡ r.ports) → (e : LinkEnd) → session_at (with_process i f rs e.router).ports e.port ≡ session_at (rs e.router).ports e.port
 ports_stay i f rs same e = by_test (e.router == i)
   where
     by_test : (b : Bool) → session_at (if b then f (rs e.router) else rs e.router).ports e.port ≡ session_at (rs e.router).ports e.port
@@ -44,34 +44,34 @@ module _ (t : Topology) (w : Processes) (K : BothKnow t w) where
   kept_by v less grows e valid apart = (let k = K e valid apart in let l = less e in let a = grows e in let b = grows (t.far e) in omega (arith, k, l, a, b))
 
   -- where ports stay
-  kept_with : (i : ℕ) (f : Router → Router) → ((r : Router) → (f r).ports ≡ r.ports) → (v : Processes) → ((j : ℕ) → v.routers j ≡ with_router i f w.routers j) → ((e : LinkEnd) → v.last e ≡ w.last e) → BothKnow t v
+  kept_with : (i : ℕ) (f : Router → Router) → ((r : Router) → (f r).ports ≡ r.ports) → (v : Processes) → ((j : ℕ) → v.routers j ≡ with_process i f w.routers j) → ((e : LinkEnd) → v.last e ≡ w.last e) → BothKnow t v
   kept_with i f same v is last = kept_by v (λ e. (let l = last e in omega (arith, l)))
       (λ e. (let s : session_of v e ≡ session_of w e = ap (λ (r : Router). session_at r.ports e.port) (is e.router) ∙ ports_stay i f w.routers same e in omega (arith, s)))
 
   module _ (p : Prefix) (fds : ℕ → ℕ) (I : Invariant t p fds w) where
     -- whatever happens
-    known_next : (h : Happening) → CanHappen w h → EndsCleanly t w h → BothKnow t (next t w h)
-    known_next (Tells i x) can clean = kept_by (next t w (Tells i x)) (λ e. omega arith) (at_grows t p w (next t w (Tells i x)) (tells_at t p fds w I i x can))
+    known_next : (h : Happening) → CanHappen w h → EndsCleanly t w h → BothKnow t (after_happening t w h)
+    known_next (Tells i x) can clean = kept_by (after_happening t w (Tells i x)) (λ e. omega arith) (at_grows t p w (after_happening t w (Tells i x)) (tells_at t p fds w I i x can))
     known_next (Takes e) can clean = by_take t w (BothKnow t) K e (λ c at le.
         let G = taken_at t p fds w I e c at le in
         kept_by (after_message e w c) (λ d. omega arith) (at_grows t p w (after_message e w c) G))
     known_next (Loses e) can clean = K
-    known_next (Publishes i) can clean = kept_with i router_publishing (λ r. refl) (next t w (Publishes i)) (λ j. refl) (λ e. refl)
-    known_next (PublishesSome i n) can clean = kept_with i (router_publishing_some n) (λ r. refl) (next t w (PublishesSome i n)) (λ j. refl) (λ e. refl)
-    known_next (Forgets i k) can clean = kept_with i (forgotten k) (forgotten_ports k) (next t w (Forgets i k)) (λ j. refl) (λ e. refl)
-    known_next (Releases i) can clean = by_release t w (BothKnow t) K i (λ h at. kept_with i router_releasing (λ r. refl) (with_released t i w h) (λ j. refl) (λ e. refl))
+    known_next (Publishes i) can clean = kept_with i router_publishing (λ r. refl) (after_happening t w (Publishes i)) (λ j. refl) (λ e. refl)
+    known_next (PublishesSome i n) can clean = kept_with i (router_publishing_some n) (λ r. refl) (after_happening t w (PublishesSome i n)) (λ j. refl) (λ e. refl)
+    known_next (Forgets i k) can clean = kept_with i (forgotten k) (forgotten_ports k) (after_happening t w (Forgets i k)) (λ j. refl) (λ e. refl)
+    known_next (Releases i) can clean = by_release t w (BothKnow t) K i (λ h at. kept_with i router_releasing (λ r. refl) (having_released t i w h) (λ j. refl) (λ e. refl))
     known_next (BeginsAnew i costs attachments) can clean = anew
       where
         v : Processes
-        v = next t w (BeginsAnew i costs attachments)
+        v = after_happening t w (BeginsAnew i costs attachments)
 
-        away : (e : LinkEnd) → e.router ≢ i → session_of (next t w (BeginsAnew i costs attachments)) e ≡ session_of w e
+        away : (e : LinkEnd) → e.router ≢ i → session_of (after_happening t w (BeginsAnew i costs attachments)) e ≡ session_of w e
         away e d = ap (λ (r : Router). session_at r.ports e.port) (router_away i (λ r. made_router costs attachments) w.routers e.router d)
 
-        anew : BothKnow t (next t w (BeginsAnew i costs attachments))
+        anew : BothKnow t (after_happening t w (BeginsAnew i costs attachments))
         anew e valid apart = by_place (anew_at t i w e)
           where
-            by_place : Anew t i w e → last_anew t i w e ≤ max (session_of (next t w (BeginsAnew i costs attachments)) e) (session_of (next t w (BeginsAnew i costs attachments)) (t.far e))
+            by_place : Anew t i w e → last_anew t i w e ≤ max (session_of (after_happening t w (BeginsAnew i costs attachments)) e) (session_of (after_happening t w (BeginsAnew i costs attachments)) (t.far e))
             by_place (Here g is) =
                 let c = clean e valid g in
                 let s = away (t.far e) (λ x. apart (g ∙ sym x)) in

@@ -10,10 +10,10 @@ use Rattle.single_router.specs.declared.opening.Attachment.{Attachment}
 use Rattle.single_router.specs.Inputs.{told_fault}
 use Rattle.single_router.specs.Openings.{make_fault, made_router}
 use Rattle.daemon_laws.specs.Processes.{Carried, Processes}
-use Rattle.daemon_laws.specs.Happenings.{Happening, Tells, Takes, Loses, Publishes, PublishesSome, Forgets, Releases, BeginsAnew, IsLocalInput, CanHappen, with_router, is_same_end, with_coming, told, forgotten, with_released, next, after, Begins, AllCanHappen}
+use Rattle.daemon_laws.specs.Happenings.{Happening, Tells, Takes, Loses, Publishes, PublishesSome, Forgets, Releases, BeginsAnew, IsLocalInput, CanHappen, with_process, is_same_end, with_coming, told_router, forgotten, having_released, after_happening, after_happenings, IsOpening, AllCanHappen}
 use Rattle.daemon_laws.specs.Facts.{fds_next}
 use Rattle.daemon_laws.proofs.Cases.{after_message, by_take, by_release}
-use Rattle.daemon_laws.proofs.Seen.{is_in}
+use Rattle.daemon_laws.proofs.Seen.{is_port_in}
 use Rattle.daemon_laws.proofs.Moving.{in_session}
 use Rattle.daemon_laws.proofs.Invariant.{router_at, session_of, Invariant}
 use Rattle.daemon_laws.proofs.Meeting.{GoesAt, may_before}
@@ -83,7 +83,7 @@ module _ (t : Topology) (p : Prefix) (pfd : ℕ → ℕ) (w w' : Processes) (I :
       here q u =
           let e = at_port i q in
           let n = session_of w' e in
-          let on : is_in p (router_at w' e) q n ≡ true = and_from (is_up_at (machine_of (router_at w' e) p) q) (n == n) u (eq-eqb n n refl) in
+          let on : is_port_in p (router_at w' e) q n ≡ true = and_from (is_up_at (machine_of (router_at w' e) p) q) (n == n) u (eq-eqb n n refl) in
           let m = G.last_most e in
           elim (may_before t p pfd w w' I (G.at) n q (inl on)) [
             | inl was ↦
@@ -196,7 +196,7 @@ module _ (t : Topology) (p : Prefix) (pfd : ℕ → ℕ) (w : Processes) (I : In
 
   -- the processes after
   abbrev v : Processes
-  v = with_released t i w h
+  v = having_released t i w h
 
   -- the message is the first of those that it may release
   ripe_is : ripe_of r ≡ h ∷ ripe_of (router_releasing r)
@@ -204,7 +204,7 @@ module _ (t : Topology) (p : Prefix) (pfd : ℕ → ℕ) (w : Processes) (I : In
 
   -- the router then
   released_now : (e : LinkEnd) → e.router ≡ i → router_at v e ≡ router_releasing r
-  released_now e g = ap (with_router i router_releasing w.routers) g ∙ router_here i router_releasing w.routers
+  released_now e g = ap (with_process i router_releasing w.routers) g ∙ router_here i router_releasing w.routers
 
   -- another router
   released_away : (e : LinkEnd) → (e.router ≡ i → ⊥) → router_at v e ≡ router_at w e
@@ -281,10 +281,10 @@ module _ (t : Topology) (p : Prefix) (pfd : ℕ → ℕ) (w : Processes) (I : In
 
 module _ (t : Topology) (p : Prefix) (pfd : ℕ → ℕ) (w : Processes) (I : Invariant t p pfd w) (O : Orderly t p w) where
   -- a process tells its router
-  tells_orderly : (i : ℕ) (x : Input) → IsLocalInput w i x → Orderly t p (next t w (Tells i x))
-  tells_orderly i x own = grows_orderly t p pfd w (next t w (Tells i x)) I O (record {
+  tells_orderly : (i : ℕ) (x : Input) → IsLocalInput w i x → Orderly t p (after_happening t w (Tells i x))
+  tells_orderly i x own = grows_orderly t p pfd w (after_happening t w (Tells i x)) I O (record {
     at = tells_at t p pfd w I i x own;
-    more = subst (HoldsMore (w.routers i)) (sym (router_here i (told x) w.routers)) (told_more x (w.routers i));
+    more = subst (HoldsMore (w.routers i)) (sym (router_here i (told_router x) w.routers)) (told_more x (w.routers i));
     last_most = λ e. omega arith;
     coming_fewer = λ e n h. h;
     hears = λ d. Before refl;
@@ -299,12 +299,12 @@ module _ (t : Topology) (p : Prefix) (pfd : ℕ → ℕ) (w : Processes) (I : In
       by_same false = h
 
   -- a process takes a message
-  takes_orderly : (e : LinkEnd) → Orderly t p (next t w (Takes e))
+  takes_orderly : (e : LinkEnd) → Orderly t p (after_happening t w (Takes e))
   takes_orderly e = by_take t w (Orderly t p) O e (λ c at le.
       let m = input.Message e.port c.session c.message in
       grows_orderly t p pfd w (after_message e w c) I O (record {
         at = taken_at t p pfd w I e c at le;
-        more = subst (HoldsMore (w.routers e.router)) (sym (router_here e.router (told m) w.routers)) (told_more m (w.routers e.router));
+        more = subst (HoldsMore (w.routers e.router)) (sym (router_here e.router (told_router m) w.routers)) (told_more m (w.routers e.router));
         last_most = λ d. omega arith;
         coming_fewer = fewer e;
         hears = λ d. as_hears (after_message e w c) c d (hears c at le d (is_same_end d e) refl (is_none (told_fault m (w.routers e.router))) refl);
@@ -325,7 +325,7 @@ module _ (t : Topology) (p : Prefix) (pfd : ℕ → ℕ) (w : Processes) (I : In
       as_hears v c d (inr now) = Now c now.0 now.1 now.2
 
   -- a message is lost
-  loses_orderly : (e : LinkEnd) → Orderly t p (next t w (Loses e))
+  loses_orderly : (e : LinkEnd) → Orderly t p (after_happening t w (Loses e))
   loses_orderly e = record {
     up_last = O.up_last;
     held_past = O.held_past;
@@ -340,10 +340,10 @@ module _ (t : Topology) (p : Prefix) (pfd : ℕ → ℕ) (w : Processes) (I : In
 
   -- a router puts rows in force, or forgets a prefix
   puts_orderly : (i : ℕ) (f : Router → Router) (fd fd' : ℕ) → PutsInForce p (w.routers i) (f (w.routers i)) fd fd'
-      → Orderly t p (record { routers = with_router i f w.routers; coming = w.coming; last = w.last; heard = w.heard; lost = w.lost })
+      → Orderly t p (record { routers = with_process i f w.routers; coming = w.coming; last = w.last; heard = w.heard; lost = w.lost })
   puts_orderly i f fd fd' P = record {
     up_last = λ e u. (let s = same e in let l = O.up_last e (sym (s.up_is) ∙ u) in let q = s.session_is in omega (arith, l, q));
-    held_past = λ e. held_now e (session_of (record { routers = with_router i f w.routers; coming = w.coming; last = w.last; heard = w.heard; lost = w.lost }) e) (let q = (same e).session_is in omega (arith, q));
+    held_past = λ e. held_now e (session_of (record { routers = with_process i f w.routers; coming = w.coming; last = w.last; heard = w.heard; lost = w.lost }) e) (let q = (same e).session_is in omega (arith, q));
     coming_past = O.coming_past;
     heard_past = O.heard_past;
     heard_here = λ e. (let h = O.heard_here e in let q = (same e).session_is in omega (arith, h, q));
@@ -354,12 +354,12 @@ module _ (t : Topology) (p : Prefix) (pfd : ℕ → ℕ) (w : Processes) (I : In
   }
     where
       w' : Processes
-      w' = record { routers = with_router i f w.routers; coming = w.coming; last = w.last; heard = w.heard; lost = w.lost }
+      w' = record { routers = with_process i f w.routers; coming = w.coming; last = w.last; heard = w.heard; lost = w.lost }
 
-      now : (e : LinkEnd) → e.router ≡ i → with_router i f w.routers e.router ≡ f (w.routers i)
-      now e g = ap (with_router i f w.routers) g ∙ router_here i f w.routers
+      now : (e : LinkEnd) → e.router ≡ i → with_process i f w.routers e.router ≡ f (w.routers i)
+      now e g = ap (with_process i f w.routers) g ∙ router_here i f w.routers
 
-      same : (e : LinkEnd) → SameSessions p w (record { routers = with_router i f w.routers; coming = w.coming; last = w.last; heard = w.heard; lost = w.lost }) e
+      same : (e : LinkEnd) → SameSessions p w (record { routers = with_process i f w.routers; coming = w.coming; last = w.last; heard = w.heard; lost = w.lost }) e
       same e = elim (cases_eq e.router i) [
         | inl g ↦ same_sessions_by p w w' e (f (w.routers i)) (now e g) (ap w.routers g) (P.up_is e.port) (ap (λ ports. session_at ports e.port) P.ports_are) P.held_is
         | inr d ↦ same_sessions_by p w w' e (w.routers e.router) (router_away i f w.routers e.router d) refl refl refl refl
@@ -367,16 +367,16 @@ module _ (t : Topology) (p : Prefix) (pfd : ℕ → ℕ) (w : Processes) (I : In
 
       -- what an end shows then is of the last session of its end, or it showed that before, and may release no more
       Either : LinkEnd → ℕ → Type 0
-      Either e k = ((w.last e ≤ k) × (k ≤ session_of w e)) ⊎ (Shows p w e k × (ripe_of (with_router i f w.routers e.router) ≡ ripe_of (w.routers e.router)))
+      Either e k = ((w.last e ≤ k) × (k ≤ session_of w e)) ⊎ (Shows p w e k × (ripe_of (with_process i f w.routers e.router) ≡ ripe_of (w.routers e.router)))
 
-      held_now : (e : LinkEnd) (k : ℕ) → session_of w e ≤ k → HeldPast e.port k ((with_router i f w.routers e.router).gate).held
+      held_now : (e : LinkEnd) (k : ℕ) → session_of w e ≤ k → HeldPast e.port k ((with_process i f w.routers e.router).gate).held
       held_now e k le = subst (λ hs. HeldPast e.port k hs) (sym (same e).held_is) (held_later e.port (session_of w e) k ((router_at w e).gate).held le (O.held_past e))
 
       by_past : (e : LinkEnd) (k : ℕ) → Either e k → k ≤ session_of w e
       by_past e k (inl late) = late.1
       by_past e k (inr before) = O.row_past e k before.0
 
-      in_last : (e : LinkEnd) → e.router ≡ i → (k : ℕ) → is_in p (w.routers i) e.port k ≡ true → (w.last e ≤ k) × (k ≤ session_of w e)
+      in_last : (e : LinkEnd) → e.router ≡ i → (k : ℕ) → is_port_in p (w.routers i) e.port k ≡ true → (w.last e ≤ k) × (k ≤ session_of w e)
       in_last e g k on =
           let r = w.routers i in
           let up : is_up_at (machine_of r p) e.port ≡ true = (and_parts (is_up_at (machine_of r p) e.port) (session_at r.ports e.port == k) on).0 in
@@ -388,23 +388,23 @@ module _ (t : Topology) (p : Prefix) (pfd : ℕ → ℕ) (w : Processes) (I : In
       by_ends : (e : LinkEnd) → e.router ≡ i → (k : ℕ) → is_next_hop e.port k (next_hop_at p (f (w.routers i))) ≡ true → Ends p (w.routers i) (f (w.routers i)) fd fd' → Either e k
       by_ends e g k shown (AsChosen ends) =
           let r = w.routers i in
-          let as_chosen : is_next_hop e.port k (next_hop_at p (f r)) ≡ (is_in p r e.port k && is_port e.port (machine_of r p).successor) = ap (λ (x : End). x.shown) (ends k e.port []).is in
-          inl (in_last e g k (and_parts (is_in p r e.port k) (is_port e.port (machine_of r p).successor) (sym as_chosen ∙ shown)).0)
+          let as_chosen : is_next_hop e.port k (next_hop_at p (f r)) ≡ (is_port_in p r e.port k && is_port e.port (machine_of r p).successor) = ap (λ (x : End). x.shown) (ends k e.port []).is in
+          inl (in_last e g k (and_parts (is_port_in p r e.port k) (is_port e.port (machine_of r p).successor) (sym as_chosen ∙ shown)).0)
       by_ends e g k shown (AsBefore ends ripe) =
           inr (
             subst (λ (j : ℕ). is_next_hop e.port k (next_hop_at p (w.routers j)) ≡ true) (sym g) (sym (ap (λ (x : End). x.shown) (ends k e.port [])) ∙ shown),
             ap ripe_of (now e g) ∙ ripe ∙ ap (λ (j : ℕ). ripe_of (w.routers j)) (sym g),
           )
 
-      shows : (e : LinkEnd) (k : ℕ) → is_next_hop e.port k (next_hop_at p (with_router i f w.routers e.router)) ≡ true → Either e k
+      shows : (e : LinkEnd) (k : ℕ) → is_next_hop e.port k (next_hop_at p (with_process i f w.routers e.router)) ≡ true → Either e k
       shows e k h = elim (cases_eq e.router i) [
         | inl g ↦ by_ends e g k (subst (λ (x : Router). is_next_hop e.port k (next_hop_at p x) ≡ true) (now e g) h) P.ends
         | inr d ↦ inr (subst (λ (r : Router). is_next_hop e.port k (next_hop_at p r) ≡ true) (router_away i f w.routers e.router d) h, ap ripe_of (router_away i f w.routers e.router d))
       ]
 
-      by_row : (e : LinkEnd) (k : ℕ) → Either e k → HeldPast e.port k (ripe_of (with_router i f w.routers e.router))
+      by_row : (e : LinkEnd) (k : ℕ) → Either e k → HeldPast e.port k (ripe_of (with_process i f w.routers e.router))
       by_row e k (inl late) =
-          let r = with_router i f w.routers e.router in
+          let r = with_process i f w.routers e.router in
           held_take e.port k (r.gate).ripe (r.gate).held (held_now e k (let a = late.0 in let l = I.last_is e in omega (arith, a, l)))
       by_row e k (inr before) = subst (λ hs. HeldPast e.port k hs) (sym before.1) (O.row_held e k before.0)
 
@@ -417,14 +417,14 @@ module _ (t : Topology) (p : Prefix) (pfd : ℕ → ℕ) (w : Processes) (I : In
       by_heard e v k (inr before) = O.row_heard e v k before.0
 
   -- a router releases a message
-  releases_orderly : (i : ℕ) → Orderly t p (next t w (Releases i))
+  releases_orderly : (i : ℕ) → Orderly t p (after_happening t w (Releases i))
   releases_orderly i = by_release t w (Orderly t p) O i (λ h at. released_orderly t p pfd w I O i h at)
 
   -- a process ends, and another begins in its place
-  anew_orderly : (i : ℕ) (costs : List ℕ) (attachments : List Attachment) → make_fault costs attachments ≡ None → Orderly t p (next t w (BeginsAnew i costs attachments))
+  anew_orderly : (i : ℕ) (costs : List ℕ) (attachments : List Attachment) → make_fault costs attachments ≡ None → Orderly t p (after_happening t w (BeginsAnew i costs attachments))
   anew_orderly i costs attachments good = record {
     up_last = λ e u. elim (cases_eq e.router i) [
-      | inl g ↦ absurd (both_ways (is_up_at (machine_of (with_router i (λ r. made_router costs attachments) w.routers e.router) p) e.port) ((made_at e g).none_up e.port) u)
+      | inl g ↦ absurd (both_ways (is_up_at (machine_of (with_process i (λ r. made_router costs attachments) w.routers e.router) p) e.port) ((made_at e g).none_up e.port) u)
       | inr d ↦
           let l = O.up_last e (ap (λ (r : Router). is_up_at (machine_of r p) e.port) (sym (away e d)) ∙ u) in
           let s = session_away e d in
@@ -432,7 +432,7 @@ module _ (t : Topology) (p : Prefix) (pfd : ℕ → ℕ) (w : Processes) (I : In
           omega (arith, l, s, less)
     ];
     held_past = λ e. elim (cases_eq e.router i) [
-      | inl g ↦ subst (λ hs. HeldPast e.port (session_at (with_router i (λ r. made_router costs attachments) w.routers e.router).ports e.port) hs) (sym (made_at e g).holds_none) tt
+      | inl g ↦ subst (λ hs. HeldPast e.port (session_at (with_process i (λ r. made_router costs attachments) w.routers e.router).ports e.port) hs) (sym (made_at e g).holds_none) tt
       | inr d ↦ subst (λ (r : Router). HeldPast e.port (session_at r.ports e.port) (r.gate).held) (sym (away e d)) (O.held_past e)
     ];
     coming_past = λ e v. carried_later (min (w.last e) (latest_coming t w e)) (last_anew t i w e) (w.coming (t.far e)) (anew_least t i w e) (carried_least (w.last e) (latest_coming t w e) (w.coming (t.far e)) (omega arith) (O.coming_past e v));
@@ -459,27 +459,27 @@ module _ (t : Topology) (p : Prefix) (pfd : ℕ → ℕ) (w : Processes) (I : In
       heard_less : (e : LinkEnd) → heard_anew i w.heard e ≤ w.heard e
       heard_less e = elim (cases_eq e.router i) [ inl g ↦ (let z = heard_none e g in omega (arith, z)) | inr d ↦ (let s = heard_same e d in omega (arith, s)) ]
 
-      made_at : (e : LinkEnd) → e.router ≡ i → Made p (with_router i (λ r. made_router costs attachments) w.routers e.router)
-      made_at e g = subst (Made p) (sym (ap (with_router i (λ r. made_router costs attachments) w.routers) g ∙ router_here i (λ r. made_router costs attachments) w.routers))
+      made_at : (e : LinkEnd) → e.router ≡ i → Made p (with_process i (λ r. made_router costs attachments) w.routers e.router)
+      made_at e g = subst (Made p) (sym (ap (with_process i (λ r. made_router costs attachments) w.routers) g ∙ router_here i (λ r. made_router costs attachments) w.routers))
           (made p (made_router costs attachments) (record { costs = costs; attachments = attachments; good = good; made = refl }))
 
-      away : (e : LinkEnd) → (e.router ≡ i → ⊥) → with_router i (λ r. made_router costs attachments) w.routers e.router ≡ w.routers e.router
+      away : (e : LinkEnd) → (e.router ≡ i → ⊥) → with_process i (λ r. made_router costs attachments) w.routers e.router ≡ w.routers e.router
       away e d = router_away i (λ r. made_router costs attachments) w.routers e.router d
 
-      session_away : (e : LinkEnd) → (e.router ≡ i → ⊥) → session_at (with_router i (λ r. made_router costs attachments) w.routers e.router).ports e.port ≡ session_of w e
+      session_away : (e : LinkEnd) → (e.router ≡ i → ⊥) → session_at (with_process i (λ r. made_router costs attachments) w.routers e.router).ports e.port ≡ session_of w e
       session_away e d = ap (λ (r : Router). session_at r.ports e.port) (away e d)
 
-      not_made : (e : LinkEnd) (k : ℕ) → Shows p (next t w (BeginsAnew i costs attachments)) e k → e.router ≡ i → ⊥
+      not_made : (e : LinkEnd) (k : ℕ) → Shows p (after_happening t w (BeginsAnew i costs attachments)) e k → e.router ≡ i → ⊥
       not_made e k h g = false≢true (sym (ap (λ o. is_next_hop e.port k o) (made_at e g).no_hop_is) ∙ h)
 
-      before : (e : LinkEnd) (k : ℕ) → Shows p (next t w (BeginsAnew i costs attachments)) e k → Shows p w e k
+      before : (e : LinkEnd) (k : ℕ) → Shows p (after_happening t w (BeginsAnew i costs attachments)) e k → Shows p w e k
       before e k h = subst (λ (r : Router). is_next_hop e.port k (next_hop_at p r) ≡ true) (away e (not_made e k h)) h
 
-      O_row_held : (e : LinkEnd) (k : ℕ) → Shows p (next t w (BeginsAnew i costs attachments)) e k → HeldPast e.port k (ripe_of (with_router i (λ r. made_router costs attachments) w.routers e.router))
+      O_row_held : (e : LinkEnd) (k : ℕ) → Shows p (after_happening t w (BeginsAnew i costs attachments)) e k → HeldPast e.port k (ripe_of (with_process i (λ r. made_router costs attachments) w.routers e.router))
       O_row_held e k h = subst (λ (r : Router). HeldPast e.port k (ripe_of r)) (sym (away e (not_made e k h))) (O.row_held e k (before e k h))
 
   -- whatever happens keeps the order
-  pub next_orderly : (h : Happening) → CanHappen w h → Orderly t p (next t w h)
+  pub next_orderly : (h : Happening) → CanHappen w h → Orderly t p (after_happening t w h)
   next_orderly (Tells i x) can = tells_orderly i x can
   next_orderly (Takes e) can = takes_orderly e
   next_orderly (Loses e) can = loses_orderly e
@@ -490,16 +490,16 @@ module _ (t : Topology) (p : Prefix) (pfd : ℕ → ℕ) (w : Processes) (I : In
   next_orderly (BeginsAnew i costs attachments) can = anew_orderly i costs attachments can
 
 -- all that happens keeps it, and the invariant
-pub after_orderly : (t : Topology) (p : Prefix) (pfd : ℕ → ℕ) (w : Processes) (hs : List Happening) → Invariant t p pfd w → Orderly t p w → Placed t w → AllCanHappen t w hs → Orderly t p (after t w hs)
+pub after_orderly : (t : Topology) (p : Prefix) (pfd : ℕ → ℕ) (w : Processes) (hs : List Happening) → Invariant t p pfd w → Orderly t p w → Placed t w → AllCanHappen t w hs → Orderly t p (after_happenings t w hs)
 after_orderly t p pfd w [] I O P can = O
-after_orderly t p pfd w (h ∷ hs) I O P can = after_orderly t p (fds_next p w h pfd) (next t w h) hs (next_keeps t p pfd w I O P h can.0) (next_orderly t p pfd w I O h can.0) (placed_next t w P h) can.1
+after_orderly t p pfd w (h ∷ hs) I O P can = after_orderly t p (fds_next p w h pfd) (after_happening t w h) hs (next_keeps t p pfd w I O P h can.0) (next_orderly t p pfd w I O h can.0) (placed_next t w P h) can.1
 
-pub after_keeps : (t : Topology) (p : Prefix) (pfd : ℕ → ℕ) (w : Processes) (hs : List Happening) → Invariant t p pfd w → Orderly t p w → Placed t w → AllCanHappen t w hs → Invariant t p (fds_after t p w hs pfd) (after t w hs)
+pub after_keeps : (t : Topology) (p : Prefix) (pfd : ℕ → ℕ) (w : Processes) (hs : List Happening) → Invariant t p pfd w → Orderly t p w → Placed t w → AllCanHappen t w hs → Invariant t p (fds_after t p w hs pfd) (after_happenings t w hs)
 after_keeps t p pfd w [] I O P can = I
-after_keeps t p pfd w (h ∷ hs) I O P can = after_keeps t p (fds_next p w h pfd) (next t w h) hs (next_keeps t p pfd w I O P h can.0) (next_orderly t p pfd w I O h can.0) (placed_next t w P h) can.1
+after_keeps t p pfd w (h ∷ hs) I O P can = after_keeps t p (fds_next p w h pfd) (after_happening t w h) hs (next_keeps t p pfd w I O P h can.0) (next_orderly t p pfd w I O h can.0) (placed_next t w P h) can.1
 
 -- the order holds where routers begin
-pub begins_orderly : (t : Topology) (p : Prefix) (w : Processes) → Begins w → Orderly t p w
+pub begins_orderly : (t : Topology) (p : Prefix) (w : Processes) → IsOpening w → Orderly t p w
 begins_orderly t p w B = record {
   up_last = λ e u. absurd (both_ways (is_up_at (machine_of (router_at w e) p) e.port) ((known e).none_up e.port) u);
   held_past = λ e. subst (λ hs. HeldPast e.port (session_of w e) hs) (sym (known e).holds_none) tt;

@@ -4,7 +4,7 @@ use Rattle.no_packet_loops.proofs.Common.{Held, Topology, LinkEnd, at_port}
 use Rattle.network_model.proofs.Common.{both_ways}
 use Rattle.daemon_laws.specs.Processes.{Processes}
 use Rattle.daemon_laws.specs.Packets.{is_in_session}
-use Rattle.daemon_laws.specs.Happenings.{Happening, Tells, Takes, Loses, Publishes, PublishesSome, Forgets, Releases, BeginsAnew, is_same_end, with_coming, next}
+use Rattle.daemon_laws.specs.Happenings.{Happening, Tells, Takes, Loses, Publishes, PublishesSome, Forgets, Releases, BeginsAnew, is_same_end, with_coming, after_happening}
 use Rattle.daemon_laws.proofs.Cases.{by_take, by_release}
 use Rattle.daemon_laws.proofs.Releasing.{as_carried}
 use Rattle.daemon_laws.proofs.Invariant.{Placed}
@@ -20,7 +20,7 @@ module _ (t : Topology) (w : Processes) (placed : Placed t w) where
       go false = placed d out
 
   -- whatever happens
-  pub placed_next : (h : Happening) → (d : LinkEnd) → t.valid d ≡ false → (next t w h).coming d ≡ []
+  pub placed_next : (h : Happening) → (d : LinkEnd) → t.valid d ≡ false → (after_happening t w h).coming d ≡ []
   placed_next (Tells i x) d out = placed d out
   placed_next (Takes e) d out = by_take t w (λ v. v.coming d ≡ []) (placed d out) e (λ c at le. none_off e d out)
   placed_next (Loses e) d out = none_off e d out

@@ -3,14 +3,14 @@
 use Rattle.std.proofs.Common.{refl, sym, ap, subst, ◌∙◌, arith, inl, inr, ◌≡◌, ℕ, ◌+◌, ◌≤◌, Bool, true, false, ◌&&◌, if◌then◌else◌, List, [], ◌∷◌, ◌++◌, drop, Option, Some, None, slice_get, unwrap_or, eq-eqb}
 use Rattle.no_packet_loops.proofs.Common.{None_not_Some, Some_injective, and_parts, Prefix, prefix_eq, Machine, Computation, machine_of, msg_of, Reported, Topology, LinkEnd, kept, ripe_of, test_at}
 use Rattle.network_model.proofs.Common.{Kind, Query, Reply, Update, one_if}
-use Rattle.machine_laws.specs.Laws.{is_kind, awaits, owes, awaits_of, owes_of}
+use Rattle.machine_laws.specs.Laws.{is_kind, awaits, owes_port, awaits_of, owes_of}
 use Rattle.dual_machine.specs.State.{awaits_at}
 use Rattle.c_interface.specs.declared.fault.CallFault.TheVariants.{AskedTwice, Unasked}
 use Rattle.single_router.specs.Inputs.{owes_at, kind_fault}
 use Rattle.loop_freedom.specs.Facts.{End, count, pipe, messages, live}
 use Rattle.loop_freedom.proofs.Lists.{count-append, one_if_at_most_one}
 use Rattle.daemon_laws.specs.Processes.{Carried, Processes}
-use Rattle.daemon_laws.proofs.Seen.{carried, arriving, is_in}
+use Rattle.daemon_laws.proofs.Seen.{carried, arriving_in, is_port_in}
 use Rattle.daemon_laws.proofs.Gone.{Gone}
 use Rattle.daemon_laws.proofs.Invariant.{router_at, end_from, MayBe, may_or_left, Invariant, links_far}
 
@@ -69,12 +69,12 @@ module _ (t : Topology) (p : Prefix) (pfd : ℕ → ℕ) (w : Processes) (I : In
   y = end_from t p n pfd w f
 
   -- the message is the first of those that the other end has released
-  first_out : y.out ≡ msg_of c.message ∷ (messages (arriving n (carried p (drop 1 (w.coming e)))) ++ live n (kept p f.port (ripe_of (router_at w f))))
+  first_out : y.out ≡ msg_of c.message ∷ (messages (arriving_in n (carried p (drop 1 (w.coming e)))) ++ live n (kept p f.port (ripe_of (router_at w f))))
   first_out =
-      ap (λ (d : LinkEnd). messages (arriving n (carried p (w.coming d))) ++ live n (kept p f.port (ripe_of (router_at w f)))) (t.far_far e v)
-      ∙ ap (λ cs. messages (arriving n (carried p cs)) ++ live n (kept p f.port (ripe_of (router_at w f)))) (first_is c (w.coming e) at)
-      ∙ ap (λ b. messages (arriving n (if b then record { session = c.session; message = msg_of c.message } ∷ carried p (drop 1 (w.coming e)) else carried p (drop 1 (w.coming e)))) ++ live n (kept p f.port (ripe_of (router_at w f)))) same
-      ∙ ap (λ b. messages (if b then Reported (msg_of c.message) ∷ arriving n (carried p (drop 1 (w.coming e))) else arriving n (carried p (drop 1 (w.coming e)))) ++ live n (kept p f.port (ripe_of (router_at w f)))) (eq-eqb n n refl)
+      ap (λ (d : LinkEnd). messages (arriving_in n (carried p (w.coming d))) ++ live n (kept p f.port (ripe_of (router_at w f)))) (t.far_far e v)
+      ∙ ap (λ cs. messages (arriving_in n (carried p cs)) ++ live n (kept p f.port (ripe_of (router_at w f)))) (first_is c (w.coming e) at)
+      ∙ ap (λ b. messages (arriving_in n (if b then record { session = c.session; message = msg_of c.message } ∷ carried p (drop 1 (w.coming e)) else carried p (drop 1 (w.coming e)))) ++ live n (kept p f.port (ripe_of (router_at w f)))) same
+      ∙ ap (λ b. messages (if b then Reported (msg_of c.message) ∷ arriving_in n (carried p (drop 1 (w.coming e))) else arriving_in n (carried p (drop 1 (w.coming e)))) ++ live n (kept p f.port (ripe_of (router_at w f)))) (eq-eqb n n refl)
 
   -- so it counts among all that is on its way
   first_counts : (k : Kind) → one_if (is_kind k (c.message).kind) ≤ count k (pipe y)
@@ -86,7 +86,7 @@ module _ (t : Topology) (p : Prefix) (pfd : ℕ → ℕ) (w : Processes) (I : In
     queries : count Query (pipe y) + one_if x.owes ≤ 1
 
   -- so it is where this end is in the session, whether the other is, or has left it
-  counted : is_in p (router_at w e) e.port n ≡ true → Counted
+  counted : is_port_in p (router_at w e) e.port n ≡ true → Counted
   counted on = elim (may_or_left p n w f) [
     | inl may ↦
         let h = (I.links e v n (inl on) may).awaited_once in
@@ -99,7 +99,7 @@ module _ (t : Topology) (p : Prefix) (pfd : ℕ → ℕ) (w : Processes) (I : In
   ]
 
   -- so its kind is no fault there
-  pub polite : is_in p (router_at w e) e.port n ≡ true → kind_fault (machine_of (router_at w e) p).computation e.port (c.message).kind ≡ None
+  pub polite : is_port_in p (router_at w e) e.port n ≡ true → kind_fault (machine_of (router_at w e) p).computation e.port (c.message).kind ≡ None
   polite on = no_fault m.computation e.port (c.message).kind is_awaited not_owed
     where
       m : Machine
@@ -110,11 +110,11 @@ module _ (t : Topology) (p : Prefix) (pfd : ℕ → ℕ) (w : Processes) (I : In
           let one : one_if (is_kind Reply (c.message).kind) ≡ 1 = ap (λ j. one_if (is_kind Reply j)) k in
           let a = first_counts Reply in
           let b = (counted on).replies in
-          (and_parts (is_in p (router_at w e) e.port n) (awaits (machine_of (router_at w e) p) e.port) (true_one x.awaits (omega (arith, one, a, b)))).1
+          (and_parts (is_port_in p (router_at w e) e.port n) (awaits (machine_of (router_at w e) p) e.port) (true_one x.awaits (omega (arith, one, a, b)))).1
 
       not_owed : (c.message).kind ≡ Query → owes_of (machine_of (router_at w e) p).computation e.port ≡ false
       not_owed k =
           let one : one_if (is_kind Query (c.message).kind) ≡ 1 = ap (λ j. one_if (is_kind Query j)) k in
           let a = first_counts Query in
           let b = (counted on).queries in
-          sym (ap (λ b. b && owes (machine_of (router_at w e) p) e.port) on) ∙ false_none x.owes (omega (arith, one, a, b))
+          sym (ap (λ b. b && owes_port (machine_of (router_at w e) p) e.port) on) ∙ false_none x.owes (omega (arith, one, a, b))

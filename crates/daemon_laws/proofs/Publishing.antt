@@ -11,7 +11,7 @@ use Rattle.loop_freedom.proofs.Notices.{IsLawfullyHeld, lawfully_held_append}
 use Rattle.no_packet_loops.proofs.Publishing.{control_row, control_hop, control_sorted}
 use Rattle.no_packet_loops.proofs.View.{kept-append}
 use Rattle.daemon_laws.specs.Processes.{Carried}
-use Rattle.daemon_laws.proofs.Seen.{carried, arriving, end_in}
+use Rattle.daemon_laws.proofs.Seen.{carried, arriving_in, end_in}
 use Rattle.daemon_laws.proofs.Routers.{RouterKept}
 use Rattle.daemon_laws.proofs.Cheap.{IsCheap}
 use Rattle.daemon_laws.proofs.InForce.{AsChosen, PutsInForce}
@@ -78,7 +78,7 @@ module _ (p : Prefix) (r : Router) (R : RouterKept p r) (sound : IsSound (machin
   pub end_published : (n pfd q : ℕ) (cs : List Carried) → end_in p n (machine_of r p).fd r' q cs ≡ shown_as_chosen (end_in p n pfd r q cs)
   end_published n pfd q cs =
       let m = machine_of r p in
-      let items = arriving n (carried p cs) in
+      let items = arriving_in n (carried p cs) in
       let hop : next_hop_at p r' ≡ next_hop_of (λ q. session_at r.ports q) (port_successor m) = control_hop p r (λ q. session_at r.ports q) R.control_is (λ q. refl) in
       let shown : is_next_hop q n (next_hop_at p r') ≡ (is_current m q (session_at r.ports q) n && is_port q m.successor) = ap (λ o. is_next_hop q n o) hop ∙ published_as m sound q n (λ q. session_at r.ports q) in
       let ripe : live n (kept p q (ripe_of r')) ≡ live n (kept p q (ripe_of r)) ++ live n (kept p q (unripe_of r)) = ap (live n) (ripe_all q) ∙ live-append n (kept p q (ripe_of r)) (kept p q (unripe_of r)) in

@@ -11,7 +11,7 @@ use Rattle.loop_freedom.proofs.Invariant.{end_cong, end_invariant_same}
 use Rattle.no_packet_loops.proofs.Releasing.{Front, front_of, ripe_front_is, unripe_left}
 use Rattle.daemon_laws.specs.Processes.{Carried, Processes}
 use Rattle.daemon_laws.proofs.Cases.{each_but}
-use Rattle.daemon_laws.proofs.Seen.{carried, carried-append, arriving, messages_arriving, is_in}
+use Rattle.daemon_laws.proofs.Seen.{carried, carried-append, arriving_in, messages_arriving, is_port_in}
 use Rattle.daemon_laws.proofs.Routers.{RouterKept}
 use Rattle.daemon_laws.proofs.Cheap.{IsCheap}
 use Rattle.daemon_laws.proofs.Told.{Told}
@@ -49,7 +49,7 @@ one_carried p h = refl
 pub data Sent (t : Topology) (p : Prefix) (i : ℕ) (h : Held) (w w' : Processes) : Type 0 where
   OnItsWay : t.valid (at_port i h.port) ≡ true → w'.coming (t.far (at_port i h.port)) ≡ w.coming (t.far (at_port i h.port)) ++ as_carried h ∷ []
       → ((e : LinkEnd) → (e ≡ t.far (at_port i h.port) → ⊥) → w'.coming e ≡ w.coming e) → Sent t p i h w w'
-  Lost : (t.valid (at_port i h.port) ≡ true → is_in p (w.routers i) h.port h.session ≡ false) → ((e : LinkEnd) → w'.coming e ≡ w.coming e) → Sent t p i h w w'
+  Lost : (t.valid (at_port i h.port) ≡ true → is_port_in p (w.routers i) h.port h.session ≡ false) → ((e : LinkEnd) → w'.coming e ≡ w.coming e) → Sent t p i h w w'
 
 -- router i releases a message; nothing else changes but what is on its way
 pub record ReleasesAt (t : Topology) (p : Prefix) (w w' : Processes) : Type 0 where
@@ -84,7 +84,7 @@ module _ (t : Topology) (p : Prefix) (pfd : ℕ → ℕ) (w w' : Processes) (I :
     machine_is : machine_of (router_at w' e) p ≡ machine_of (router_at w e) p
     session_is : session_of w' e ≡ session_of w e
     hop_is : next_hop_at p (router_at w' e) ≡ next_hop_at p (router_at w e)
-    in_is : (n : ℕ) → is_in p (router_at w' e) e.port n ≡ is_in p (router_at w e) e.port n
+    in_is : (n : ℕ) → is_port_in p (router_at w' e) e.port n ≡ is_port_in p (router_at w e) e.port n
     unripe_is : kept p e.port (unripe_of (router_at w' e)) ≡ kept p e.port (unripe_of (router_at w e))
 
   -- so it is at each end
@@ -97,7 +97,7 @@ module _ (t : Topology) (p : Prefix) (pfd : ℕ → ℕ) (w w' : Processes) (I :
           machine_is = ap (λ (x : Router). machine_of x p) is ∙ ap (λ (x : Router). machine_of x p) was;
           session_is = ap (λ (x : Router). session_at x.ports e.port) is ∙ ap (λ (x : Router). session_at x.ports e.port) was;
           hop_is = ap (next_hop_at p) is ∙ ap (next_hop_at p) was;
-          in_is = λ n. ap (λ (x : Router). is_in p x e.port n) is ∙ ap (λ (x : Router). is_in p x e.port n) was;
+          in_is = λ n. ap (λ (x : Router). is_port_in p x e.port n) is ∙ ap (λ (x : Router). is_port_in p x e.port n) was;
           unripe_is = ap (λ (x : Router). kept p e.port (unripe_of x)) is ∙ ap (kept p e.port) (unripe_left r L.h F) ∙ ap (λ (x : Router). kept p e.port (unripe_of x)) was;
         }
     | inr d ↦
@@ -106,7 +106,7 @@ module _ (t : Topology) (p : Prefix) (pfd : ℕ → ℕ) (w w' : Processes) (I :
           machine_is = ap (λ (x : Router). machine_of x p) same;
           session_is = ap (λ (x : Router). session_at x.ports e.port) same;
           hop_is = ap (next_hop_at p) same;
-          in_is = λ n. ap (λ (x : Router). is_in p x e.port n) same;
+          in_is = λ n. ap (λ (x : Router). is_port_in p x e.port n) same;
           unripe_is = ap (λ (x : Router). kept p e.port (unripe_of x)) same;
         }
   ]
@@ -223,7 +223,7 @@ module _ (t : Topology) (p : Prefix) (pfd : ℕ → ℕ) (w w' : Processes) (I :
             let comes : carried p (w'.coming (t.far a)) ≡ old = ap (carried p) (still (t.far a)) in
             elim (cases_eq (L.h).session n) [
               | inl e ↦
-                  Less (record { off = subst (λ (k : ℕ). is_in p r (L.h).port k ≡ false) e (off v); past = (let le = lawful_first.0 in let li = I.last_is a in omega (arith, le, li, e)) })
+                  Less (record { off = subst (λ (k : ℕ). is_port_in p r (L.h).port k ≡ false) e (off v); past = (let le = lawful_first.0 in let li = I.last_is a in omega (arith, le, li, e)) })
                   (λ k. let c1 = count-append k (live n old) (live n new_ripe) in
                   let c2 = count-append k (live n old) (live n old_ripe) in
                   let c3 : count k (live n old_ripe) ≡ count k (live n (held_as L.h ∷ [])) + count k (live n new_ripe) =
@@ -248,7 +248,7 @@ module _ (t : Topology) (p : Prefix) (pfd : ℕ → ℕ) (w w' : Processes) (I :
   end_same : (n : ℕ) (e : LinkEnd) → out_of n w' e ≡ out_of n w e → end_from t p n pfd w' e ≡ end_from t p n pfd w e
   end_same n e same =
       let S = same_at e in
-      end_cong e.port (arriving n (carried p (w.coming (t.far e)))) (arriving n (carried p (w'.coming (t.far e)))) (kept p e.port (ripe_of (router_at w e))) (kept p e.port (ripe_of (router_at w' e))) (kept p e.port (unripe_of (router_at w e))) (kept p e.port (unripe_of (router_at w' e)))
+      end_cong e.port (arriving_in n (carried p (w.coming (t.far e)))) (arriving_in n (carried p (w'.coming (t.far e)))) (kept p e.port (ripe_of (router_at w e))) (kept p e.port (ripe_of (router_at w' e))) (kept p e.port (unripe_of (router_at w e))) (kept p e.port (unripe_of (router_at w' e)))
       S.machine_is S.session_is refl S.hop_is refl
       ((λ z. messages_arriving n (carried p (w'.coming (t.far e))) z ++ live n (kept p e.port (ripe_of (router_at w' e)))) ∙ same ∙ (λ z. sym (messages_arriving n (carried p (w.coming (t.far e)))) z ++ live n (kept p e.port (ripe_of (router_at w e)))))
       (ap (live n) S.unripe_is)
@@ -258,7 +258,7 @@ module _ (t : Topology) (p : Prefix) (pfd : ℕ → ℕ) (w w' : Processes) (I :
   end_may n e v may = by_out (out n e v)
     where
       not_both : MayBe p n w e → Left p n w e → ⊥
-      not_both (inl on) l = both_ways (is_in p (router_at w e) e.port n) l.off on
+      not_both (inl on) l = both_ways (is_port_in p (router_at w e) e.port n) l.off on
       not_both (inr lt) l = (let k = l.past in omega (arith, lt, k))
 
       by_out : Out n e → end_from t p n pfd w' e ≡ end_from t p n pfd w e

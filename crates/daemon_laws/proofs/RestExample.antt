@@ -7,7 +7,7 @@ use Rattle.least_cost.proofs.Reached.{each_place, each_router}
 use Rattle.single_router.specs.declared.input.Input.TheVariants as input
 use Rattle.daemon_laws.specs.Processes.{Processes}
 use Rattle.daemon_laws.specs.Packets.{is_in_session}
-use Rattle.daemon_laws.specs.Happenings.{Happening, Tells, Takes, Loses, Publishes, PublishesSome, Forgets, Releases, BeginsAnew, next, after}
+use Rattle.daemon_laws.specs.Happenings.{Happening, Tells, Takes, Loses, Publishes, PublishesSome, Forgets, Releases, BeginsAnew, after_happening, after_happenings}
 use Rattle.daemon_laws.specs.Rest.{IsUpIn, NothingLost}
 use Rattle.daemon_laws.specs.Reached.{ExampleOfRest}
 use Rattle.daemon_laws.proofs.Cases.{by_take, by_release}
@@ -35,7 +35,7 @@ until_rest = until_up ++ onward
 
 -- the processes then
 abbrev pub rest : Processes
-rest = after pair first until_rest
+rest = after_happenings pair first until_rest
 
 -- which router a happening speaks of
 abbrev speaks_of : Happening → ℕ → Bool
@@ -49,7 +49,7 @@ speaks_of (Releases i) j = j == i
 speaks_of (BeginsAnew i costs attachments) j = j == i
 
 -- a router that a happening does not speak of stays
-untouched : (w : Processes) (h : Happening) (j : ℕ) → speaks_of h j ≡ false → (next pair w h).routers j ≡ w.routers j
+untouched : (w : Processes) (h : Happening) (j : ℕ) → speaks_of h j ≡ false → (after_happening pair w h).routers j ≡ w.routers j
 untouched w (Tells i x) j off = rw off refl
 untouched w (Loses e) j off = refl
 untouched w (Publishes i) j off = rw off refl
@@ -60,12 +60,12 @@ untouched w (Releases i) j off = by_release pair w (λ v. v.routers j ≡ w.rout
 untouched w (Takes e) j off = by_take pair w (λ v. v.routers j ≡ w.routers j) refl e (λ c at le. rw off refl)
 
 -- nor after many
-untouched_all : (w : Processes) (hs : List Happening) (j : ℕ) → list_any (λ h. speaks_of h j) hs ≡ false → (after pair w hs).routers j ≡ w.routers j
+untouched_all : (w : Processes) (hs : List Happening) (j : ℕ) → list_any (λ h. speaks_of h j) hs ≡ false → (after_happenings pair w hs).routers j ≡ w.routers j
 untouched_all w [] j off = refl
 untouched_all w (h ∷ hs) j off =
     let first_off : speaks_of h j ≡ false = false_from_ne_true (speaks_of h j) (λ e. both_ways (list_any (λ x. speaks_of x j) (h ∷ hs)) off (or_left (speaks_of h j) (list_any (λ x. speaks_of x j) hs) e)) in
     let rest_off : list_any (λ x. speaks_of x j) hs ≡ false = false_from_ne_true (list_any (λ x. speaks_of x j) hs) (λ e. both_ways (list_any (λ x. speaks_of x j) (h ∷ hs)) off (or_right (speaks_of h j) (list_any (λ x. speaks_of x j) hs) e)) in
-    untouched_all (next pair w h) hs j rest_off ∙ untouched w h j first_off
+    untouched_all (after_happening pair w h) hs j rest_off ∙ untouched w h j first_off
 
 -- an end of another router than the two is in no session
 others_out : (e : LinkEnd) (session : ℕ) → (e.router ≡ 0 → ⊥) → (e.router ≡ 1 → ⊥) → is_in_session rest e session ≡ false

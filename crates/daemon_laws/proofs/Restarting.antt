@@ -2,7 +2,7 @@
 use Rattle.std.proofs.Common.{refl, sym, ap, subst, ◌∙◌, arith, inl, inr, ◌≡◌, ◌≢◌, ◌⊎◌, ℕ, min, ◌<◌, ◌≤◌, true, false, List, [], ◌∷◌, ◌++◌, take, drop, append-nil, ◌==◌}
 use Rattle.no_packet_loops.proofs.Common.{Prefix, Router, machine_of, session_at, is_port, is_next_hop, kept, ripe_of, unripe_of, IsSound, is_up_at, Topology, LinkEnd, at_port, take-nil, drop-nil}
 use Rattle.network_model.proofs.Common.{cases_eq, cases_lt, cases_Bool, both_ways, false_from_ne_true, and_left, Kind, Query, Reply, Report, infinity, one_if}
-use Rattle.machine_laws.specs.Laws.{awaits, owes}
+use Rattle.machine_laws.specs.Laws.{awaits, owes_port}
 use Rattle.loop_freedom.specs.Facts.{End, pipe, count, messages, live, AtLeast}
 use Rattle.loop_freedom.proofs.Lists.{at_least_left, count-append, one_if_at_most_one}
 use Rattle.loop_freedom.proofs.Link.{Answered, EndInvariant}
@@ -10,7 +10,7 @@ use Rattle.loop_freedom.proofs.Notices.{IsLawfullyHeld, lawfully_held_later, not
 use Rattle.loop_freedom.proofs.Invariant.{end_invariant_new, end_invariant_same}
 use Rattle.daemon_laws.specs.Processes.{Processes}
 use Rattle.daemon_laws.proofs.Cases.{each_but}
-use Rattle.daemon_laws.proofs.Seen.{carried, arriving, end_in, is_in}
+use Rattle.daemon_laws.proofs.Seen.{carried, arriving_in, end_in, is_port_in}
 use Rattle.daemon_laws.proofs.Routers.{RouterKept}
 use Rattle.daemon_laws.proofs.Moving.{not_yet}
 use Rattle.daemon_laws.proofs.Cheap.{IsCheap}
@@ -177,8 +177,8 @@ module _ (t : Topology) (p : Prefix) (pfd pfd' : ℕ → ℕ) (w w' : Processes)
   made_at e g = subst (λ (k : ℕ). Made p (w'.routers k)) (sym g) R.made_here
 
   -- what is on its way to the far end of a link stays
-  comes : (n : ℕ) (e : LinkEnd) → messages (arriving n (carried p (w'.coming (t.far e)))) ≡ messages (arriving n (carried p (w.coming (t.far e))))
-  comes n e = ap (λ cs. messages (arriving n (carried p cs))) (R.coming_is (t.far e))
+  comes : (n : ℕ) (e : LinkEnd) → messages (arriving_in n (carried p (w'.coming (t.far e)))) ≡ messages (arriving_in n (carried p (w.coming (t.far e))))
+  comes n e = ap (λ cs. messages (arriving_in n (carried p cs))) (R.coming_is (t.far e))
 
   -- the router that is made holds nothing
   ripe_none : (e : LinkEnd) → e.router ≡ R.i → kept p e.port (ripe_of (router_at w' e)) ≡ []
@@ -193,34 +193,34 @@ module _ (t : Topology) (p : Prefix) (pfd pfd' : ℕ → ℕ) (w w' : Processes)
   fresh n e g =
       let M = made_at e g in
       let m = machine_of (router_at w' e) p in
-      let off : is_in p (router_at w' e) e.port n ≡ false = and_left (is_up_at m e.port) (session_of w' e == n) (M.none_up e.port) in
+      let off : is_port_in p (router_at w' e) e.port n ≡ false = and_left (is_up_at m e.port) (session_of w' e == n) (M.none_up e.port) in
       let bound : m.fd ≤ infinity = (let a = (M.sound).fd_below in let b = (M.sound).rd_bounded in omega (arith, a, b)) in
       let pfd_now : pfd' e.router ≡ m.fd = subst (λ (k : ℕ). pfd' k ≡ (machine_of (w'.routers k) p).fd) (sym g) R.pfd_is in
       record {
         off = off;
-        chosen = and_left (is_in p (router_at w' e) e.port n) (is_port e.port m.successor) off;
+        chosen = and_left (is_port_in p (router_at w' e) e.port n) (is_port e.port m.successor) off;
         shown = ap (λ o. is_next_hop e.port n o) M.no_hop_is;
-        awaits = and_left (is_in p (router_at w' e) e.port n) (awaits m e.port) off;
-        owes = and_left (is_in p (router_at w' e) e.port n) (owes m e.port) off;
+        awaits = and_left (is_port_in p (router_at w' e) e.port n) (awaits m e.port) off;
+        owes = and_left (is_port_in p (router_at w' e) e.port n) (owes_port m e.port) off;
         passive = M.passive;
         low = bound;
         pfd_low = omega (arith, bound, pfd_now);
       }
 
   -- what is on its way from it is what came, and no more
-  pipe_is : (n : ℕ) (e : LinkEnd) → e.router ≡ R.i → pipe (new n e) ≡ messages (arriving n (carried p (w.coming (t.far e))))
+  pipe_is : (n : ℕ) (e : LinkEnd) → e.router ≡ R.i → pipe (new n e) ≡ messages (arriving_in n (carried p (w.coming (t.far e))))
   pipe_is n e g =
       (λ z. (comes n e z ++ live n (ripe_none e g z)) ++ live n (unripe_none e g z))
-      ∙ append-nil (messages (arriving n (carried p (w.coming (t.far e)))) ++ [])
-      ∙ append-nil (messages (arriving n (carried p (w.coming (t.far e)))))
+      ∙ append-nil (messages (arriving_in n (carried p (w.coming (t.far e)))) ++ [])
+      ∙ append-nil (messages (arriving_in n (carried p (w.coming (t.far e)))))
 
   -- an end that has not been in the session is absent before
   absent : (n : ℕ) (e : LinkEnd) → w.last e < n → Absent (old n e)
   absent n e lt =
       let le = I.last_is e in
       let m = machine_of (router_at w e) p in
-      let off : is_in p (router_at w e) e.port n ≡ false = not_yet p (router_at w e) e.port n (omega (arith, le, lt)) in
-      record { off = off; awaits = and_left (is_in p (router_at w e) e.port n) (awaits m e.port) off; owes = and_left (is_in p (router_at w e) e.port n) (owes m e.port) off }
+      let off : is_port_in p (router_at w e) e.port n ≡ false = not_yet p (router_at w e) e.port n (omega (arith, le, lt)) in
+      record { off = off; awaits = and_left (is_port_in p (router_at w e) e.port n) (awaits m e.port) off; owes = and_left (is_port_in p (router_at w e) e.port n) (owes_port m e.port) off }
 
   -- another router's end is as before
   away : (n : ℕ) (e : LinkEnd) → e.router ≢ R.i → new n e ≡ old n e
@@ -233,13 +233,13 @@ module _ (t : Topology) (p : Prefix) (pfd pfd' : ℕ → ℕ) (w w' : Processes)
   blank_before n e lt quiet =
       let r = router_at w e in
       let m = machine_of r p in
-      let off : is_in p r e.port n ≡ false = not_yet p r e.port n lt in
+      let off : is_port_in p r e.port n ≡ false = not_yet p r e.port n lt in
       record {
         off = off;
-        chosen = and_left (is_in p r e.port n) (is_port e.port m.successor) off;
+        chosen = and_left (is_port_in p r e.port n) (is_port e.port m.successor) off;
         shown = false_from_ne_true (old n e).shown (λ s. (let le = O.row_past e n s in omega (arith, le, lt)));
-        awaits = and_left (is_in p r e.port n) (awaits m e.port) off;
-        owes = and_left (is_in p r e.port n) (owes m e.port) off;
+        awaits = and_left (is_port_in p r e.port n) (awaits m e.port) off;
+        owes = and_left (is_port_in p r e.port n) (owes_port m e.port) off;
         empty = (λ z. (none_of p n (w.coming (t.far e)) quiet z ++ nothing_held_later (session_of w e) n (kept p e.port (ripe_of r)) lt (I.ripe_lawful e.router e.port) z) ++ nothing_held_later (session_of w e) n (kept p e.port (unripe_of r)) lt (I.unripe_lawful e.router e.port) z);
         pfd_low = I.pfd_bounded e.router;
       }
@@ -291,8 +291,8 @@ module _ (t : Topology) (p : Prefix) (pfd pfd' : ℕ → ℕ) (w w' : Processes)
   was : (n : ℕ) (e : LinkEnd) → Stays n e → MayBe p n w' e → Was n e
   was n e stays (inr lt) = record { may = inr (stays lt); new_there = λ g. stays lt }
   was n e stays (inl on) = elim (cases_eq e.router R.i) [
-    | inl g ↦ absurd (both_ways (is_in p (router_at w' e) e.port n) (fresh n e g).off on)
-    | inr d ↦ record { may = inl (ap (λ (r : Router). is_in p r e.port n) (sym (R.routers_elsewhere e.router d)) ∙ on); new_there = λ g. absurd (d g) }
+    | inl g ↦ absurd (both_ways (is_port_in p (router_at w' e) e.port n) (fresh n e g).off on)
+    | inr d ↦ record { may = inl (ap (λ (r : Router). is_port_in p r e.port n) (sym (R.routers_elsewhere e.router d)) ∙ on); new_there = λ g. absurd (d g) }
   ]
 
   -- nothing was lost of it before, where nothing is after
@@ -314,7 +314,7 @@ module _ (t : Topology) (p : Prefix) (pfd pfd' : ℕ → ℕ) (w w' : Processes)
   empty n e g v one two =
       let h = I.links e v n one.may two.may in
       let none : pipe (old n e) ≡ [] = h.nothing_sent (absent n e (one.new_there g)).off in
-      pipe_is n e g ∙ nil_left (messages (arriving n (carried p (w.coming (t.far e))))) (live n (kept p e.port (ripe_of (router_at w e)))) (nil_left ((old n e).out) ((old n e).kept) none)
+      pipe_is n e g ∙ nil_left (messages (arriving_in n (carried p (w.coming (t.far e))))) (live n (kept p e.port (ripe_of (router_at w e)))) (nil_left ((old n e).out) ((old n e).kept) none)
 
   -- in a session that neither end has left
   links_kept : (e : LinkEnd) → t.valid e ≡ true → (n : ℕ) → Was n e → Was n (t.far e) → EndInvariant (new n e) (new n (t.far e))
@@ -398,7 +398,7 @@ module _ (t : Topology) (p : Prefix) (pfd pfd' : ℕ → ℕ) (w w' : Processes)
       fewer n e g k =
           let is = ap (count k) (pipe_is n e g) in
           let all = count-append k (old n e).out (old n e).kept in
-          let some = count-append k (messages (arriving n (carried p (w.coming (t.far e))))) (live n (kept p e.port (ripe_of (router_at w e)))) in
+          let some = count-append k (messages (arriving_in n (carried p (w.coming (t.far e))))) (live n (kept p e.port (ripe_of (router_at w e)))) in
           omega (arith, is, all, some)
 
   -- ---- each session

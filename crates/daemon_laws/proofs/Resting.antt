@@ -11,16 +11,17 @@ use Rattle.least_cost.proofs.Kept.{Kept as NetKept}
 use Rattle.least_cost.proofs.AtQuiet.{optimal_here}
 use Rattle.daemon_laws.specs.Processes.{Processes}
 use Rattle.daemon_laws.specs.Packets.{is_in_session}
-use Rattle.daemon_laws.specs.Rest.{IsUpIn, cost_from, IsWay, way_cost, IsWayHome, published_entry, IsChain, HasRoute, HasBestRow, IsAtRest}
-use Rattle.daemon_laws.proofs.Seen.{carried, arriving, is_in}
+use Rattle.daemon_laws.specs.Rest.{IsUpIn, cost_from, IsSessionWay, way_cost, IsWayHome, entry_in_force, IsSessionChain, ProcessHasRoute, ProcessHasBestRow, AreAtRest}
+use Rattle.daemon_laws.proofs.Seen.{carried, arriving_in, is_port_in}
 use Rattle.daemon_laws.proofs.Told.{Told, listens, last_value}
-use Rattle.daemon_laws.proofs.Moving.{port_within, in_session}
+use Rattle.no_packet_loops.proofs.Taking.{port_within}
+use Rattle.daemon_laws.proofs.Moving.{in_session}
 use Rattle.daemon_laws.proofs.Items.{cost_is}
 use Rattle.daemon_laws.proofs.Invariant.{router_at, session_of, end_from, MayBe, Invariant}
 use Rattle.daemon_laws.proofs.Walks.{opened, in_it}
 use Rattle.daemon_laws.proofs.Quiet.{still, ripe_quiet, unripe_quiet, hop_quiet, local_quiet, lost_quiet, attachment_is, via_row}
 
-module _ (t : Topology) (p : Prefix) (pfd : ℕ → ℕ) (w : Processes) (I : Invariant t p pfd w) (n : ℕ) (few : n ≤ most_routers) (A : IsAtRest t n w) where
+module _ (t : Topology) (p : Prefix) (pfd : ℕ → ℕ) (w : Processes) (I : Invariant t p pfd w) (n : ℕ) (few : n ≤ most_routers) (A : AreAtRest t n w) where
   -- the machine of the prefix at each router
   abbrev machine : ℕ → Machine
   machine i = machine_of (w.routers i) p
@@ -62,7 +63,7 @@ module _ (t : Topology) (p : Prefix) (pfd : ℕ → ℕ) (w : Processes) (I : In
   -- so it is of each
   in_last : (e : LinkEnd) (session : ℕ) → is_in_session w e session ≡ true → InIt e session
   in_last e session h =
-      let on : is_in p (router_at w e) e.port session ≡ true = in_it t p pfd w I e session h in
+      let on : is_port_in p (router_at w e) e.port session ≡ true = in_it t p pfd w I e session h in
       record { is_up = (and_parts (up e) (session_of w e == session) on).0; last = in_session p (router_at w e) e.port session on }
 
   -- the other end is up too
@@ -82,7 +83,7 @@ module _ (t : Topology) (p : Prefix) (pfd : ℕ → ℕ) (w : Processes) (I : In
   placed e u = A.placed e (up_in e u).valid
 
   -- an end that is up is in its session
-  is_in_now : (e : LinkEnd) → up e ≡ true → is_in p (router_at w e) e.port (session_of w e) ≡ true
+  is_in_now : (e : LinkEnd) → up e ≡ true → is_port_in p (router_at w e) e.port (session_of w e) ≡ true
   is_in_now e u = and_from (up e) (session_of w e == session_of w e) u (eq-eqb (session_of w e) (session_of w e) refl)
 
   -- nothing is on its way from it
@@ -90,7 +91,7 @@ module _ (t : Topology) (p : Prefix) (pfd : ℕ → ℕ) (w : Processes) (I : In
   pipe_none e u m =
       let v = (up_in e u).valid in
       let quiet = A.quiet e.router (placed e u) in
-      (λ z. (messages (arriving m (carried p (A.nothing_comes (t.far e) (session_of w (t.far e)) (up_in (t.far e) (up_far e u)) z))) ++ live m (ripe_quiet p (router_at w e) (I.keeps e.router) quiet e.port z)) ++ live m (unripe_quiet p (router_at w e) (I.keeps e.router) quiet e.port z))
+      (λ z. (messages (arriving_in m (carried p (A.nothing_comes (t.far e) (session_of w (t.far e)) (up_in (t.far e) (up_far e u)) z))) ++ live m (ripe_quiet p (router_at w e) (I.keeps e.router) quiet e.port z)) ++ live m (unripe_quiet p (router_at w e) (I.keeps e.router) quiet e.port z))
 
   -- the far end of a link that is up was told the distance
   told_now : (e : LinkEnd) → up e ≡ true → reported_at (machine (t.far e).router) (t.far e).port ≡ (machine e.router).rd
@@ -98,8 +99,8 @@ module _ (t : Topology) (p : Prefix) (pfd : ℕ → ℕ) (w : Processes) (I : In
       let f = t.far e in
       let v = (up_in e u).valid in
       let k = session_of w e in
-      let here : is_in p (router_at w e) e.port k ≡ true = is_in_now e u in
-      let there : is_in p (router_at w f) f.port k ≡ true = in_it t p pfd w I f k (up_in e u).far in
+      let here : is_port_in p (router_at w e) e.port k ≡ true = is_in_now e u in
+      let there : is_port_in p (router_at w f) f.port k ≡ true = in_it t p pfd w I f k (up_in e u).far in
       let back : IsUpIn t w f k = record { valid = t.far_valid e v; near = (up_in e u).far; far = subst (λ (d : LinkEnd). is_in_session w d k ≡ true) (sym (t.far_far e v)) (up_in e u).near } in
       let T : Told (end_from t p k pfd w f) (end_from t p k pfd w e) =
       subst (λ (d : LinkEnd). Told (end_from t p k pfd w f) (end_from t p k pfd w d)) (t.far_far e v)
@@ -159,7 +160,7 @@ module _ (t : Topology) (p : Prefix) (pfd : ℕ → ℕ) (w : Processes) (I : In
       cost_is p (router_at w e) (I.keeps e.router) e.port O.port O.at ∙ sym (ap (λ o. option_map_or (λ (x : Port). x.cost) o 0) O.at)
 
   -- a way is a walk of links that are up, to the same router
-  to_walk : (i : ℕ) (es : List LinkEnd) (k : ℕ) → IsWay t w i es k → IsEdgeWalk t' (λ e. up e ≡ true) i es × (walk_end t' i es ≡ k)
+  to_walk : (i : ℕ) (es : List LinkEnd) (k : ℕ) → IsSessionWay t w i es k → IsEdgeWalk t' (λ e. up e ≡ true) i es × (walk_end t' i es ≡ k)
   to_walk i [] k h = (tt, h)
   to_walk i (e ∷ es) k (session, from, is, rest) =
       let u = (in_last e session is.near).is_up in
@@ -167,7 +168,7 @@ module _ (t : Topology) (p : Prefix) (pfd : ℕ → ℕ) (w : Processes) (I : In
       ((from, u, u, W.0), W.1)
 
   -- of the same cost
-  to_cost : (i : ℕ) (es : List LinkEnd) (k : ℕ) → IsWay t w i es k → edges_cost s es ≡ way_cost w es
+  to_cost : (i : ℕ) (es : List LinkEnd) (k : ℕ) → IsSessionWay t w i es k → edges_cost s es ≡ way_cost w es
   to_cost i [] k h = refl
   to_cost i (e ∷ es) k (session, from, is, rest) =
       let u = (in_last e session is.near).is_up in
@@ -176,7 +177,7 @@ module _ (t : Topology) (p : Prefix) (pfd : ℕ → ℕ) (w : Processes) (I : In
       (λ z. one z + others z)
 
   -- a walk of links that are up is a way
-  from_walk : (i : ℕ) (es : List LinkEnd) → IsEdgeWalk t' (λ e. up e ≡ true) i es → IsWay t w i es (walk_end t' i es)
+  from_walk : (i : ℕ) (es : List LinkEnd) → IsEdgeWalk t' (λ e. up e ≡ true) i es → IsSessionWay t w i es (walk_end t' i es)
   from_walk i [] h = refl
   from_walk i (e ∷ es) h = (session_of w e, h.0, up_in e h.1, from_walk (t.far e).router es h.3)
 
@@ -195,13 +196,13 @@ module _ (t : Topology) (p : Prefix) (pfd : ℕ → ℕ) (w : Processes) (I : In
       record { live = W.0; cost = h.attachment; home = ap (λ (j : ℕ). (machine j).attachment) W.1 ∙ sym (attachment_is p (w.routers k)) ∙ h.attached }
 
   -- a walk along published successors to a Local row is a chain of rows
-  from_chain : (i : ℕ) (es : List LinkEnd) → IsEdgeWalk t' (Follows s) i es → published_entry w (walk_end t' i es) p ≡ Some Local → IsChain t w p i es (walk_end t' i es)
+  from_chain : (i : ℕ) (es : List LinkEnd) → IsEdgeWalk t' (Follows s) i es → entry_in_force w (walk_end t' i es) p ≡ Some Local → IsSessionChain t w p i es (walk_end t' i es)
   from_chain i [] h local = (refl, local)
   from_chain i (e ∷ es) h local = (
     session_of w e,
     h.0,
     up_in e h.1,
-    subst (λ (j : ℕ). published_entry w j p ≡ Some (Via e.port (session_of w e))) h.0 (via_row e.port (session_of w e) (published_entry w e.router p) ((h.2).sends).chosen),
+    subst (λ (j : ℕ). entry_in_force w j p ≡ Some (Via e.port (session_of w e))) h.0 (via_row e.port (session_of w e) (entry_in_force w e.router p) ((h.2).sends).chosen),
     from_chain (t.far e).router es h.3 local,
   )
 
@@ -211,7 +212,7 @@ module _ (t : Topology) (p : Prefix) (pfd : ℕ → ℕ) (w : Processes) (I : In
   end_placed i (e ∷ es) l h = end_placed (t.far e).router es (placed (t.far e) (up_far e h.1)) h.3
 
   -- a router that is routed in the state has a route
-  routed : (i : ℕ) → i < n → IsRouted t' n s i → HasRoute t w p i
+  routed : (i : ℕ) → i < n → IsRouted t' n s i → ProcessHasRoute t w p i
   unfolding leads_home
   routed i l Q =
       let o : ℕ = walk_end t' i Q.chain in
@@ -249,7 +250,7 @@ module _ (t : Topology) (p : Prefix) (pfd : ℕ → ℕ) (w : Processes) (I : In
       })
 
   -- each router has its best row
-  pub best : (i : ℕ) → i < n → HasBestRow t w p i
+  pub best : (i : ℕ) → i < n → ProcessHasBestRow t w p i
   best i l = record {
     connected = λ es k c h. routed i l ((optimal i l).connected es (leads_home i es k c h));
     cut_off = λ none. lost_quiet p (w.routers i) (I.keeps i) (A.quiet i l) ((optimal i l).disconnected (no_way i none)).no_successor;

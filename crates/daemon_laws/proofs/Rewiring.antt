@@ -2,13 +2,13 @@
 use Rattle.std.proofs.Common.{refl, sym, ap, subst, ◌∙◌, arith, inl, inr, ◌≡◌, ℕ, ◌<◌, ◌≤◌, max, Bool, true, false, not, ◌&&◌, ◌==◌, if◌then◌else◌, [], ◌++◌, eq-eqb}
 use Rattle.no_packet_loops.proofs.Common.{and_parts, and_from, Prefix, machine_of, is_port, is_up_at, kept, ripe_of, unripe_of, Topology, LinkEnd}
 use Rattle.network_model.proofs.Common.{cases_Bool, both_ways, false_from_ne_true, and_left}
-use Rattle.machine_laws.specs.Laws.{awaits, owes}
+use Rattle.machine_laws.specs.Laws.{awaits, owes_port}
 use Rattle.loop_freedom.specs.Facts.{End, messages}
 use Rattle.loop_freedom.proofs.Link.{EndInvariant}
 use Rattle.loop_freedom.proofs.Notices.{IsLawfullyHeld, lawfully_held_later, nothing_held_later}
 use Rattle.daemon_laws.specs.Processes.{Processes}
 use Rattle.daemon_laws.specs.Happenings.{is_same_end, link_stays, is_new_link, MayRewire, rewired}
-use Rattle.daemon_laws.proofs.Seen.{carried, arriving, end_in, is_in}
+use Rattle.daemon_laws.proofs.Seen.{carried, arriving_in, end_in, is_port_in}
 use Rattle.daemon_laws.proofs.Moving.{not_yet}
 use Rattle.daemon_laws.proofs.Told.{Told}
 use Rattle.daemon_laws.proofs.Gone.{Gone}
@@ -100,7 +100,7 @@ module _ (t t' : Topology) (p : Prefix) (pfd : ℕ → ℕ) (w : Processes) (I :
   new_last e v off = ap (λ b. if b then max (session_of w e) (session_of w (t'.far e)) else w.last e) (new_at e v off)
 
   -- it is in no session
-  out : (e : LinkEnd) (n : ℕ) → is_new_link t t' e ≡ true → is_in p (router_at w e) e.port n ≡ false
+  out : (e : LinkEnd) (n : ℕ) → is_new_link t t' e ≡ true → is_port_in p (router_at w e) e.port n ≡ false
   out e n new = sym (in_session_is p w e (I.keeps e.router) n) ∙ R e new n
 
   -- it is blank in each that it may come into
@@ -108,20 +108,20 @@ module _ (t t' : Topology) (p : Prefix) (pfd : ℕ → ℕ) (w : Processes) (I :
   blank e n v off past =
       let r = router_at w e in
       let m = machine_of r p in
-      let away : is_in p r e.port n ≡ false = not_yet p r e.port n past in
+      let away : is_port_in p r e.port n ≡ false = not_yet p r e.port n past in
       record {
         off = away;
-        chosen = and_left (is_in p r e.port n) (is_port e.port m.successor) away;
+        chosen = and_left (is_port_in p r e.port n) (is_port e.port m.successor) away;
         shown = false_from_ne_true (end_from t' p n pfd w' e).shown (λ s. (let le = O.row_past e n s in omega (arith, le, past)));
-        awaits = and_left (is_in p r e.port n) (awaits m e.port) away;
-        owes = and_left (is_in p r e.port n) (owes m e.port) away;
-        empty = (λ z. (messages (arriving n (carried p (none_comes (t'.far e) (new_far e v off) z))) ++ nothing_held_later (session_of w e) n (kept p e.port (ripe_of r)) past (I.ripe_lawful e.router e.port) z) ++ nothing_held_later (session_of w e) n (kept p e.port (unripe_of r)) past (I.unripe_lawful e.router e.port) z);
+        awaits = and_left (is_port_in p r e.port n) (awaits m e.port) away;
+        owes = and_left (is_port_in p r e.port n) (owes_port m e.port) away;
+        empty = (λ z. (messages (arriving_in n (carried p (none_comes (t'.far e) (new_far e v off) z))) ++ nothing_held_later (session_of w e) n (kept p e.port (ripe_of r)) past (I.ripe_lawful e.router e.port) z) ++ nothing_held_later (session_of w e) n (kept p e.port (unripe_of r)) past (I.unripe_lawful e.router e.port) z);
         pfd_low = I.pfd_bounded e.router;
       }
 
   -- an end that may be in a session after has to come into it
   to_come : (e : LinkEnd) (n : ℕ) → t'.valid e ≡ true → link_stays t t' e ≡ false → MayBe p n w' e → (session_of w e < n) × (session_of w (t'.far e) < n)
-  to_come e n v off (inl on) = absurd (both_ways (is_in p (router_at w e) e.port n) (out e n (new_at e v off)) on)
+  to_come e n v off (inl on) = absurd (both_ways (is_port_in p (router_at w e) e.port n) (out e n (new_at e v off)) on)
   to_come e n v off (inr lt) = (let is = new_last e v off in (omega (arith, lt, is), omega (arith, lt, is)))
 
   -- so both ends of a link that was not there are blank
@@ -209,7 +209,7 @@ module _ (t t' : Topology) (p : Prefix) (pfd : ℕ → ℕ) (w : Processes) (I :
     where
       by_new : (b : Bool) → is_new_link t t' e ≡ b → (if b then max (session_of w e) (session_of w (t'.far e)) else w.last e) ≤ session_of w e
       by_new false is = O.up_last e u
-      by_new true is = absurd (both_ways (is_in p (router_at w e) e.port (session_of w e)) (out e (session_of w e) is)
+      by_new true is = absurd (both_ways (is_port_in p (router_at w e) e.port (session_of w e)) (out e (session_of w e) is)
           (and_from (is_up_at (machine_of (router_at w e) p) e.port) (session_of w e == session_of w e) u (eq-eqb (session_of w e) (session_of w e) refl)))
 
   heard_less : (e : LinkEnd) → w'.heard e ≤ w.heard e

@@ -13,7 +13,7 @@ use Rattle.single_router.specs.declared.input.Input.TheVariants as input
 use Rattle.single_router.specs.Inputs.{told_fault, router_after}
 use Rattle.single_router.specs.Openings.{made_router}
 use Rattle.daemon_laws.specs.Processes.{Processes}
-use Rattle.daemon_laws.specs.Happenings.{Happening, Tells, Takes, Loses, Publishes, PublishesSome, Forgets, Releases, BeginsAnew, CanHappen, IsMade, Begins, with_router, told, forgotten, next}
+use Rattle.daemon_laws.specs.Happenings.{Happening, Tells, Takes, Loses, Publishes, PublishesSome, Forgets, Releases, BeginsAnew, CanHappen, IsMade, IsOpening, with_process, told_router, forgotten, after_happening}
 use Rattle.daemon_laws.specs.Facts.{fd_then, fds_next, first_fds}
 use Rattle.daemon_laws.proofs.Cases.{by_take, by_release}
 use Rattle.daemon_laws.proofs.SomeRows.{none_in_force, row_beside, chosen_without}
@@ -31,14 +31,14 @@ module _ (p : Prefix) where
   AllShown routers fds = (i : ℕ) → ShownAt (routers i) (fds i)
 
   -- one router changed, and the feasible distance with which it published
-  changed_shown : (i : ℕ) (f : Router → Router) (routers : ℕ → Router) (fds fds' : ℕ → ℕ) → ((j : ℕ) → j ≢ i → fds' j ≡ fds j) → AllShown routers fds → ShownAt (f (routers i)) (fds' i) → AllShown (with_router i f routers) fds'
+  changed_shown : (i : ℕ) (f : Router → Router) (routers : ℕ → Router) (fds fds' : ℕ → ℕ) → ((j : ℕ) → j ≢ i → fds' j ≡ fds j) → AllShown routers fds → ShownAt (f (routers i)) (fds' i) → AllShown (with_process i f routers) fds'
   changed_shown i f routers fds fds' same A here j = elim (cases_eq j i) [
-    | inl e ↦ subst (λ k. ShownAt (with_router i f routers k) (fds' k)) (sym e) (subst (λ (x : Router). ShownAt x (fds' i)) (sym (router_here i f routers)) here)
+    | inl e ↦ subst (λ k. ShownAt (with_process i f routers k) (fds' k)) (sym e) (subst (λ (x : Router). ShownAt x (fds' i)) (sym (router_here i f routers)) here)
     | inr d ↦ subst (λ (x : Router). ShownAt x (fds' j)) (sym (router_away i f routers j d)) (subst (λ n. ShownAt (routers j) n) (sym (same j d)) (A j))
   ]
 
   -- a router that is told
-  told_shown : (x : Input) (r : Router) (fd : ℕ) → ShownAt r fd → ShownAt (told x r) fd
+  told_shown : (x : Input) (r : Router) (fd : ℕ) → ShownAt r fd → ShownAt (told_router x r) fd
   told_shown x r fd S = by_fault (is_none (told_fault x r))
     where
       by_input : (y : Input) → ShownAt (router_after y r) fd
@@ -68,10 +68,10 @@ module _ (p : Prefix) where
   follows_without k r F = ap (λ rows. without k rows) F ∙ chosen_without k r.ports r.machines
 
   -- so it is after what happens
-  pub next_shown : (t : Topology) (w : Processes) (h : Happening) (fds : ℕ → ℕ) → CanHappen w h → AllShown w.routers fds → AllShown (next t w h).routers (fds_next p w h fds)
-  next_shown t w (Tells i x) fds can A = changed_shown i (told x) w.routers fds fds (λ j d. refl) A (told_shown x (w.routers i) (fds i) (A i))
+  pub next_shown : (t : Topology) (w : Processes) (h : Happening) (fds : ℕ → ℕ) → CanHappen w h → AllShown w.routers fds → AllShown (after_happening t w h).routers (fds_next p w h fds)
+  next_shown t w (Tells i x) fds can A = changed_shown i (told_router x) w.routers fds fds (λ j d. refl) A (told_shown x (w.routers i) (fds i) (A i))
   next_shown t w (Takes e) fds can A = by_take t w (λ v. AllShown v.routers fds) A e (λ c at le.
-      let m = input.Message e.port c.session c.message in changed_shown e.router (told m) w.routers fds fds (λ j d. refl) A (told_shown m (w.routers e.router) (fds e.router) (A e.router)))
+      let m = input.Message e.port c.session c.message in changed_shown e.router (told_router m) w.routers fds fds (λ j d. refl) A (told_shown m (w.routers e.router) (fds e.router) (A e.router)))
   next_shown t w (Loses e) fds can A = A
   next_shown t w (Publishes i) fds can A = changed_shown i router_publishing w.routers fds (fds_next p w (Publishes i) fds) (λ j d. rw (ne_eqb j i d) refl) A here
     where
@@ -105,5 +105,5 @@ module _ (p : Prefix) where
       (rw (eq-eqb i i refl) (made_shown (made_router costs attachments) (record { costs = costs; attachments = attachments; good = can; made = refl })))
 
   -- so it is where routers begin
-  pub begins_shown : (w : Processes) → Begins w → AllShown w.routers (first_fds p w)
+  pub begins_shown : (w : Processes) → IsOpening w → AllShown w.routers (first_fds p w)
   begins_shown w B i = made_shown (w.routers i) (B.routers_made i)

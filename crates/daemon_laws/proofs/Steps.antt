@@ -11,10 +11,10 @@ use Rattle.single_router.specs.declared.input.Input.{Input}
 use Rattle.single_router.specs.declared.input.Input.TheVariants as input
 use Rattle.daemon_laws.specs.Processes.{Carried, Processes}
 use Rattle.daemon_laws.specs.Packets.{is_in_session}
-use Rattle.daemon_laws.specs.Happenings.{Happening, Tells, Takes, Loses, Publishes, PublishesSome, Forgets, Releases, BeginsAnew, IsLocalInput, CanHappen, with_router, is_same_end, with_coming, told, forgotten, sent_from, with_released, next}
+use Rattle.daemon_laws.specs.Happenings.{Happening, Tells, Takes, Loses, Publishes, PublishesSome, Forgets, Releases, BeginsAnew, IsLocalInput, CanHappen, with_process, is_same_end, with_coming, told_router, forgotten, sent_from, having_released, after_happening}
 use Rattle.daemon_laws.specs.Facts.{fd_then, fds_next}
 use Rattle.daemon_laws.proofs.Cases.{after_message, by_take, by_release}
-use Rattle.daemon_laws.proofs.Seen.{carried, is_in}
+use Rattle.daemon_laws.proofs.Seen.{carried, is_port_in}
 use Rattle.daemon_laws.proofs.Goes.{Goes}
 use Rattle.daemon_laws.proofs.Telling.{in_session_is, GoesAlone, goes_told, GoesWith, goes_with}
 use Rattle.daemon_laws.proofs.Orderly.{Orderly}
@@ -35,11 +35,11 @@ use Rattle.daemon_laws.proofs.Releasing.{as_carried, Sent, OnItsWay, Lost, relea
 -- ---- one router, or what comes to one end, changed
 
 -- the router that is changed
-pub router_here : (i : ℕ) (f : Router → Router) (rs : ℕ → Router) → with_router i f rs i ≡ f (rs i)
+pub router_here : (i : ℕ) (f : Router → Router) (rs : ℕ → Router) → with_process i f rs i ≡ f (rs i)
 router_here i f rs = rw (eq-eqb i i refl) refl
 
 -- another router
-pub router_away : (i : ℕ) (f : Router → Router) (rs : ℕ → Router) (j : ℕ) → j ≢ i → with_router i f rs j ≡ rs j
+pub router_away : (i : ℕ) (f : Router → Router) (rs : ℕ → Router) (j : ℕ) → j ≢ i → with_process i f rs j ≡ rs j
 router_away i f rs j d = rw (ne_eqb j i d) refl
 
 -- an end is the same as itself
@@ -64,24 +64,24 @@ coming_away e f cs d apart = let off : is_same_end d e ≡ false = false_from_ne
 
 module _ (t : Topology) (p : Prefix) (pfd : ℕ → ℕ) (w : Processes) (I : Invariant t p pfd w) where
   -- a process tells its router
-  abbrev pub tells_at : (i : ℕ) (x : Input) → IsLocalInput w i x → GoesAt t p w (next t w (Tells i x))
+  abbrev pub tells_at : (i : ℕ) (x : Input) → IsLocalInput w i x → GoesAt t p w (after_happening t w (Tells i x))
   tells_at i x own =
-      let G : GoesAlone p x (w.routers i) (told x (w.routers i)) = goes_told p (w.routers i) (I.keeps i) (I.sound i) w i x own in
-      let now : with_router i (told x) w.routers i ≡ told x (w.routers i) = router_here i (told x) w.routers in
+      let G : GoesAlone p x (w.routers i) (told_router x (w.routers i)) = goes_told p (w.routers i) (I.keeps i) (I.sound i) w i x own in
+      let now : with_process i (told_router x) w.routers i ≡ told_router x (w.routers i) = router_here i (told_router x) w.routers in
       record {
         i = i;
         q = G.q;
         took = G.took;
         goes = subst (λ (r : Router). Goes p (w.routers i) r G.q G.took) (sym now) G.goes;
-        routers_elsewhere = λ j d. router_away i (told x) w.routers j d;
+        routers_elsewhere = λ j d. router_away i (told_router x) w.routers j d;
         coming_elsewhere = λ e d. refl;
         lost_same = refl;
         last_grows = λ e. omega arith;
         last_after = λ e. omega arith;
         fresh = λ j lt. (
-            let same : session_at (with_router i (told x) w.routers i).ports j ≡ session_at (told x (w.routers i)).ports j = ap (λ (r : Router). session_at r.ports j) now in
+            let same : session_at (with_process i (told_router x) w.routers i).ports j ≡ session_at (told_router x (w.routers i)).ports j = ap (λ (r : Router). session_at r.ports j) now in
             let g = G.grows j (omega (arith, lt, same)) in
-            let own_up : IsLocalInput w i (input.Up j (session_at (told x (w.routers i)).ports j) g.0) = subst (IsLocalInput w i) g.1 own in
+            let own_up : IsLocalInput w i (input.Up j (session_at (told_router x (w.routers i)).ports j) g.0) = subst (IsLocalInput w i) g.1 own in
             let later = own_up.0 in
             omega (arith, later, same));
         coming_at = λ v n may. sym (ap (λ o. front o ++ live n (carried p (w.coming (at_port i G.q)))) (G.takes_nothing n));
@@ -89,8 +89,8 @@ module _ (t : Topology) (p : Prefix) (pfd : ℕ → ℕ) (w : Processes) (I : In
       }
 
   -- that keeps the invariant
-  tells_keeps : (i : ℕ) (x : Input) → IsLocalInput w i x → Invariant t p pfd (next t w (Tells i x))
-  tells_keeps i x own = goes_keeps t p pfd w (next t w (Tells i x)) I (tells_at i x own)
+  tells_keeps : (i : ℕ) (x : Input) → IsLocalInput w i x → Invariant t p pfd (after_happening t w (Tells i x))
+  tells_keeps i x own = goes_keeps t p pfd w (after_happening t w (Tells i x)) I (tells_at i x own)
 
   -- a message as the prefix sees it
   abbrev as_seen : Carried → SeenHeld
@@ -124,21 +124,21 @@ module _ (t : Topology) (p : Prefix) (pfd : ℕ → ℕ) (w : Processes) (I : In
         by_prefix false g = g
 
     -- the router's step
-    pub goes_here : GoesWith p (w.routers e.router) (I.keeps e.router) (I.sound e.router) e.port c.session c.message (told (input.Message e.port c.session c.message) (w.routers e.router))
+    pub goes_here : GoesWith p (w.routers e.router) (I.keeps e.router) (I.sound e.router) e.port c.session c.message (told_router (input.Message e.port c.session c.message) (w.routers e.router))
     goes_here = goes_with p (w.routers e.router) (I.keeps e.router) (I.sound e.router) e.port c.session c.message bounded
 
     -- in each session that the router may be in, what comes over a link is what is taken, and then the rest
-    pub took_is : t.valid e ≡ true → (n : ℕ) → (is_in p (told (input.Message e.port c.session c.message) (w.routers e.router)) e.port n ≡ true) ⊎ (w.last e < n) → live n (carried p (w.coming e)) ≡ front (goes_here.took n) ++ live n rest
+    pub took_is : t.valid e ≡ true → (n : ℕ) → (is_port_in p (told_router (input.Message e.port c.session c.message) (w.routers e.router)) e.port n ≡ true) ⊎ (w.last e < n) → live n (carried p (w.coming e)) ≡ front (goes_here.took n) ++ live n rest
     took_is v n may = ap (live n) came ∙ by_prefix (prefix_eq p (c.message).prefix) refl
       where
-        there : (is_in p (told (input.Message e.port c.session c.message) (w.routers e.router)) e.port n ≡ true) ⊎ (w.last e < n) → c.session ≡ n → is_in p (told (input.Message e.port c.session c.message) (w.routers e.router)) e.port n ≡ true
+        there : (is_port_in p (told_router (input.Message e.port c.session c.message) (w.routers e.router)) e.port n ≡ true) ⊎ (w.last e < n) → c.session ≡ n → is_port_in p (told_router (input.Message e.port c.session c.message) (w.routers e.router)) e.port n ≡ true
         there (inl on) s = on
         there (inr lt) s = absurd (omega (arith, lt, s, le))
 
         by_prefix : (b : Bool) → prefix_eq p (c.message).prefix ≡ b → live n (if b then as_seen c ∷ rest else rest) ≡ front (goes_here.took n) ++ live n rest
         by_prefix false apart = sym (ap (λ o. front o ++ live n rest) (goes_here.takes_other n apart))
         by_prefix true same = elim (cases_eq c.session n) [
-          | inl s ↦ ap (λ b. if b then msg_of c.message ∷ live n rest else live n rest) (eq-eqb c.session n s) ∙ sym (ap (λ o. front o ++ live n rest) (goes_here.takes n (there may s) same s (λ on. polite t p pfd w I e v c at same (subst (λ (k : ℕ). is_in p (w.routers e.router) e.port k ≡ true) (sym s) on))))
+          | inl s ↦ ap (λ b. if b then msg_of c.message ∷ live n rest else live n rest) (eq-eqb c.session n s) ∙ sym (ap (λ o. front o ++ live n rest) (goes_here.takes n (there may s) same s (λ on. polite t p pfd w I e v c at same (subst (λ (k : ℕ). is_port_in p (w.routers e.router) e.port k ≡ true) (sym s) on))))
           | inr d ↦ ap (λ b. if b then msg_of c.message ∷ live n rest else live n rest) (ne_eqb c.session n d) ∙ sym (ap (λ o. front o ++ live n rest) (goes_here.takes_not n d))
         ]
 
@@ -148,19 +148,19 @@ module _ (t : Topology) (p : Prefix) (pfd : ℕ → ℕ) (w : Processes) (I : In
       | inl g ↦
           let is : session_at (w'.routers d.router).ports d.port ≡ session_at (w.routers d.router).ports d.port =
           ap (λ (k : ℕ). session_at (w'.routers k).ports d.port) g
-          ∙ ap (λ (r : Router). session_at r.ports d.port) (router_here e.router (told (input.Message e.port c.session c.message)) w.routers) ∙ goes_here.same d.port
+          ∙ ap (λ (r : Router). session_at r.ports d.port) (router_here e.router (told_router (input.Message e.port c.session c.message)) w.routers) ∙ goes_here.same d.port
           ∙ ap (λ (k : ℕ). session_at (w.routers k).ports d.port) (sym g) in
           (let l = I.last_is d in omega (arith, is, l))
       | inr a ↦
-          let is : session_at (w'.routers d.router).ports d.port ≡ session_at (w.routers d.router).ports d.port = ap (λ (r : Router). session_at r.ports d.port) (router_away e.router (told (input.Message e.port c.session c.message)) w.routers d.router a) in
+          let is : session_at (w'.routers d.router).ports d.port ≡ session_at (w.routers d.router).ports d.port = ap (λ (r : Router). session_at r.ports d.port) (router_away e.router (told_router (input.Message e.port c.session c.message)) w.routers d.router a) in
           (let l = I.last_is d in omega (arith, is, l))
     ]
 
     -- the message is taken
     abbrev pub taken_at : GoesAt t p w w'
     taken_at =
-        let f = told (input.Message e.port c.session c.message) in
-        let now : with_router e.router f w.routers e.router ≡ f (w.routers e.router) = router_here e.router f w.routers in
+        let f = told_router (input.Message e.port c.session c.message) in
+        let now : with_process e.router f w.routers e.router ≡ f (w.routers e.router) = router_here e.router f w.routers in
         let rest_is : with_coming e (drop 1) w.coming e ≡ drop 1 (w.coming e) = coming_here e (drop 1) w.coming in
         record {
           i = e.router;
@@ -173,9 +173,9 @@ module _ (t : Topology) (p : Prefix) (pfd : ℕ → ℕ) (w : Processes) (I : In
           last_grows = λ d. omega arith;
           last_after = last_then;
           fresh = λ j lt. absurd (
-              let same : session_at (with_router e.router f w.routers e.router).ports j ≡ session_at (w.routers e.router).ports j = ap (λ (r : Router). session_at r.ports j) now ∙ goes_here.same j in
+              let same : session_at (with_process e.router f w.routers e.router).ports j ≡ session_at (w.routers e.router).ports j = ap (λ (r : Router). session_at r.ports j) now ∙ goes_here.same j in
               omega (arith, lt, same));
-          coming_at = λ v n may. took_is v n (subst (λ (r : Router). (is_in p r e.port n ≡ true) ⊎ (w.last e < n)) now may) ∙ ap (λ cs. front (goes_here.took n) ++ live n (carried p cs)) (sym rest_is);
+          coming_at = λ v n may. took_is v n (subst (λ (r : Router). (is_port_in p r e.port n ≡ true) ⊎ (w.last e < n)) now may) ∙ ap (λ cs. front (goes_here.took n) ++ live n (carried p cs)) (sym rest_is);
           coming_fewer = λ k h. subst (λ cs. IsLawfullyHeld k (carried p cs)) (sym rest_is) (fewer k h);
         }
 
@@ -184,13 +184,13 @@ module _ (t : Topology) (p : Prefix) (pfd : ℕ → ℕ) (w : Processes) (I : In
     taken_keeps = goes_keeps t p pfd w w' I taken_at
 
   -- a process takes the oldest message that is on its way to an end of a link
-  takes_keeps : (e : LinkEnd) → Invariant t p pfd (next t w (Takes e))
+  takes_keeps : (e : LinkEnd) → Invariant t p pfd (after_happening t w (Takes e))
   takes_keeps e = by_take t w (Invariant t p pfd) I e (taken_keeps e)
 
   -- router i puts rows in force, or forgets a prefix
   puts_at : (i : ℕ) (f : Router → Router) (pfd' : ℕ → ℕ) → ((j : ℕ) → j ≢ i → pfd' j ≡ pfd j) → PutsInForce p (w.routers i) (f (w.routers i)) (pfd i) (pfd' i)
-      → Invariant t p pfd' (record { routers = with_router i f w.routers; coming = w.coming; last = w.last; heard = w.heard; lost = w.lost })
-  puts_at i f pfd' elsewhere puts = puts_keeps t p pfd pfd' w (record { routers = with_router i f w.routers; coming = w.coming; last = w.last; heard = w.heard; lost = w.lost }) I (record {
+      → Invariant t p pfd' (record { routers = with_process i f w.routers; coming = w.coming; last = w.last; heard = w.heard; lost = w.lost })
+  puts_at i f pfd' elsewhere puts = puts_keeps t p pfd pfd' w (record { routers = with_process i f w.routers; coming = w.coming; last = w.last; heard = w.heard; lost = w.lost }) I (record {
     i = i;
     puts = subst (λ (r : Router). PutsInForce p (w.routers i) r (pfd i) (pfd' i)) (sym (router_here i f w.routers)) puts;
     routers_elsewhere = λ j d. router_away i f w.routers j d;
@@ -221,7 +221,7 @@ module _ (t : Topology) (p : Prefix) (pfd : ℕ → ℕ) (w : Processes) (I : In
       (puts_forgetting p (w.routers i) (I.keeps i) (I.sound i) (I.cheap i) k (pfd i) (I.pfd_bounded i))
 
   -- a router that is not in a session by its port is not in it by its machine
-  not_in_it : (e : LinkEnd) (session : ℕ) → is_in_session w e session ≡ false → is_in p (router_at w e) e.port session ≡ false
+  not_in_it : (e : LinkEnd) (session : ℕ) → is_in_session w e session ≡ false → is_port_in p (router_at w e) e.port session ≡ false
   not_in_it e session h = sym (in_session_is p w e (I.keeps e.router) session) ∙ h
 
   -- the message that is released is on its way then, or lost
@@ -240,8 +240,8 @@ module _ (t : Topology) (p : Prefix) (pfd : ℕ → ℕ) (w : Processes) (I : In
       by_test false va d on is = Lost (λ v'. absurd (both_ways (t.valid (at_port i h.port)) va v')) is
 
   -- a router releases a message
-  releases_keeps : (i : ℕ) → Invariant t p pfd (next t w (Releases i))
-  releases_keeps i = by_release t w (Invariant t p pfd) I i (λ h at. release_keeps t p pfd w (with_released t i w h) I (record {
+  releases_keeps : (i : ℕ) → Invariant t p pfd (after_happening t w (Releases i))
+  releases_keeps i = by_release t w (Invariant t p pfd) I i (λ h at. release_keeps t p pfd w (having_released t i w h) I (record {
     i = i;
     h = h;
     front = at;
@@ -249,14 +249,14 @@ module _ (t : Topology) (p : Prefix) (pfd : ℕ → ℕ) (w : Processes) (I : In
     routers_elsewhere = λ j d. router_away i router_releasing w.routers j d;
     last_same = λ e. refl;
     lost_same = refl;
-    sent = sent_is i h (with_released t i w h) (λ e. refl);
+    sent = sent_is i h (having_released t i w h) (λ e. refl);
   }))
 
   -- a process ends, and another begins in its place
-  anew_keeps : Orderly t p w → Placed t w → (i : ℕ) (costs : List ℕ) (attachments : List Attachment) → make_fault costs attachments ≡ None → Invariant t p (fds_next p w (BeginsAnew i costs attachments) pfd) (next t w (BeginsAnew i costs attachments))
+  anew_keeps : Orderly t p w → Placed t w → (i : ℕ) (costs : List ℕ) (attachments : List Attachment) → make_fault costs attachments ≡ None → Invariant t p (fds_next p w (BeginsAnew i costs attachments) pfd) (after_happening t w (BeginsAnew i costs attachments))
   anew_keeps O P i costs attachments good =
-      let now : with_router i (λ r. made_router costs attachments) w.routers i ≡ made_router costs attachments = router_here i (λ r. made_router costs attachments) w.routers in
-      restart_keeps t p pfd (fds_next p w (BeginsAnew i costs attachments) pfd) w (next t w (BeginsAnew i costs attachments)) I O P (record {
+      let now : with_process i (λ r. made_router costs attachments) w.routers i ≡ made_router costs attachments = router_here i (λ r. made_router costs attachments) w.routers in
+      restart_keeps t p pfd (fds_next p w (BeginsAnew i costs attachments) pfd) w (after_happening t w (BeginsAnew i costs attachments)) I O P (record {
         i = i;
         made_here = subst (Made p) (sym now) (made p (made_router costs attachments) (record { costs = costs; attachments = attachments; good = good; made = refl }));
         routers_elsewhere = λ j d. router_away i (λ r. made_router costs attachments) w.routers j d;
@@ -268,7 +268,7 @@ module _ (t : Topology) (p : Prefix) (pfd : ℕ → ℕ) (w : Processes) (I : In
       })
 
   -- whatever happens keeps it
-  pub next_keeps : Orderly t p w → Placed t w → (h : Happening) → CanHappen w h → Invariant t p (fds_next p w h pfd) (next t w h)
+  pub next_keeps : Orderly t p w → Placed t w → (h : Happening) → CanHappen w h → Invariant t p (fds_next p w h pfd) (after_happening t w h)
   next_keeps O P (Tells i x) can = tells_keeps i x can
   next_keeps O P (Takes e) can = takes_keeps e
   next_keeps O P (Loses e) can = loses_keeps t p pfd w I e

@@ -8,7 +8,7 @@ use Rattle.single_router.specs.Inputs.{told_fault, port_fault, message_fault, ki
 use Rattle.single_router.specs.declared.input.Input.TheVariants as input
 use Rattle.daemon_laws.specs.Processes.{Carried, Processes}
 use Rattle.daemon_laws.specs.Packets.{is_in_session}
-use Rattle.daemon_laws.proofs.Seen.{is_in}
+use Rattle.daemon_laws.proofs.Seen.{is_port_in}
 use Rattle.daemon_laws.proofs.Items.{up_is, session_is}
 use Rattle.daemon_laws.proofs.Invariant.{router_at, Invariant}
 use Rattle.daemon_laws.proofs.Polite.{polite}
@@ -28,7 +28,7 @@ module _ (t : Topology) (w : Processes) (e : LinkEnd) (v : t.valid e ≡ true) (
       let parts = and_parts x.up (x.session == c.session) on in
       let up : is_up_at (machine_of (router_at w e) p) e.port ≡ true = up_is p (router_at w e) (I.keeps e.router) e.port x there ∙ parts.0 in
       let session : (session_at (router_at w e).ports e.port == c.session) ≡ true = eq-eqb (session_at (router_at w e).ports e.port) c.session (session_is (router_at w e) e.port x there ∙ eqb-true x.session c.session parts.1) in
-      let on' : is_in p (router_at w e) e.port c.session ≡ true = and_from (is_up_at (machine_of (router_at w e) p) e.port) (session_at (router_at w e).ports e.port == c.session) up session in
+      let on' : is_port_in p (router_at w e) e.port c.session ≡ true = and_from (is_up_at (machine_of (router_at w e) p) e.port) (session_at (router_at w e).ports e.port == c.session) up session in
       rw (parts.0, parts.1) (polite t p pfd w I e v c at (prefix_itself p) on')
 
   -- so a message that comes in the session of its end is taken

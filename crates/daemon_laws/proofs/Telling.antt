@@ -11,10 +11,11 @@ use Rattle.single_router.specs.declared.input.Input.TheVariants as input
 use Rattle.no_packet_loops.proofs.Machines.{prefix_same}
 use Rattle.daemon_laws.specs.Processes.{Processes}
 use Rattle.daemon_laws.specs.Packets.{is_in_session}
-use Rattle.daemon_laws.specs.Happenings.{IsLocalInput, told}
-use Rattle.daemon_laws.proofs.Seen.{is_in}
+use Rattle.daemon_laws.specs.Happenings.{IsLocalInput, told_router}
+use Rattle.daemon_laws.proofs.Seen.{is_port_in}
 use Rattle.daemon_laws.proofs.Routers.{RouterKept, Unmoved, unmoved_elsewhere}
-use Rattle.daemon_laws.proofs.Moving.{port_within, in_session}
+use Rattle.no_packet_loops.proofs.Taking.{port_within}
+use Rattle.daemon_laws.proofs.Moving.{in_session}
 use Rattle.daemon_laws.proofs.Items.{up_is, as_many, session_is, took_up, took_down, took_cost, took_message}
 use Rattle.daemon_laws.proofs.Goes.{Goes, nothing, goes_unmoved, goes_took, goes_home, taken_in}
 
@@ -83,10 +84,10 @@ none_up p r R q e = false_from_ne_true (is_up_at (machine_of r p) q) (λ up. (
     omega (arith, within, same, past)))
 
 -- a router is in a session by its port where it is by its machine
-pub in_session_is : (p : Prefix) (w : Processes) (e : LinkEnd) → RouterKept p (w.routers e.router) → (session : ℕ) → is_in_session w e session ≡ is_in p (w.routers e.router) e.port session
+pub in_session_is : (p : Prefix) (w : Processes) (e : LinkEnd) → RouterKept p (w.routers e.router) → (session : ℕ) → is_in_session w e session ≡ is_port_in p (w.routers e.router) e.port session
 in_session_is p w e R session = by_port (slice_get (w.routers e.router).ports e.port) refl
   where
-    by_port : (o : Option Port) → slice_get (w.routers e.router).ports e.port ≡ o → option_map_or (λ (x : Port). x.up && (x.session == session)) o false ≡ is_in p (w.routers e.router) e.port session
+    by_port : (o : Option Port) → slice_get (w.routers e.router).ports e.port ≡ o → option_map_or (λ (x : Port). x.up && (x.session == session)) o false ≡ is_port_in p (w.routers e.router) e.port session
     by_port None at = sym (and_left (is_up_at (machine_of (w.routers e.router) p) e.port) (session_at (w.routers e.router).ports e.port == session) (none_up p (w.routers e.router) R e.port at))
     by_port (Some x) at =
         ap (λ b. b && (x.session == session)) (sym (up_is p (w.routers e.router) R e.port x at))
@@ -135,7 +136,7 @@ module _ (p : Prefix) (r : Router) (R : RouterKept p r) (sound : IsSound (machin
           | inl e ↦ (c, (λ z. input.Up (sym e z) (up_to j e z) c))
           | inr d ↦ absurd (let same = T.seen_beside j d in omega (arith, lt, same))
         ];
-        takes_nothing = λ n. none_either (is_in p (router_accepting q (Item.Up s c) r) q n);
+        takes_nothing = λ n. none_either (is_port_in p (router_accepting q (Item.Up s c) r) q n);
       }
   goes_own w k (input.Down q) own h =
       let P = passed (slice_get r.ports q) down_fault h in
@@ -146,7 +147,7 @@ module _ (p : Prefix) (r : Router) (R : RouterKept p r) (sound : IsSound (machin
         took = taken_in p (router_accepting q (Item.Down s) r) q (DownNotice s);
         goes = goes_took p q (DownNotice s) r (router_accepting q (Item.Down s) r) sound T;
         grows = λ j lt. absurd (same_sessions r (router_accepting q (Item.Down s) r) q j T.seen_here T.seen_beside lt);
-        takes_nothing = λ n. none_either (is_in p (router_accepting q (Item.Down s) r) q n);
+        takes_nothing = λ n. none_either (is_port_in p (router_accepting q (Item.Down s) r) q n);
       }
   goes_own w k (input.Cost q c) own h =
       let P = passed (slice_get r.ports q) down_fault h in
@@ -157,7 +158,7 @@ module _ (p : Prefix) (r : Router) (R : RouterKept p r) (sound : IsSound (machin
         took = taken_in p (router_accepting q (Item.Cost s c) r) q (CostNotice s c);
         goes = goes_took p q (CostNotice s c) r (router_accepting q (Item.Cost s c) r) sound T;
         grows = λ j lt. absurd (same_sessions r (router_accepting q (Item.Cost s c) r) q j T.seen_here T.seen_beside lt);
-        takes_nothing = λ n. none_either (is_in p (router_accepting q (Item.Cost s c) r) q n);
+        takes_nothing = λ n. none_either (is_port_in p (router_accepting q (Item.Cost s c) r) q n);
       }
   goes_own w k (input.Message q s m) own h = absurd own
   goes_own w j (input.Attached k c) own h = record {
@@ -180,7 +181,7 @@ module _ (p : Prefix) (r : Router) (R : RouterKept p r) (sound : IsSound (machin
   goes_not i = record { q = 0; took = nothing; goes = goes_unmoved p r r 0 sound (still p r R); takes_nothing = λ n. refl; grows = λ j lt. absurd (omega (arith, lt)) }
 
   -- a router that is told an input of its process's own
-  pub goes_told : (w : Processes) (k : ℕ) (i : Input) → IsLocalInput w k i → GoesAlone p i r (told i r)
+  pub goes_told : (w : Processes) (k : ℕ) (i : Input) → IsLocalInput w k i → GoesAlone p i r (told_router i r)
   goes_told w k i own = by_fault (told_fault i r) refl
     where
       by_fault : (o : Option CallFault) → told_fault i r ≡ o → GoesAlone p i r (if is_none o then router_after i r else r)
@@ -196,7 +197,7 @@ module _ (p : Prefix) (r : Router) (R : RouterKept p r) (sound : IsSound (machin
     -- no session is another than before
     pub same : (j : ℕ) → session_at r'.ports j ≡ session_at r.ports j
     -- a message of the prefix is taken in its session, if the router is in that, and in no other, where its kind is no fault
-    pub takes : (n : ℕ) → is_in p r' q n ≡ true → prefix_eq p m.prefix ≡ true → session ≡ n → (is_in p r q n ≡ true → kind_fault (machine_of r p).computation q m.kind ≡ None) → took n ≡ Some (msg_of m)
+    pub takes : (n : ℕ) → is_port_in p r' q n ≡ true → prefix_eq p m.prefix ≡ true → session ≡ n → (is_port_in p r q n ≡ true → kind_fault (machine_of r p).computation q m.kind ≡ None) → took n ≡ Some (msg_of m)
     pub takes_not : (n : ℕ) → (session ≡ n → ⊥) → took n ≡ None
     pub takes_other : (n : ℕ) → prefix_eq p m.prefix ≡ false → took n ≡ None
 
@@ -210,14 +211,14 @@ module _ (p : Prefix) (r : Router) (R : RouterKept p r) (sound : IsSound (machin
       let at : session_at r.ports q ≡ session = session_is r q P.port P.there ∙ u.1 in
       let T = took_message p r R q P.port P.there m same u.0 bounded in
       let G = goes_took p q (Reported (msg_of m)) r r' sound T in
-      let up : (n : ℕ) → session ≡ n → is_in p r' q n ≡ true = λ n e. and_from (is_up_at (machine_of r' p) q) (session_at r.ports q == n)
+      let up : (n : ℕ) → session ≡ n → is_port_in p r' q n ≡ true = λ n e. and_from (is_up_at (machine_of r' p) q) (session_at r.ports q == n)
       (up_is p r' (G.keeps) q P.port P.there ∙ u.0) (eq-eqb (session_at r.ports q) n (at ∙ e)) in
       record {
         took = taken_in p r' q (Reported (msg_of m));
         goes = G;
         same = λ j. refl;
         takes = λ n on s e polite. ap (λ b. if b then Some (msg_of m) else None) (up n e);
-        takes_not = λ n d. ap (λ b. if b then Some (msg_of m) else None) (false_from_ne_true (is_in p r' q n) (λ on. d (sym at ∙ in_session p r' q n on)));
+        takes_not = λ n d. ap (λ b. if b then Some (msg_of m) else None) (false_from_ne_true (is_port_in p r' q n) (λ on. d (sym at ∙ in_session p r' q n on)));
         takes_other = λ n apart. absurd (both_ways (prefix_eq p m.prefix) apart same);
       }
 
@@ -240,13 +241,13 @@ module _ (p : Prefix) (r : Router) (R : RouterKept p r) (sound : IsSound (machin
     same = λ j. refl;
     takes = λ n on same e polite.
         let kind_is : kind_fault (machine_of r m.prefix).computation q m.kind ≡ None = subst (λ (k : Prefix). kind_fault (machine_of r k).computation q m.kind ≡ None) (prefix_same p m.prefix same) (polite on) in
-        absurd (not_up (slice_get r.ports q) refl h kind_is (subst (λ (k : ℕ). is_in p r q k ≡ true) (sym e) on));
+        absurd (not_up (slice_get r.ports q) refl h kind_is (subst (λ (k : ℕ). is_port_in p r q k ≡ true) (sym e) on));
     takes_not = λ n d. refl;
     takes_other = λ n a. refl;
   }
     where
       not_up : (o : Option Port) → slice_get r.ports q ≡ o → port_fault o (λ x. first_of (message_fault session x) (kind_fault (machine_of r m.prefix).computation q m.kind)) ≡ Some f
-          → kind_fault (machine_of r m.prefix).computation q m.kind ≡ None → is_in p r q session ≡ true → ⊥
+          → kind_fault (machine_of r m.prefix).computation q m.kind ≡ None → is_port_in p r q session ≡ true → ⊥
       not_up None at g kind_is on = false≢true (sym (none_up p r R q at) ∙ (and_parts (is_up_at (machine_of r p) q) (session_at r.ports q == session) on).0)
       not_up (Some x) at g kind_is on =
           let parts = and_parts (is_up_at (machine_of r p) q) (session_at r.ports q == session) on in
@@ -256,7 +257,7 @@ module _ (p : Prefix) (r : Router) (R : RouterKept p r) (sound : IsSound (machin
           None_not_Some (sym (ap (λ o. first_of o (kind_fault (machine_of r m.prefix).computation q m.kind)) none ∙ kind_is) ∙ g)
 
   -- a router to which a message comes
-  pub goes_with : (q session : ℕ) (m : Message) → (prefix_eq p m.prefix ≡ true → m.value ≤ infinity) → GoesWith q session m (told (input.Message q session m) r)
+  pub goes_with : (q session : ℕ) (m : Message) → (prefix_eq p m.prefix ≡ true → m.value ≤ infinity) → GoesWith q session m (told_router (input.Message q session m) r)
   goes_with q session m bounded = by_fault (told_fault (input.Message q session m) r) refl
     where
       by_prefix : told_fault (input.Message q session m) r ≡ None → (b : Bool) → prefix_eq p m.prefix ≡ b → GoesWith q session m (router_after (input.Message q session m) r)

@@ -7,8 +7,8 @@ use Rattle.loop_freedom.proofs.Walks.{FallsAlong, falls_distinct}
 use Rattle.no_packet_loops.proofs.Walks.{match_is_row}
 use Rattle.no_packet_loops.proofs.Publishing.{control_hop, control_sorted, hop_chosen}
 use Rattle.daemon_laws.specs.Processes.{Processes}
-use Rattle.daemon_laws.specs.Packets.{is_in_session, entry_leads, lets_in, unmarked_leads, published_rows, mixture_rows, IsPacketWalk}
-use Rattle.daemon_laws.proofs.Seen.{is_in}
+use Rattle.daemon_laws.specs.Packets.{is_in_session, session_leads, lets_in, unmarked_leads, rows_in_force, rows_in_mixture, IsPacketWalkByRows}
+use Rattle.daemon_laws.proofs.Seen.{is_port_in}
 use Rattle.daemon_laws.proofs.Telling.{none_up, in_session_is}
 use Rattle.daemon_laws.proofs.Publishing.{successor_there}
 use Rattle.daemon_laws.proofs.Invariant.{may_or_left, router_at, session_of, Invariant}
@@ -36,11 +36,11 @@ module _ (t : Topology) (p : Prefix) (pfd : ℕ → ℕ) (w : Processes) (I : In
     session : ℕ
     is_via : entry ≡ Via port session
     valid : t.valid (at_port i port) ≡ true
-    there : is_in p (router_at w (t.far (at_port i port))) (t.far (at_port i port)).port session ≡ true
+    there : is_port_in p (router_at w (t.far (at_port i port))) (t.far (at_port i port)).port session ≡ true
     far_router : (t.far (at_port i port)).router ≡ k
 
   -- a router whose port is up in the session is in it
-  pub in_it : (e : LinkEnd) (session : ℕ) → is_in_session w e session ≡ true → is_in p (router_at w e) e.port session ≡ true
+  pub in_it : (e : LinkEnd) (session : ℕ) → is_in_session w e session ≡ true → is_port_in p (router_at w e) e.port session ≡ true
   in_it e session h = sym (in_session_is p w e (I.keeps e.router) session) ∙ h
 
   -- the port of an end is there, and in the session in which it was last
@@ -62,7 +62,7 @@ module _ (t : Topology) (p : Prefix) (pfd : ℕ → ℕ) (w : Processes) (I : In
       }
 
   -- an entry that leads to router k is such an entry
-  pub leads : (i : ℕ) (entry : Entry) (k : ℕ) → entry_leads t w i entry ≡ Some k → Leads i entry k
+  pub leads : (i : ℕ) (entry : Entry) (k : ℕ) → session_leads t w i entry ≡ Some k → Leads i entry k
   leads i Local k h = absurd (None_not_Some h)
   leads i Unreachable k h = absurd (None_not_Some h)
   leads i (Via q session) k h = by_test (t.valid (at_port i q) && is_in_session w (t.far (at_port i q)) session) refl h
@@ -102,8 +102,8 @@ module _ (t : Topology) (p : Prefix) (pfd : ℕ → ℕ) (w : Processes) (I : In
   record ChosenAt (i q session : ℕ) : Type 0 where
     up : is_up_at (machine_of (w.routers i) p) q ≡ true
     seen : session_at (w.routers i).ports q ≡ session
-    current : is_in p (w.routers i) q session ≡ true
-    chosen : (is_in p (w.routers i) q session && is_port q (machine_of (w.routers i) p).successor) ≡ true
+    current : is_port_in p (w.routers i) q session ≡ true
+    chosen : (is_port_in p (w.routers i) q session && is_port q (machine_of (w.routers i) p).successor) ≡ true
 
   -- so it is where the router has chosen that row
   chosen_at : (i q session : ℕ) → control_entry i ≡ Some (Via q session) → ChosenAt i q session
@@ -113,8 +113,8 @@ module _ (t : Topology) (p : Prefix) (pfd : ℕ → ℕ) (w : Processes) (I : In
       let H = hop_chosen m (λ j. session_at r.ports j) q session (sym (control_hop p r (λ j. session_at r.ports j) (I.keeps i).control_is (λ j. refl)) ∙ ap (option_and_then next_hop) row) in
       let s : m.successor ≡ Some q = port_successor_from m q H.0 in
       let up : is_up_at m q ≡ true = (I.sound i).successor_up q s (successor_there m (I.sound i) q H.0) in
-      let cur : is_in p r q session ≡ true = and_from (is_up_at m q) (session_at r.ports q == session) up (eq-eqb (session_at r.ports q) session H.1) in
-      record { up = up; seen = H.1; current = cur; chosen = and_from (is_in p r q session) (is_port q m.successor) cur (ap (is_port q) s ∙ eq-eqb q q refl) }
+      let cur : is_port_in p r q session ≡ true = and_from (is_up_at m q) (session_at r.ports q == session) up (eq-eqb (session_at r.ports q) session H.1) in
+      record { up = up; seen = H.1; current = cur; chosen = and_from (is_port_in p r q session) (is_port q m.successor) cur (ap (is_port q) s ∙ eq-eqb q q refl) }
 
   -- so they do along a chosen row
   pub control_both : (i : ℕ) (entry : Entry) (k : ℕ) → control_entry i ≡ Some entry → Leads i entry k → ((machine_of (w.routers k) p).fd < (machine_of (w.routers i) p).fd) × (pfd k < (machine_of (w.routers i) p).fd)
@@ -133,7 +133,7 @@ module _ (t : Topology) (p : Prefix) (pfd : ℕ → ℕ) (w : Processes) (I : In
   record MayGo (i k : ℕ) : Type 0 where
     entry : Entry
     is_row : (published_entry i ≡ Some entry) ⊎ (control_entry i ≡ Some entry)
-    goes : entry_leads t w i entry ≡ Some k
+    goes : session_leads t w i entry ≡ Some k
 
   -- the height falls wherever a packet may go
   falls : (i k : ℕ) → MayGo i k → height k < height i
@@ -145,8 +145,8 @@ module _ (t : Topology) (p : Prefix) (pfd : ℕ → ℕ) (w : Processes) (I : In
   -- a packet's way by rows that are published or chosen, where entries lead as given: the height falls along it
   packet_walk : (entry_goes : ℕ → Entry → Option ℕ) (rows : ℕ → List (Prefix × Entry))
       → ((i : ℕ) (addr : ℕ) (entry : Entry) → longest_match addr (rows i) ≡ Some (p, entry) → (published_entry i ≡ Some entry) ⊎ (control_entry i ≡ Some entry))
-      → ((i k : ℕ) (entry : Entry) → (published_entry i ≡ Some entry) ⊎ (control_entry i ≡ Some entry) → entry_goes i entry ≡ Some k → entry_leads t w i entry ≡ Some k)
-      → (addr : ℕ) (walk : List ℕ) → IsPacketWalk entry_goes rows addr p walk → FallsAlong height walk
+      → ((i k : ℕ) (entry : Entry) → (published_entry i ≡ Some entry) ⊎ (control_entry i ≡ Some entry) → entry_goes i entry ≡ Some k → session_leads t w i entry ≡ Some k)
+      → (addr : ℕ) (walk : List ℕ) → IsPacketWalkByRows entry_goes rows addr p walk → FallsAlong height walk
   packet_walk entry_goes rows is goes addr [] h = tt
   packet_walk entry_goes rows is goes addr (i ∷ []) h = tt
   packet_walk entry_goes rows is goes addr (i ∷ k ∷ ks) h =
@@ -163,7 +163,7 @@ module _ (t : Topology) (p : Prefix) (pfd : ℕ → ℕ) (w : Processes) (I : In
       (control_sorted (w.routers i) (I.keeps i).control_is (I.keeps i).sorted) g
 
   -- a match in a mixture is a published or a chosen row
-  match_mixed : (by_control : ℕ → Bool) (i addr : ℕ) (entry : Entry) → longest_match addr (mixture_rows by_control w i) ≡ Some (p, entry) → (published_entry i ≡ Some entry) ⊎ (control_entry i ≡ Some entry)
+  match_mixed : (by_control : ℕ → Bool) (i addr : ℕ) (entry : Entry) → longest_match addr (rows_in_mixture by_control w i) ≡ Some (p, entry) → (published_entry i ≡ Some entry) ⊎ (control_entry i ≡ Some entry)
   match_mixed by_control i addr entry g = by_table (by_control i) g
     where
       by_table : (b : Bool) → longest_match addr (if b then ((w.routers i).table).control else ((w.routers i).table).published) ≡ Some (p, entry) → (published_entry i ≡ Some entry) ⊎ (control_entry i ≡ Some entry)
@@ -171,12 +171,12 @@ module _ (t : Topology) (p : Prefix) (pfd : ℕ → ℕ) (w : Processes) (I : In
       by_table false g = inl (match_published i addr entry g)
 
   -- by published rows no packet meets a router twice
-  pub published_free : (addr : ℕ) (walk : List ℕ) → IsPacketWalk (entry_leads t w) (published_rows w) addr p walk → meets_twice walk ≡ false
-  published_free addr walk h = falls_distinct height walk (packet_walk (entry_leads t w) (published_rows w) (λ i a entry g. inl (match_published i a entry g)) (λ i k entry row g. g) addr walk h)
+  pub published_free : (addr : ℕ) (walk : List ℕ) → IsPacketWalkByRows (session_leads t w) (rows_in_force w) addr p walk → meets_twice walk ≡ false
+  published_free addr walk h = falls_distinct height walk (packet_walk (session_leads t w) (rows_in_force w) (λ i a entry g. inl (match_published i a entry g)) (λ i k entry row g. g) addr walk h)
 
   -- nor in a mixture of published and chosen rows
-  pub mixture_free : (by_control : ℕ → Bool) (addr : ℕ) (walk : List ℕ) → IsPacketWalk (entry_leads t w) (mixture_rows by_control w) addr p walk → meets_twice walk ≡ false
-  mixture_free by_control addr walk h = falls_distinct height walk (packet_walk (entry_leads t w) (mixture_rows by_control w) (match_mixed by_control) (λ i k entry row g. g) addr walk h)
+  pub mixture_free : (by_control : ℕ → Bool) (addr : ℕ) (walk : List ℕ) → IsPacketWalkByRows (session_leads t w) (rows_in_mixture by_control w) addr p walk → meets_twice walk ≡ false
+  mixture_free by_control addr walk h = falls_distinct height walk (packet_walk (session_leads t w) (rows_in_mixture by_control w) (match_mixed by_control) (λ i k entry row g. g) addr walk h)
 
   -- ---- where packets carry no session
 
@@ -186,7 +186,7 @@ module _ (t : Topology) (p : Prefix) (pfd : ℕ → ℕ) (w : Processes) (I : In
     row_reached e v n shown = elim (cases_lt (w.last (t.far e)) n) [
       | inr le ↦ le
       | inl lt ↦
-          let there : is_in p (router_at w (t.far e)) (t.far e).port n ≡ true = elim (may_or_left p n w e) [
+          let there : is_port_in p (router_at w (t.far e)) (t.far e).port n ≡ true = elim (may_or_left p n w e) [
             | inl may ↦ ((I.links e v n may (inr lt)).shown_current shown).1
             | inr left ↦ (I.alone e v n left (inr lt)).shown_current shown
           ] in
@@ -195,13 +195,13 @@ module _ (t : Topology) (p : Prefix) (pfd : ℕ → ℕ) (w : Processes) (I : In
 
     -- the router across lets in what comes in the session that it is in, which is the last of its end
     pub record LetsIn (e : LinkEnd) : Type 0 where
-      pub here : is_in p (router_at w e) e.port (w.heard e) ≡ true
+      pub here : is_port_in p (router_at w e) e.port (w.heard e) ≡ true
       pub last_is : w.last e ≡ w.heard e
 
     -- so it is of each end that lets in
     pub let_in : (e : LinkEnd) → lets_in w e ≡ true → LetsIn e
     let_in e h =
-        let on : is_in p (router_at w e) e.port (w.heard e) ≡ true = in_it e (w.heard e) h in
+        let on : is_port_in p (router_at w e) e.port (w.heard e) ≡ true = in_it e (w.heard e) h in
         let up : is_up_at (machine_of (router_at w e) p) e.port ≡ true = (and_parts (is_up_at (machine_of (router_at w e) p) e.port) (session_of w e == w.heard e) on).0 in
         let s : session_of w e ≡ w.heard e = in_session p (router_at w e) e.port (w.heard e) on in
         record { here = on; last_is = (let a = O.up_last e up in let b = I.last_is e in omega (arith, a, b, s)) }
@@ -229,19 +229,19 @@ module _ (t : Topology) (p : Prefix) (pfd : ℕ → ℕ) (w : Processes) (I : In
         let reached : session ≤ w.last f = elim (cases_lt (w.last f) session) [
           | inr le ↦ le
           | inl lt ↦
-              let there : is_in p (router_at w f) f.port session ≡ true = (I.links e v session (inl C.current) (inr lt)).chosen_current C.chosen in
+              let there : is_port_in p (router_at w f) f.port session ≡ true = (I.links e v session (inl C.current) (inr lt)).chosen_current C.chosen in
               absurd (let a = in_session p (router_at w f) f.port session there in let l = I.last_is f in omega (arith, lt, a, l))
         ] in
         let seen = C.seen in
         omega (arith, last_here, heard_here, last_there, reached, seen)
 
     -- where a packet is let in, the row leads in its session
-    pub unmarked : (i k : ℕ) (entry : Entry) → (published_entry i ≡ Some entry) ⊎ (control_entry i ≡ Some entry) → unmarked_leads t w i entry ≡ Some k → entry_leads t w i entry ≡ Some k
+    pub unmarked : (i k : ℕ) (entry : Entry) → (published_entry i ≡ Some entry) ⊎ (control_entry i ≡ Some entry) → unmarked_leads t w i entry ≡ Some k → session_leads t w i entry ≡ Some k
     unmarked i k Local row g = absurd (None_not_Some g)
     unmarked i k Unreachable row g = absurd (None_not_Some g)
     unmarked i k (Via q session) row g = by_test (t.valid (at_port i q)) refl (lets_in w (t.far (at_port i q))) refl g
       where
-        by_test : (b : Bool) → t.valid (at_port i q) ≡ b → (d : Bool) → lets_in w (t.far (at_port i q)) ≡ d → (if b && d then Some (t.far (at_port i q)).router else None) ≡ Some k → entry_leads t w i (Via q session) ≡ Some k
+        by_test : (b : Bool) → t.valid (at_port i q) ≡ b → (d : Bool) → lets_in w (t.far (at_port i q)) ≡ d → (if b && d then Some (t.far (at_port i q)).router else None) ≡ Some k → session_leads t w i (Via q session) ≡ Some k
         by_test false v d h g = absurd (None_not_Some g)
         by_test true v false h g = absurd (None_not_Some g)
         by_test true v true h g =
@@ -251,9 +251,9 @@ module _ (t : Topology) (p : Prefix) (pfd : ℕ → ℕ) (w : Processes) (I : In
             ∙ g
 
     -- by published rows no packet meets a router twice
-    pub unmarked_published_free : (addr : ℕ) (walk : List ℕ) → IsPacketWalk (unmarked_leads t w) (published_rows w) addr p walk → meets_twice walk ≡ false
-    unmarked_published_free addr walk h = falls_distinct height walk (packet_walk (unmarked_leads t w) (published_rows w) (λ i a entry g. inl (match_published i a entry g)) unmarked addr walk h)
+    pub unmarked_published_free : (addr : ℕ) (walk : List ℕ) → IsPacketWalkByRows (unmarked_leads t w) (rows_in_force w) addr p walk → meets_twice walk ≡ false
+    unmarked_published_free addr walk h = falls_distinct height walk (packet_walk (unmarked_leads t w) (rows_in_force w) (λ i a entry g. inl (match_published i a entry g)) unmarked addr walk h)
 
     -- nor in a mixture
-    pub unmarked_mixture_free : (by_control : ℕ → Bool) (addr : ℕ) (walk : List ℕ) → IsPacketWalk (unmarked_leads t w) (mixture_rows by_control w) addr p walk → meets_twice walk ≡ false
-    unmarked_mixture_free by_control addr walk h = falls_distinct height walk (packet_walk (unmarked_leads t w) (mixture_rows by_control w) (match_mixed by_control) unmarked addr walk h)
+    pub unmarked_mixture_free : (by_control : ℕ → Bool) (addr : ℕ) (walk : List ℕ) → IsPacketWalkByRows (unmarked_leads t w) (rows_in_mixture by_control w) addr p walk → meets_twice walk ≡ false
+    unmarked_mixture_free by_control addr walk h = falls_distinct height walk (packet_walk (unmarked_leads t w) (rows_in_mixture by_control w) (match_mixed by_control) unmarked addr walk h)

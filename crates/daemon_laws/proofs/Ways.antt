@@ -13,7 +13,7 @@ use Rattle.no_packet_loops.proofs.Walks.{match_is_row}
 use Rattle.all_packets.proofs.Matches.{GoesBefore, found}
 use Rattle.all_packets.proofs.Improving.{Improves, Goes, none_twice, matched_once}
 use Rattle.daemon_laws.specs.Processes.{Processes}
-use Rattle.daemon_laws.specs.Packets.{is_in_session, entry_leads, unmarked_leads, mixture_rows, MayGoOn, IsHalfWritten, IsShut, GoesHalfWritten}
+use Rattle.daemon_laws.specs.Packets.{is_in_session, session_leads, unmarked_leads, rows_in_mixture, MayGoOnBy, IsHalfWritten, IsShut, GoesHalfWritten}
 use Rattle.daemon_laws.proofs.Invariant.{Invariant}
 use Rattle.daemon_laws.proofs.Orderly.{Orderly}
 use Rattle.daemon_laws.proofs.Shown.{AllShown}
@@ -22,7 +22,7 @@ use Rattle.daemon_laws.proofs.Walks.{leads, published_both, control_both, unmark
 module _ (t : Topology) (w : Processes) (fds : Prefix → ℕ → ℕ) (I : (p : Prefix) → Invariant t p (fds p) w) (S : (p : Prefix) → AllShown p w.routers (fds p)) where
   -- the rows of router i, chosen or published
   abbrev rows : Bool → ℕ → List (Prefix × Entry)
-  rows b i = mixture_rows (λ j. b) w i
+  rows b i = rows_in_mixture (λ j. b) w i
 
   -- the feasible distance that goes with them
   abbrev fd_by : Bool → Prefix → ℕ → ℕ
@@ -36,7 +36,7 @@ module _ (t : Topology) (w : Processes) (fds : Prefix → ℕ → ℕ) (I : (p :
   in_order false i = ((I (record { addr = 0; len = 0 })).keeps i).published_sorted
 
   -- along a row that leads to a router both its feasible distances fall
-  pub falls : (b c : Bool) (p : Prefix) (i k : ℕ) (e : Entry) → row_of prefix_cmp p (rows b i) ≡ Some e → entry_leads t w i e ≡ Some k → fd_by c p k < fd_by b p i
+  pub falls : (b c : Bool) (p : Prefix) (i k : ℕ) (e : Entry) → row_of prefix_cmp p (rows b i) ≡ Some e → session_leads t w i e ≡ Some k → fd_by c p k < fd_by b p i
   falls true true p i k e row lead = (control_both t p (fds p) w (I p) i e k row (leads t p (fds p) w (I p) i e k lead)).0
   falls true false p i k e row lead = (control_both t p (fds p) w (I p) i e k row (leads t p (fds p) w (I p) i e k lead)).1
   falls false true p i k e row lead = (published_both t p (fds p) w (I p) i e k row (leads t p (fds p) w (I p) i e k lead)).0
@@ -60,7 +60,7 @@ module _ (t : Topology) (w : Processes) (fds : Prefix → ℕ → ℕ) (I : (p :
       by_row None is = (let e = far c is in absurd (omega (arith, below, e)))
 
   -- what a packet needs to get nearer, where entries lead as they do to routers in the session of the row
-  improves_by : (goes : ℕ → Entry → Option ℕ) → ((b : Bool) (p : Prefix) (i k : ℕ) (e : Entry) → row_of prefix_cmp p (rows b i) ≡ Some e → goes i e ≡ Some k → entry_leads t w i e ≡ Some k) → Improves rows goes fd_by
+  improves_by : (goes : ℕ → Entry → Option ℕ) → ((b : Bool) (p : Prefix) (i k : ℕ) (e : Entry) → row_of prefix_cmp p (rows b i) ≡ Some e → goes i e ≡ Some k → session_leads t w i e ≡ Some k) → Improves rows goes fd_by
   improves_by goes means = record {
     in_order = in_order;
     falls = λ b c p i k e row lead. falls b c p i k e row (means b p i k e row lead);
@@ -88,7 +88,7 @@ module _ (t : Topology) (w : Processes) (fds : Prefix → ℕ → ℕ) (I : (p :
       }
 
   -- so it is of each router that an entry leads to, where packets carry the session of the row
-  entered_marked : (i k : ℕ) (e : Entry) → entry_leads t w i e ≡ Some k → Entered k
+  entered_marked : (i k : ℕ) (e : Entry) → session_leads t w i e ≡ Some k → Entered k
   entered_marked i k Local h = absurd (None_not_Some h)
   entered_marked i k Unreachable h = absurd (None_not_Some h)
   entered_marked i k (Via q session) h = entered_over (t.valid (at_port i q)) (t.far (at_port i q)) session k h
@@ -164,28 +164,28 @@ module _ (t : Topology) (w : Processes) (fds : Prefix → ℕ → ℕ) (I : (p :
         ]
 
   -- where packets carry the session of the row
-  improves_marked : Improves rows (entry_leads t w) fd_by
-  improves_marked = improves_by (entry_leads t w) (λ b p i k e row lead. lead)
+  improves_marked : Improves rows (session_leads t w) fd_by
+  improves_marked = improves_by (session_leads t w) (λ b p i k e row lead. lead)
 
   -- and where they carry none
   improves_unmarked : ((p : Prefix) → Orderly t p w) → Improves rows (unmarked_leads t w) fd_by
   improves_unmarked O = improves_by (unmarked_leads t w) means
     where
-      means : (b : Bool) (p : Prefix) (i k : ℕ) (e : Entry) → row_of prefix_cmp p (rows b i) ≡ Some e → unmarked_leads t w i e ≡ Some k → entry_leads t w i e ≡ Some k
+      means : (b : Bool) (p : Prefix) (i k : ℕ) (e : Entry) → row_of prefix_cmp p (rows b i) ≡ Some e → unmarked_leads t w i e ≡ Some k → session_leads t w i e ≡ Some k
       means true p i k e row lead = unmarked t p (fds p) w (I p) (O p) i k e (inr row) lead
       means false p i k e row lead = unmarked t p (fds p) w (I p) (O p) i k e (inl row) lead
 
   -- so no packet meets a router twice
-  pub marked_free : (addr : ℕ) (way : List ℕ) → IsWayBy (MayGoOn (entry_leads t w) w addr) way → meets_twice way ≡ false
-  marked_free addr way h = matched_once rows (entry_leads t w) fd_by improves_marked addr way h
+  pub marked_free : (addr : ℕ) (way : List ℕ) → IsWayBy (MayGoOnBy (session_leads t w) w addr) way → meets_twice way ≡ false
+  marked_free addr way h = matched_once rows (session_leads t w) fd_by improves_marked addr way h
 
   -- nor where packets carry no session
-  pub unmarked_free : ((p : Prefix) → Orderly t p w) → (addr : ℕ) (way : List ℕ) → IsWayBy (MayGoOn (unmarked_leads t w) w addr) way → meets_twice way ≡ false
+  pub unmarked_free : ((p : Prefix) → Orderly t p w) → (addr : ℕ) (way : List ℕ) → IsWayBy (MayGoOnBy (unmarked_leads t w) w addr) way → meets_twice way ≡ false
   unmarked_free O addr way h = matched_once rows (unmarked_leads t w) fd_by (improves_unmarked O) addr way h
 
   -- nor while rows are written
-  pub marked_written : (addr : ℕ) (way : List ℕ) → IsWayBy (GoesHalfWritten (entry_leads t w) w addr) way → meets_twice way ≡ false
-  marked_written = written_once (entry_leads t w) improves_marked (λ i. refl) entered_marked
+  pub marked_written : (addr : ℕ) (way : List ℕ) → IsWayBy (GoesHalfWritten (session_leads t w) w addr) way → meets_twice way ≡ false
+  marked_written = written_once (session_leads t w) improves_marked (λ i. refl) entered_marked
 
   pub unmarked_written : ((p : Prefix) → Orderly t p w) → (addr : ℕ) (way : List ℕ) → IsWayBy (GoesHalfWritten (unmarked_leads t w) w addr) way → meets_twice way ≡ false
   unmarked_written O = written_once (unmarked_leads t w) (improves_unmarked O) (λ i. refl) entered_unmarked

@@ -12,7 +12,7 @@ use Rattle.loop_freedom.specs.Network.{Topology}
 use Rattle.router_core.specs.Alone.{may_forget}
 use Rattle.single_router.specs.Openings.{made_router}
 use Rattle.daemon_laws.specs.Processes.{Carried, Processes}
-use Rattle.daemon_laws.specs.Happenings.{Happening, Tells, Takes, Loses, Publishes, PublishesSome, Forgets, Releases, BeginsAnew, next, after, Begins, AllCanHappen}
+use Rattle.daemon_laws.specs.Happenings.{Happening, Tells, Takes, Loses, Publishes, PublishesSome, Forgets, Releases, BeginsAnew, after_happening, after_happenings, IsOpening, AllCanHappen}
 
 -- ---- an end of a link
 
@@ -22,17 +22,17 @@ carried p [] = []
 carried p (c ∷ cs) = if prefix_eq p (c.message).prefix then record { session = c.session; message = msg_of c.message } ∷ carried p cs else carried p cs
 
 -- of the messages on their way those of session n, as items to be taken
-abbrev pub arriving : ℕ → List SeenHeld → List SeenItem
-arriving n [] = []
-arriving n (h ∷ hs) = if h.session == n then Reported h.message ∷ arriving n hs else arriving n hs
+abbrev pub arriving_in : ℕ → List SeenHeld → List SeenItem
+arriving_in n [] = []
+arriving_in n (h ∷ hs) = if h.session == n then Reported h.message ∷ arriving_in n hs else arriving_in n hs
 
 -- the end of a router at its port q in session n of the link there, where these messages are on their way to the other end
 abbrev pub end_in : Prefix → ℕ → ℕ → Router → ℕ → List Carried → End
-end_in p n pfd r q cs = end_of (machine_of r p) q (session_at r.ports q) n (next_hop_at p r) pfd (arriving n (carried p cs)) (kept p q (ripe_of r)) (kept p q (unripe_of r))
+end_in p n pfd r q cs = end_of (machine_of r p) q (session_at r.ports q) n (next_hop_at p r) pfd (arriving_in n (carried p cs)) (kept p q (ripe_of r)) (kept p q (unripe_of r))
 
 -- whether the router is in session n of the link at its port q
-abbrev pub is_in : Prefix → Router → ℕ → ℕ → Bool
-is_in p r q n = is_current (machine_of r p) q (session_at r.ports q) n
+abbrev pub is_port_in : Prefix → Router → ℕ → ℕ → Bool
+is_port_in p r q n = is_current (machine_of r p) q (session_at r.ports q) n
 
 -- the router at an end of a link
 abbrev pub router_at : Processes → LinkEnd → Router
@@ -64,7 +64,7 @@ fds_next p w (BeginsAnew i costs attachments) fds j = if j == i then (machine_of
 -- after all this
 abbrev pub fds_after : Topology → Prefix → Processes → List Happening → (ℕ → ℕ) → ℕ → ℕ
 fds_after t p w [] fds = fds
-fds_after t p w (h ∷ hs) fds = fds_after t p (next t w h) hs (fds_next p w h fds)
+fds_after t p w (h ∷ hs) fds = fds_after t p (after_happening t w h) hs (fds_next p w h fds)
 
 -- the present ones, which count as published where routers begin
 abbrev pub first_fds : Prefix → Processes → ℕ → ℕ
@@ -73,10 +73,10 @@ first_fds p w i = (machine_of (w.routers i) p).fd
 -- ---- the facts
 
 -- the facts hold at both ends of each link, in each session that both are in
-abbrev pub HasFourFacts : Topology → Prefix → (ℕ → ℕ) → Processes → Type 0
-HasFourFacts t p fds w = (e : LinkEnd) (n : ℕ) → t.valid e ≡ true → is_in p (router_at w e) e.port n ≡ true → is_in p (router_at w (t.far e)) (t.far e).port n ≡ true
+abbrev pub HasLinkFacts : Topology → Prefix → (ℕ → ℕ) → Processes → Type 0
+HasLinkFacts t p fds w = (e : LinkEnd) (n : ℕ) → t.valid e ≡ true → is_port_in p (router_at w e) e.port n ≡ true → is_port_in p (router_at w (t.far e)) (t.far e).port n ≡ true
     → LinkFacts (end_from t p n fds w e) (end_from t p n fds w (t.far e))
 
 -- at every moment, for every prefix
-abbrev pub FourFactsAlwaysHold : Type 0
-FourFactsAlwaysHold = (t : Topology) (first : Processes) (hs : List Happening) → Begins first → AllCanHappen t first hs → (p : Prefix) → HasFourFacts t p (fds_after t p first hs (first_fds p first)) (after t first hs)
+abbrev pub LinkFactsAlwaysHold : Type 0
+LinkFactsAlwaysHold = (t : Topology) (first : Processes) (hs : List Happening) → IsOpening first → AllCanHappen t first hs → (p : Prefix) → HasLinkFacts t p (fds_after t p first hs (first_fds p first)) (after_happenings t first hs)

@@ -63,8 +63,8 @@ CanHappen w (BeginsAnew i costs attachments) = make_fault costs attachments ≡ 
 -- ---- what comes of it
 
 -- one router changed
-abbrev pub with_router : ℕ → (Router → Router) → (ℕ → Router) → ℕ → Router
-with_router i f routers j = if j == i then f (routers j) else routers j
+abbrev pub with_process : ℕ → (Router → Router) → (ℕ → Router) → ℕ → Router
+with_process i f routers j = if j == i then f (routers j) else routers j
 
 -- whether two link ends are one
 abbrev pub is_same_end : LinkEnd → LinkEnd → Bool
@@ -75,8 +75,8 @@ abbrev pub with_coming : LinkEnd → (List Carried → List Carried) → (LinkEn
 with_coming e f coming d = if is_same_end d e then f (coming d) else coming d
 
 -- a router that is told an input, which it takes or refuses: a session that is not later than its port's last, a message of another session
-abbrev pub told : Input → Router → Router
-told input r = if is_none (told_fault input r) then router_after input r else r
+abbrev pub told_router : Input → Router → Router
+told_router input r = if is_none (told_fault input r) then router_after input r else r
 
 -- a router that forgets the prefix, where it may
 abbrev pub forgotten : Prefix → Router → Router
@@ -100,12 +100,12 @@ abbrev pub with_lost : LinkEnd → (LinkEnd → List Carried) → (LinkEnd → �
 with_lost e coming lost d session = lost d session || (is_same_end d e && is_first_of session (coming d))
 
 -- the process at this end took the message. One of a session that the end has not been in yet waits
-abbrev pub with_taken : LinkEnd → Processes → Carried → Processes
-with_taken e w c =
+abbrev pub having_taken : LinkEnd → Processes → Carried → Processes
+having_taken e w c =
     if nat_lt (w.last e) c.session
     then w
     else record {
-      routers = with_router e.router (told (Message e.port c.session c.message)) w.routers;
+      routers = with_process e.router (told_router (Message e.port c.session c.message)) w.routers;
       coming = with_coming e (drop 1) w.coming;
       last = w.last;
       heard = with_heard e (told_fault (Message e.port c.session c.message) (w.routers e.router)) c.session w.heard;
@@ -120,8 +120,8 @@ sent_from t w e h =
     else w.coming
 
 -- router i released this message
-abbrev pub with_released : Topology → ℕ → Processes → Held → Processes
-with_released t i w h = record { routers = with_router i router_releasing w.routers; coming = sent_from t w (at_port i h.port) h; last = w.last; heard = w.heard; lost = w.lost }
+abbrev pub having_released : Topology → ℕ → Processes → Held → Processes
+having_released t i w h = record { routers = with_process i router_releasing w.routers; coming = sent_from t w (at_port i h.port) h; last = w.last; heard = w.heard; lost = w.lost }
 
 -- ---- a process that begins anew
 
@@ -160,31 +160,31 @@ abbrev pub lost_anew : Topology → ℕ → Processes → LinkEnd → ℕ → Bo
 lost_anew t i w e session = w.lost e session && not (may_come_again t i w e session || may_come_again t i w (t.far e) session)
 
 -- the processes after what happens
-abbrev pub next : Topology → Processes → Happening → Processes
-next t w (Tells i input) = record {
-  routers = with_router i (told input) w.routers;
+abbrev pub after_happening : Topology → Processes → Happening → Processes
+after_happening t w (Tells i input) = record {
+  routers = with_process i (told_router input) w.routers;
   coming = w.coming;
-  last = with_last (with_router i (told input) w.routers) w.last;
+  last = with_last (with_process i (told_router input) w.routers) w.last;
   heard = w.heard;
   lost = w.lost;
 }
-next t w (Takes e) = option_map_or (with_taken e w) (slice_get (w.coming e) 0) w
-next t w (Loses e) = record { routers = w.routers; coming = with_coming e (drop 1) w.coming; last = w.last; heard = w.heard; lost = with_lost e w.coming w.lost }
-next t w (Publishes i) = record { routers = with_router i router_publishing w.routers; coming = w.coming; last = w.last; heard = w.heard; lost = w.lost }
-next t w (PublishesSome i n) = record { routers = with_router i (router_publishing_some n) w.routers; coming = w.coming; last = w.last; heard = w.heard; lost = w.lost }
-next t w (Forgets i p) = record { routers = with_router i (forgotten p) w.routers; coming = w.coming; last = w.last; heard = w.heard; lost = w.lost }
-next t w (Releases i) = option_map_or (with_released t i w) (ripe_front (w.routers i)) w
-next t w (BeginsAnew i costs attachments) = record { routers = with_router i (λ r. made_router costs attachments) w.routers; coming = w.coming; last = last_anew t i w; heard = heard_anew i w.heard; lost = lost_anew t i w }
+after_happening t w (Takes e) = option_map_or (having_taken e w) (slice_get (w.coming e) 0) w
+after_happening t w (Loses e) = record { routers = w.routers; coming = with_coming e (drop 1) w.coming; last = w.last; heard = w.heard; lost = with_lost e w.coming w.lost }
+after_happening t w (Publishes i) = record { routers = with_process i router_publishing w.routers; coming = w.coming; last = w.last; heard = w.heard; lost = w.lost }
+after_happening t w (PublishesSome i n) = record { routers = with_process i (router_publishing_some n) w.routers; coming = w.coming; last = w.last; heard = w.heard; lost = w.lost }
+after_happening t w (Forgets i p) = record { routers = with_process i (forgotten p) w.routers; coming = w.coming; last = w.last; heard = w.heard; lost = w.lost }
+after_happening t w (Releases i) = option_map_or (having_released t i w) (ripe_front (w.routers i)) w
+after_happening t w (BeginsAnew i costs attachments) = record { routers = with_process i (λ r. made_router costs attachments) w.routers; coming = w.coming; last = last_anew t i w; heard = heard_anew i w.heard; lost = lost_anew t i w }
 
 -- the processes after all this, one after another
-abbrev pub after : Topology → Processes → List Happening → Processes
-after t w [] = w
-after t w (h ∷ hs) = after t (next t w h) hs
+abbrev pub after_happenings : Topology → Processes → List Happening → Processes
+after_happenings t w [] = w
+after_happenings t w (h ∷ hs) = after_happenings t (after_happening t w h) hs
 
 -- all this may happen, each where it does
 abbrev pub AllCanHappen : Topology → Processes → List Happening → Type 0
 AllCanHappen t w [] = ⊤
-AllCanHappen t w (h ∷ hs) = CanHappen w h × AllCanHappen t (next t w h) hs
+AllCanHappen t w (h ∷ hs) = CanHappen w h × AllCanHappen t (after_happening t w h) hs
 
 -- ---- where it begins
 
@@ -196,7 +196,7 @@ pub record IsMade (r : Router) : Type 0 where
   pub made : r ≡ made_router costs attachments
 
 -- each router is made, and nothing is on its way
-pub record Begins (w : Processes) : Type 0 where
+pub record IsOpening (w : Processes) : Type 0 where
   pub routers_made : (i : ℕ) → IsMade (w.routers i)
   pub nothing_comes : (e : LinkEnd) → w.coming e ≡ []
   pub never_up : (e : LinkEnd) → w.last e ≡ 0
@@ -231,18 +231,18 @@ rewired t t' w = record {
 -- ---- every moment
 
 -- these processes may be at some moment, with the links of this topology
-pub data IsReached : Topology → Processes → Type 0 where
-  Begun : (t : Topology) (w : Processes) → Begins w → IsReached t w
-  Happened : (t : Topology) (w : Processes) (h : Happening) → IsReached t w → CanHappen w h → IsReached t (next t w h)
-  Rewired : (t t' : Topology) (w : Processes) → IsReached t w → MayRewire t t' w → IsReached t' (rewired t t' w)
+pub data AreReached : Topology → Processes → Type 0 where
+  Begun : (t : Topology) (w : Processes) → IsOpening w → AreReached t w
+  Happened : (t : Topology) (w : Processes) (h : Happening) → AreReached t w → CanHappen w h → AreReached t (after_happening t w h)
+  Rewired : (t t' : Topology) (w : Processes) → AreReached t w → MayRewire t t' w → AreReached t' (rewired t t' w)
 
 -- where routers begin, and then all this happens, it comes to such a moment
 abbrev pub AfterIsReached : Type 0
-AfterIsReached = (t : Topology) (first : Processes) (hs : List Happening) → Begins first → AllCanHappen t first hs → IsReached t (after t first hs)
+AfterIsReached = (t : Topology) (first : Processes) (hs : List Happening) → IsOpening first → AllCanHappen t first hs → AreReached t (after_happenings t first hs)
 
 -- what holds at every moment, whatever has happened since, and whichever neighbours ports have got
 abbrev pub HoldsAlways : (Topology → Processes → Type 0) → Type 0
-HoldsAlways P = (t : Topology) (w : Processes) → IsReached t w → P t w
+HoldsAlways P = (t : Topology) (w : Processes) → AreReached t w → P t w
 
 -- no router refuses a message of the session that its end of the link is in
 abbrev pub NoneRefused : Topology → Processes → Type 0

@@ -3,7 +3,7 @@ use Rattle.std.specs.Prelude.{◌≡◌, ◌≢◌, ◌≤◌, max, true, ⊤}
 use Rattle.network_model.specs.View.{LinkEnd}
 use Rattle.loop_freedom.specs.Network.{Topology}
 use Rattle.daemon_laws.specs.Processes.{Processes}
-use Rattle.daemon_laws.specs.Happenings.{Happening, Tells, Takes, Loses, Publishes, PublishesSome, Forgets, Releases, BeginsAnew, own_session, latest_coming, IsReached, Begun, Happened, Rewired}
+use Rattle.daemon_laws.specs.Happenings.{Happening, Tells, Takes, Loses, Publishes, PublishesSome, Forgets, Releases, BeginsAnew, own_session, latest_coming, AreReached, Begun, Happened, Rewired}
 
 -- where a process begins anew, what was on its way to the one before is lost; and so is what was on its way from it, but for messages of
 -- sessions that the other end has come into
@@ -18,7 +18,7 @@ EndsCleanly t w (Releases i) = ⊤
 EndsCleanly t w (BeginsAnew i costs attachments) = (e : LinkEnd) → t.valid e ≡ true → e.router ≡ i → latest_coming t w e ≤ own_session w (t.far e)
 
 -- so it was each time
-abbrev pub Cleanly : (t : Topology) (w : Processes) → IsReached t w → Type 0
+abbrev pub Cleanly : (t : Topology) (w : Processes) → AreReached t w → Type 0
 Cleanly _ _ (Begun t w B) = ⊤
 Cleanly _ _ (Happened t w h M can) = EndsCleanly t w h × Cleanly t w M
 Cleanly _ _ (Rewired t t' w M R) = Cleanly t w M
@@ -29,4 +29,4 @@ BothKnow t w = (e : LinkEnd) → t.valid e ≡ true → e.router ≢ (t.far e).r
 
 -- so the greater of these, plus one, may be a session at both ends
 abbrev pub NumbersSuffice : Type 0
-NumbersSuffice = (t : Topology) (w : Processes) (M : IsReached t w) → Cleanly t w M → BothKnow t w
+NumbersSuffice = (t : Topology) (w : Processes) (M : AreReached t w) → Cleanly t w M → BothKnow t w

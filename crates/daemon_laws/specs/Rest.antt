@@ -28,9 +28,9 @@ abbrev pub cost_from : Processes → LinkEnd → ℕ
 cost_from w e = option_map_or (λ p. p.cost) (slice_get (w.routers e.router).ports e.port) 0
 
 -- links that are up, each begun at the router where the one before ended, lead from one router to the other
-abbrev pub IsWay : Topology → Processes → ℕ → List LinkEnd → ℕ → Type 0
-IsWay t w i [] k = i ≡ k
-IsWay t w i (e ∷ es) k = (session : ℕ) × (e.router ≡ i) × IsUpIn t w e session × IsWay t w (t.far e).router es k
+abbrev pub IsSessionWay : Topology → Processes → ℕ → List LinkEnd → ℕ → Type 0
+IsSessionWay t w i [] k = i ≡ k
+IsSessionWay t w i (e ∷ es) k = (session : ℕ) × (e.router ≡ i) × IsUpIn t w e session × IsSessionWay t w (t.far e).router es k
 
 -- the costs from the ends that a way leaves, added up; the empty way costs 0
 abbrev pub way_cost : Processes → List LinkEnd → ℕ
@@ -39,7 +39,7 @@ way_cost w (e ∷ es) = cost_from w e + way_cost w es
 
 -- a way from the router to one that is attached to the prefix, which costs so much, the cost of the attachment included
 pub record IsWayHome (t : Topology) (w : Processes) (p : Prefix) (i : ℕ) (es : List LinkEnd) (k cost : ℕ) : Type 0 where
-  pub way : IsWay t w i es k
+  pub way : IsSessionWay t w i es k
   pub attachment : ℕ
   pub attached : attachment_of (w.routers k) p ≡ Some attachment
   pub cost_is : way_cost w es + attachment ≡ cost
@@ -52,27 +52,27 @@ pub record IsLeastWay (t : Topology) (w : Processes) (p : Prefix) (i : ℕ) (es 
 -- ---- rows
 
 -- the entry of the row that a router published for a prefix
-abbrev pub published_entry : Processes → ℕ → Prefix → Option Entry
-published_entry w i p = row_of prefix_cmp p ((w.routers i).table).published
+abbrev pub entry_in_force : Processes → ℕ → Prefix → Option Entry
+entry_in_force w i p = row_of prefix_cmp p ((w.routers i).table).published
 
 -- published Via rows lead along these ends, over links that are up in the sessions of the rows, to router o, whose row is Local
-abbrev pub IsChain : Topology → Processes → Prefix → ℕ → List LinkEnd → ℕ → Type 0
-IsChain t w p i [] o = (i ≡ o) × (published_entry w i p ≡ Some Local)
-IsChain t w p i (e ∷ es) o =
-    (session : ℕ) × (e.router ≡ i) × IsUpIn t w e session × (published_entry w i p ≡ Some (Via e.port session)) × IsChain t w p (t.far e).router es o
+abbrev pub IsSessionChain : Topology → Processes → Prefix → ℕ → List LinkEnd → ℕ → Type 0
+IsSessionChain t w p i [] o = (i ≡ o) × (entry_in_force w i p ≡ Some Local)
+IsSessionChain t w p i (e ∷ es) o =
+    (session : ℕ) × (e.router ≡ i) × IsUpIn t w e session × (entry_in_force w i p ≡ Some (Via e.port session)) × IsSessionChain t w p (t.far e).router es o
 
 -- the row of the router is Local, at a router that is attached, or begins a chain of Via rows to such a row; the cost of the
 -- chain, that of the attachment included, is the reported distance, and least
-pub record HasRoute (t : Topology) (w : Processes) (p : Prefix) (i : ℕ) : Type 0 where
+pub record ProcessHasRoute (t : Topology) (w : Processes) (p : Prefix) (i : ℕ) : Type 0 where
   pub home : ℕ
   pub chain : List LinkEnd
-  pub leads : IsChain t w p i chain home
+  pub leads : IsSessionChain t w p i chain home
   pub least : IsLeastWay t w p i chain home (machine_of (w.routers i) p).rd
 
 -- where links that are up lead from the router to one that is attached, it is routed; else its row is Unreachable, or it has none
-pub record HasBestRow (t : Topology) (w : Processes) (p : Prefix) (i : ℕ) : Type 0 where
-  pub connected : (es : List LinkEnd) (o cost : ℕ) → IsWayHome t w p i es o cost → HasRoute t w p i
-  pub cut_off : ((es : List LinkEnd) (o cost : ℕ) → IsWayHome t w p i es o cost → ⊥) → (published_entry w i p ≡ Some Unreachable) ⊎ (published_entry w i p ≡ None)
+pub record ProcessHasBestRow (t : Topology) (w : Processes) (p : Prefix) (i : ℕ) : Type 0 where
+  pub connected : (es : List LinkEnd) (o cost : ℕ) → IsWayHome t w p i es o cost → ProcessHasRoute t w p i
+  pub cut_off : ((es : List LinkEnd) (o cost : ℕ) → IsWayHome t w p i es o cost → ⊥) → (entry_in_force w i p ≡ Some Unreachable) ⊎ (entry_in_force w i p ≡ None)
 
 -- ---- at rest
 
@@ -82,7 +82,7 @@ NothingLost t w = (e : LinkEnd) (session : ℕ) → IsUpIn t w e session → w.l
 
 -- the first n routers are quiet, all links are theirs, nothing is on its way over a link that is up, or was lost in its session, and
 -- the two ends of each link agree
-pub record IsAtRest (t : Topology) (n : ℕ) (w : Processes) : Type 0 where
+pub record AreAtRest (t : Topology) (n : ℕ) (w : Processes) : Type 0 where
   pub quiet : (i : ℕ) → i < n → is_quiet_router (w.routers i) ≡ true
   pub placed : (e : LinkEnd) → t.valid e ≡ true → e.router < n
   pub nothing_comes : (e : LinkEnd) (session : ℕ) → IsUpIn t w e session → w.coming e ≡ []
@@ -92,7 +92,7 @@ pub record IsAtRest (t : Topology) (n : ℕ) (w : Processes) : Type 0 where
 
 -- where as many routers as a network may have are at rest, each has its best row for each prefix
 abbrev pub RestIsBest : Topology → Processes → Type 0
-RestIsBest t w = (n : ℕ) → n ≤ most_routers → IsAtRest t n w → (p : Prefix) (i : ℕ) → i < n → HasBestRow t w p i
+RestIsBest t w = (n : ℕ) → n ≤ most_routers → AreAtRest t n w → (p : Prefix) (i : ℕ) → i < n → ProcessHasBestRow t w p i
 
 -- so it is at every moment, whatever has happened
 abbrev pub RestIsAlwaysBest : Type 0

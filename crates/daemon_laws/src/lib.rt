@@ -39,12 +39,12 @@
 //! may get another neighbour once both ends are in no session (`MayRewire`).
 #![tactic(auto)]
 
-ghost use Rattle.daemon_laws.specs.Facts.{FourFactsAlwaysHold};
+ghost use Rattle.daemon_laws.specs.Facts.{LinkFactsAlwaysHold};
 ghost use Rattle.daemon_laws.specs.Happenings.{AfterIsReached, HoldsAlways, NoneRefused};
-ghost use Rattle.daemon_laws.specs.Moments.{FourFactsHoldThere};
+ghost use Rattle.daemon_laws.specs.Moments.{LinkFactsHoldThere};
 ghost use Rattle.daemon_laws.specs.Numbers.{NumbersSuffice};
-ghost use Rattle.daemon_laws.specs.Packets.{NoMixtureLoops, NoPacketCircles, NoPacketLoops, NoUnmarkedCircles, NoUnmarkedLoops, NoUnmarkedMixtureLoops, NoUnmarkedWrittenCircles, NoWrittenCircles};
-ghost use Rattle.daemon_laws.specs.Reached.{SomeForgets, SomeNeighbour, SomePacketGoes, ExampleOfRest, SomeSessionAgain};
+ghost use Rattle.daemon_laws.specs.Packets.{NoMixtureLoopsAtDaemons, NoPacketCirclesAtDaemons, NoPacketLoopsAtDaemons, NoUnmarkedCircles, NoUnmarkedLoops, NoUnmarkedMixtureLoops, NoUnmarkedWrittenCircles, NoWrittenCircles};
+ghost use Rattle.daemon_laws.specs.Reached.{SomeForgets, SomeNeighbour, SomePacketGoesAtDaemons, ExampleOfRest, SomeSessionAgain};
 ghost use Rattle.daemon_laws.specs.Rest.{RestIsAlwaysBest};
 
 /// The laws hold at every moment that routers come to, by happenings one after another and by ports that get
@@ -56,8 +56,8 @@ pub fn after_is_reached()
 /// Whatever happens, and in which order, no packet meets a router twice along routers that match its
 /// address by one prefix; nor where some routers forward by what they have chosen since they published.
 pub fn no_packet_loop()
-    ensures published { HoldsAlways NoPacketLoops }
-    ensures mixtures { HoldsAlways NoMixtureLoops }
+    ensures published { HoldsAlways NoPacketLoopsAtDaemons }
+    ensures mixtures { HoldsAlways NoMixtureLoopsAtDaemons }
 {}
 
 /// Nor does one where packets carry no session, if a router forwards what comes in by a port only while
@@ -73,7 +73,7 @@ pub fn no_unmarked_loop()
 /// written into tables one by one, in any order, or while a process that has begun anew takes out the rows
 /// of the one before, in any order, if none of its ports is up yet.
 pub fn no_daemon_packet_circles()
-    ensures marked { HoldsAlways NoPacketCircles }
+    ensures marked { HoldsAlways NoPacketCirclesAtDaemons }
     ensures unmarked { HoldsAlways NoUnmarkedCircles }
     ensures written { HoldsAlways NoWrittenCircles }
     ensures unmarked_written { HoldsAlways NoUnmarkedWrittenCircles }
@@ -90,8 +90,8 @@ pub fn none_refused()
 /// distance of a computation whose query has been answered. So it is after any list of happenings between the
 /// same neighbours, and at every moment, whichever neighbours ports have got.
 pub fn four_facts()
-    ensures listed { FourFactsAlwaysHold }
-    ensures there { FourFactsHoldThere }
+    ensures listed { LinkFactsAlwaysHold }
+    ensures there { LinkFactsHoldThere }
 {}
 
 /// Where all is at rest, nothing was lost in a session that a link is up in, and the two ends of each link
@@ -110,7 +110,7 @@ pub fn numbers_suffice()
 
 /// The laws are not empty of packets.
 pub fn some_packet()
-    ensures { SomePacketGoes }
+    ensures { SomePacketGoesAtDaemons }
 {}
 
 /// Nor of routers at rest.

@@ -9,8 +9,8 @@ use Rattle.coming_to_rest.specs.Rest.{IsFinite}
 use Rattle.coming_to_rest.proofs.Order.{lower_cases}
 use Rattle.coming_to_rest.proofs.Bounds.{IsIn, in_left, in_right, bound_of_all}
 use Rattle.daemon_laws.specs.Processes.{Carried, Processes}
-use Rattle.daemon_laws.specs.Happenings.{Happening, Tells, Takes, Loses, Publishes, PublishesSome, Forgets, Releases, BeginsAnew, CanHappen, next}
-use Rattle.daemons_come_to_rest.specs.Rest.{HappensAlone, ComesToRest, rests, AllAlone, HasBound}
+use Rattle.daemon_laws.specs.Happenings.{Happening, Tells, Takes, Loses, Publishes, PublishesSome, Forgets, Releases, BeginsAnew, CanHappen, after_happening}
+use Rattle.daemons_come_to_rest.specs.Rest.{HappensAlone, ProcessesComeToRest, rests, AllAlone, HasMostHappenings}
 use Rattle.daemons_come_to_rest.proofs.Forgets.{may_machine}
 use Rattle.daemons_come_to_rest.proofs.Kept.{Kept, kept_next, link_there}
 
@@ -150,10 +150,10 @@ alone_can n w (BeginsAnew i costs attachments) alone = absurd alone
 -- ---- bounds
 
 -- what comes to rest has a bound
-pub has_bound : (t : Topology) (F : IsFinite t) (w : Processes) → Kept t w → ComesToRest t F.routers w → HasBound t F.routers w
-has_bound t F w K (rests _ close) = bound_here (λ h alone. has_bound t F (next t w h) (kept_next t w h K (alone_can F.routers w h alone)) (close h alone))
+pub has_bound : (t : Topology) (F : IsFinite t) (w : Processes) → Kept t w → ProcessesComeToRest t F.routers w → HasMostHappenings t F.routers w
+has_bound t F w K (rests _ close) = bound_here (λ h alone. has_bound t F (after_happening t w h) (kept_next t w h K (alone_can F.routers w h alone)) (close h alone))
   where
-    bound_here : ((h : Happening) → HappensAlone F.routers w h → HasBound t F.routers (next t w h)) → HasBound t F.routers w
-    bound_here then = bound_of_all (HappensAlone F.routers w) (λ h hs. AllAlone t F.routers (next t w h) hs)
+    bound_here : ((h : Happening) → HappensAlone F.routers w h → HasMostHappenings t F.routers (after_happening t w h)) → HasMostHappenings t F.routers w
+    bound_here then = bound_of_all (HappensAlone F.routers w) (λ h hs. AllAlone t F.routers (after_happening t w h) hs)
         (λ h. elim (either F.routers w h) [ inl alone ↦ inl (then h alone) | inr not ↦ inr not ])
         (AllAlone t F.routers w) (λ h hs all. all) (candidates t F w K) (candidate t F w K)

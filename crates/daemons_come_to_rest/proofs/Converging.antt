@@ -6,10 +6,10 @@ use Rattle.coming_to_rest.specs.Rest.{IsFinite}
 use Rattle.coming_to_rest.proofs.Bounds.{IsIn, find_one}
 use Rattle.daemon_laws.specs.Processes.{Processes}
 use Rattle.daemon_laws.specs.Packets.{is_in_session}
-use Rattle.daemon_laws.specs.Happenings.{Happening, Tells, Takes, Loses, Publishes, PublishesSome, Forgets, Releases, BeginsAnew, next, after}
+use Rattle.daemon_laws.specs.Happenings.{Happening, Tells, Takes, Loses, Publishes, PublishesSome, Forgets, Releases, BeginsAnew, after_happening, after_happenings}
 use Rattle.daemon_laws.proofs.Cases.{by_take, by_release}
-use Rattle.daemons_come_to_rest.specs.Rest.{HappensAlone, ComesToRest, rests, AllAlone}
-use Rattle.daemons_come_to_rest.specs.Settled.{is_loss, forgets, NothingLeft, EndsAgree, LosesNone, SameGround, Converges, AlwaysConverges}
+use Rattle.daemons_come_to_rest.specs.Rest.{HappensAlone, ProcessesComeToRest, rests, AllAlone}
+use Rattle.daemons_come_to_rest.specs.Settled.{is_loss, forgets, NothingLeft, EndsAgree, LosesNone, SameGround, ProcessesConverge, ProcessesAlwaysConverge}
 use Rattle.daemons_come_to_rest.proofs.Gathered.{prefixes_in, all_known}
 use Rattle.daemons_come_to_rest.proofs.Kept.{Kept, kept_next, kept_reached}
 use Rattle.daemons_come_to_rest.proofs.Falling.{goes_alone}
@@ -21,20 +21,20 @@ use Rattle.daemons_come_to_rest.proofs.Settled.{settled_best}
 
 module _ (t : Topology) (F : IsFinite t) where
   -- what happens alone keeps what is kept
-  pub kept_alone : (w : Processes) (hs : List Happening) → Kept t w → AllAlone t F.routers w hs → Kept t (after t w hs)
+  pub kept_alone : (w : Processes) (hs : List Happening) → Kept t w → AllAlone t F.routers w hs → Kept t (after_happenings t w hs)
   kept_alone w [] K all = K
-  kept_alone w (h ∷ hs) K all = kept_alone (next t w h) hs (kept_next t w h K (alone_can F.routers w h all.0)) all.1
+  kept_alone w (h ∷ hs) K all = kept_alone (after_happening t w h) hs (kept_next t w h K (alone_can F.routers w h all.0)) all.1
 
   -- and leaves links and attachments
-  pub ground_after : (w : Processes) (hs : List Happening) → Kept t w → AllAlone t F.routers w hs → SameGround w (after t w hs)
+  pub ground_after : (w : Processes) (hs : List Happening) → Kept t w → AllAlone t F.routers w hs → SameGround w (after_happenings t w hs)
   ground_after w [] K all = λ i. (refl, λ p. refl)
   ground_after w (h ∷ hs) K all =
       let one = (goes_alone t F (prefixes_in t F w) w K (all_known t F w) h all.0).ground in
-      let rest = ground_after (next t w h) hs (kept_next t w h K (alone_can F.routers w h all.0)) all.1 in
+      let rest = ground_after (after_happening t w h) hs (kept_next t w h K (alone_can F.routers w h all.0)) all.1 in
       λ i. ((rest i).0 ∙ (one i).0, λ p. (rest i).1 p ∙ (one i).1 p)
 
 -- what is no loss loses nothing
-lost_next : (t : Topology) (n : ℕ) (w : Processes) (h : Happening) → HappensAlone n w h → is_loss h ≡ false → (next t w h).lost ≡ w.lost
+lost_next : (t : Topology) (n : ℕ) (w : Processes) (h : Happening) → HappensAlone n w h → is_loss h ≡ false → (after_happening t w h).lost ≡ w.lost
 lost_next t n w (Tells i x) alone quiet = refl
 lost_next t n w (Takes e) alone quiet = by_take t w (λ v. v.lost ≡ w.lost) refl e (λ c at le. refl)
 lost_next t n w (Loses e) alone quiet = absurd (false≢true (sym quiet))
@@ -45,9 +45,9 @@ lost_next t n w (Releases i) alone quiet = by_release t w (λ v. v.lost ≡ w.lo
 lost_next t n w (BeginsAnew i costs attachments) alone quiet = absurd alone
 
 -- nor do any of them
-lost_after : (t : Topology) (n : ℕ) (w : Processes) (hs : List Happening) → AllAlone t n w hs → LosesNone hs → (after t w hs).lost ≡ w.lost
+lost_after : (t : Topology) (n : ℕ) (w : Processes) (hs : List Happening) → AllAlone t n w hs → LosesNone hs → (after_happenings t w hs).lost ≡ w.lost
 lost_after t n w [] all none = refl
-lost_after t n w (h ∷ hs) all none = lost_after t n (next t w h) hs all.1 none.1 ∙ lost_next t n w h all.0 none.0
+lost_after t n w (h ∷ hs) all none = lost_after t n (after_happening t w h) hs all.1 none.1 ∙ lost_next t n w h all.0 none.0
 
 -- on the same ground an end is in the same sessions
 same_session : (w v : Processes) → SameGround w v → (e : LinkEnd) (session : ℕ) → is_in_session v e session ≡ is_in_session w e session
@@ -63,7 +63,7 @@ still_agree t w v G A e session on =
 
 -- some of what happens alone, without a loss, leads to where nothing is left
 Leads : Topology → ℕ → Processes → Type 0
-Leads t n w = (hs : List Happening) × AllAlone t n w hs × LosesNone hs × NothingLeft n (after t w hs)
+Leads t n w = (hs : List Happening) × AllAlone t n w hs × LosesNone hs × NothingLeft n (after_happenings t w hs)
 
 -- something still happens that is no loss, and forgets no prefix
 abbrev IsLeft : ℕ → Processes → Happening → Type 0
@@ -82,20 +82,20 @@ loses_none true b h = h
 loses_none false b h = refl
 
 -- what comes to rest leads to where nothing is left
-leads : (t : Topology) (F : IsFinite t) (w : Processes) → Kept t w → ComesToRest t F.routers w → Leads t F.routers w
+leads : (t : Topology) (F : IsFinite t) (w : Processes) → Kept t w → ProcessesComeToRest t F.routers w → Leads t F.routers w
 unfolding Leads
-leads t F w K (rests _ close) = by_search (λ h alone. leads t F (next t w h) (kept_next t w h K (alone_can F.routers w h alone)) (close h alone)) (find_one (IsLeft F.routers w) (left F.routers w) (candidates t F w K))
+leads t F w K (rests _ close) = by_search (λ h alone. leads t F (after_happening t w h) (kept_next t w h K (alone_can F.routers w h alone)) (close h alone)) (find_one (IsLeft F.routers w) (left F.routers w) (candidates t F w K))
   where
-    by_search : ((h : Happening) → HappensAlone F.routers w h → (hs : List Happening) × AllAlone t F.routers (next t w h) hs × LosesNone hs × NothingLeft F.routers (after t (next t w h) hs))
+    by_search : ((h : Happening) → HappensAlone F.routers w h → (hs : List Happening) × AllAlone t F.routers (after_happening t w h) hs × LosesNone hs × NothingLeft F.routers (after_happenings t (after_happening t w h) hs))
         → ((h : Happening) × IsLeft F.routers w h) ⊎ ((h : Happening) → IsIn h (candidates t F w K) → IsLeft F.routers w h → ⊥)
-        → (hs : List Happening) × AllAlone t F.routers w hs × LosesNone hs × NothingLeft F.routers (after t w hs)
+        → (hs : List Happening) × AllAlone t F.routers w hs × LosesNone hs × NothingLeft F.routers (after_happenings t w hs)
     by_search onward (inl (h, (alone, keeps))) = let (hs, all, none, done) = onward h alone in (h ∷ hs, (alone, all), (loses_none (is_loss h) (forgets h) keeps, none), done)
     by_search onward (inr none) = ([], tt, tt, λ h alone. true_from_ne_false (is_loss h || forgets h) (λ keeps. none h (candidate t F w K h alone) (alone, keeps)))
 
 -- ---- all
 
 -- what is kept converges
-kept_converges : (t : Topology) (F : IsFinite t) (w : Processes) → Kept t w → Converges t F.routers w
+kept_converges : (t : Topology) (F : IsFinite t) (w : Processes) → Kept t w → ProcessesConverge t F.routers w
 unfolding Leads
 kept_converges t F w K =
     let C = kept_rests t F w K in
@@ -106,16 +106,16 @@ kept_converges t F w K =
       stays_whole = λ whole hs all none e session is.
           let G = ground_after t F w hs K all in
           ap (λ (l : LinkEnd → ℕ → Bool). l e session) (lost_after t F.routers w hs all none)
-          ∙ whole e session (record { valid = is.valid; near = sym (same_session w (after t w hs) G e session) ∙ is.near; far = sym (same_session w (after t w hs) G (t.far e) session) ∙ is.far });
+          ∙ whole e session (record { valid = is.valid; near = sym (same_session w (after_happenings t w hs) G e session) ∙ is.near; far = sym (same_session w (after_happenings t w hs) G (t.far e) session) ∙ is.far });
       arrives = λ agree few hs all whole left p i lt.
-          settled_best t F.routers (after t w hs) (record {
+          settled_best t F.routers (after_happenings t w hs) (record {
             nothing_left = left;
             placed = λ e valid. (F.within e valid).0;
             nothing_lost = whole;
-            agree = still_agree t w (after t w hs) (ground_after t F w hs K all) agree;
+            agree = still_agree t w (after_happenings t w hs) (ground_after t F w hs K all) agree;
           }) (kept_alone t F w hs K all) few p i lt;
     }
 
 -- every moment converges
-pub always_converges : AlwaysConverges
+pub always_converges : ProcessesAlwaysConverge
 always_converges t w M F = kept_converges t F w (kept_reached t w M)

@@ -6,7 +6,7 @@ use Rattle.coming_to_rest.specs.Rest.{IsFinite}
 use Rattle.daemon_laws.specs.Processes.{Carried, Processes}
 use Rattle.daemon_laws.specs.Packets.{is_in_session}
 use Rattle.daemon_laws.specs.Rest.{NothingLost}
-use Rattle.daemon_laws.specs.Happenings.{Tells, Takes, Loses, Publishes, PublishesSome, Forgets, Releases, BeginsAnew, after, AllCanHappen}
+use Rattle.daemon_laws.specs.Happenings.{Tells, Takes, Loses, Publishes, PublishesSome, Forgets, Releases, BeginsAnew, after_happenings, AllCanHappen}
 use Rattle.daemon_laws.proofs.Example.{first, begins, seven}
 use Rattle.least_cost.proofs.Reached.{each_place, each_router}
 use Rattle.daemon_laws.proofs.RestExample.{until_up, onward, rest, agree}
@@ -17,7 +17,7 @@ use Rattle.daemons_come_to_rest.proofs.Converging.{kept_alone, ground_after, sti
 
 -- the processes then
 abbrev now : Processes
-now = after pair first until_up
+now = after_happenings pair first until_up
 
 -- there are two link ends
 abbrev two : IsFinite pair

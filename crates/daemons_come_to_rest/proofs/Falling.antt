@@ -17,7 +17,7 @@ use Rattle.coming_to_rest.proofs.Takes.{MessageEffect, load_falls}
 use Rattle.coming_to_rest.proofs.Known.{IsOf}
 use Rattle.coming_to_rest.proofs.Prefixes.{CountsLess, each, prefixes_less, prefixes_fall, sum_places, sum_loads, dues_fall, effect_falls}
 use Rattle.daemon_laws.specs.Processes.{Carried, Processes}
-use Rattle.daemon_laws.specs.Happenings.{Happening, Tells, Takes, Loses, Publishes, PublishesSome, Forgets, Releases, BeginsAnew, with_router, with_coming, told, forgotten, with_taken, with_released, next}
+use Rattle.daemon_laws.specs.Happenings.{Happening, Tells, Takes, Loses, Publishes, PublishesSome, Forgets, Releases, BeginsAnew, with_process, with_coming, told_router, forgotten, having_taken, having_released, after_happening}
 use Rattle.daemon_laws.proofs.Cases.{after_message}
 use Rattle.daemon_laws.proofs.Seen.{carried}
 use Rattle.daemon_laws.proofs.Steps.{router_here, router_away, coming_here, coming_away, bounded}
@@ -185,7 +185,7 @@ module _ (t : Topology) (F : IsFinite t) (ps : List Prefix) where
       -- the router after
       router_then : (o : Option CallFault) → told_fault (input.Message e.port c.session c.message) (w.routers e.router) ≡ o
           → taken.routers e.router ≡ (if is_none o then router_accepting e.port (Item.Message c.message) (w.routers e.router) else w.routers e.router)
-      router_then o is = router_here e.router (told (input.Message e.port c.session c.message)) w.routers
+      router_then o is = router_here e.router (told_router (input.Message e.port c.session c.message)) w.routers
           ∙ ap (λ f. if is_none f then router_accepting e.port (Item.Message c.message) (w.routers e.router) else w.routers e.router) is
 
       -- the message is taken
@@ -199,7 +199,7 @@ module _ (t : Topology) (F : IsFinite t) (ps : List Prefix) where
             coming_elsewhere = λ d ne. coming_away e (drop 1) w.coming d ne;
             no_fault = is;
             router_is = router_then None is;
-            routers_elsewhere = λ j ne. router_away e.router (told (input.Message e.port c.session c.message)) w.routers j ne;
+            routers_elsewhere = λ j ne. router_away e.router (told_router (input.Message e.port c.session c.message)) w.routers j ne;
           } in
           let k = (c.message).prefix in
           record { falls = take_falls w taken K G T (bounded t k (K.pfd k) w (K.invariant k) e c at le (prefix_itself k)); known = known_take t F.routers ps w taken G T; ground = λ j. (stays_of w taken e.router (router_accepting e.port (Item.Message c.message) (w.routers e.router)) T.router_is T.routers_elsewhere (λ (y : Router). y.ports) refl j, λ p. taken_attachment t F p w taken T ((K.invariant p).keeps e.router) (bounded t k (K.pfd k) w (K.invariant k) e c at le (prefix_itself k)) j) }
@@ -217,10 +217,10 @@ module _ (t : Topology) (F : IsFinite t) (ps : List Prefix) where
           } in
           record { falls = drop_falls w taken K G D; known = known_drop t F.routers ps w taken G D; ground = same_ground w taken same_routers }
         where
-          same_routers : (j : ℕ) → with_router e.router (told (input.Message e.port c.session c.message)) w.routers j ≡ w.routers j
+          same_routers : (j : ℕ) → with_process e.router (told_router (input.Message e.port c.session c.message)) w.routers j ≡ w.routers j
           same_routers j = elim (cases_eq j e.router) [
-            | inl s ↦ subst (λ k. with_router e.router (told (input.Message e.port c.session c.message)) w.routers k ≡ w.routers k) (sym s) (router_then (Some f) is)
-            | inr ne ↦ router_away e.router (told (input.Message e.port c.session c.message)) w.routers j ne
+            | inl s ↦ subst (λ k. with_process e.router (told_router (input.Message e.port c.session c.message)) w.routers k ≡ w.routers k) (sym s) (router_then (Some f) is)
+            | inr ne ↦ router_away e.router (told_router (input.Message e.port c.session c.message)) w.routers j ne
           ]
 
       -- either way
@@ -229,14 +229,14 @@ module _ (t : Topology) (F : IsFinite t) (ps : List Prefix) where
       goes_either (Some f) is = goes_refused f is
 
       -- an end takes a message that does not wait
-      goes_takes : Goes (next t w (Takes e))
-      goes_takes = subst Goes (sym (ap (λ o. option_map_or (with_taken e w) o w) at ∙ ap (λ b. if b then w else taken) (le-ltb (w.last e) c.session le)))
+      goes_takes : Goes (after_happening t w (Takes e))
+      goes_takes = subst Goes (sym (ap (λ o. option_map_or (having_taken e w) o w) at ∙ ap (λ b. if b then w else taken) (le-ltb (w.last e) c.session le)))
           (goes_either (told_fault (input.Message e.port c.session c.message) (w.routers e.router)) refl)
 
     -- a message is lost
-    goes_loses : (e : LinkEnd) (c : Carried) → slice_get (w.coming e) 0 ≡ Some c → Goes (next t w (Loses e))
+    goes_loses : (e : LinkEnd) (c : Carried) → slice_get (w.coming e) 0 ≡ Some c → Goes (after_happening t w (Loses e))
     goes_loses e c at =
-        let D : Drops t w (next t w (Loses e)) = record {
+        let D : Drops t w (after_happening t w (Loses e)) = record {
           e = e;
           c = c;
           valid_place = link_there t w K e c at;
@@ -244,18 +244,18 @@ module _ (t : Topology) (F : IsFinite t) (ps : List Prefix) where
           coming_elsewhere = λ d ne. coming_away e (drop 1) w.coming d ne;
           routers_same = λ j. refl;
         } in
-        record { falls = drop_falls w (next t w (Loses e)) K G D; known = known_drop t F.routers ps w (next t w (Loses e)) G D; ground = same_ground w (next t w (Loses e)) (λ j. refl) }
+        record { falls = drop_falls w (after_happening t w (Loses e)) K G D; known = known_drop t F.routers ps w (after_happening t w (Loses e)) G D; ground = same_ground w (after_happening t w (Loses e)) (λ j. refl) }
 
     -- a router publishes
-    goes_publishes : (i : ℕ) → i < F.routers → is_due (w.routers i) ≡ true → Goes (next t w (Publishes i))
+    goes_publishes : (i : ℕ) → i < F.routers → is_due (w.routers i) ≡ true → Goes (after_happening t w (Publishes i))
     goes_publishes i within due =
-        let P : PublishesOne w (next t w (Publishes i)) = record { i = i; router_is = router_here i router_publishing w.routers; routers_elsewhere = λ j ne. router_away i router_publishing w.routers j ne; coming_same = λ e. refl } in
-        record { falls = publish_falls w (next t w (Publishes i)) K G P within due; known = known_publish t F.routers ps w (next t w (Publishes i)) G P; ground = λ j. (stays_of w (next t w (Publishes i)) i (router_publishing (w.routers i)) P.router_is P.routers_elsewhere (λ (y : Router). y.ports) refl j, λ p. stays_of w (next t w (Publishes i)) i (router_publishing (w.routers i)) P.router_is P.routers_elsewhere (λ (y : Router). attachment_of y p) refl j) }
+        let P : PublishesOne w (after_happening t w (Publishes i)) = record { i = i; router_is = router_here i router_publishing w.routers; routers_elsewhere = λ j ne. router_away i router_publishing w.routers j ne; coming_same = λ e. refl } in
+        record { falls = publish_falls w (after_happening t w (Publishes i)) K G P within due; known = known_publish t F.routers ps w (after_happening t w (Publishes i)) G P; ground = λ j. (stays_of w (after_happening t w (Publishes i)) i (router_publishing (w.routers i)) P.router_is P.routers_elsewhere (λ (y : Router). y.ports) refl j, λ p. stays_of w (after_happening t w (Publishes i)) i (router_publishing (w.routers i)) P.router_is P.routers_elsewhere (λ (y : Router). attachment_of y p) refl j) }
 
     -- a router publishes some of its rows
-    goes_publishes_some : (i n : ℕ) → i < F.routers → 0 < n → n < length (changed_rows (w.routers i).table) → Goes (next t w (PublishesSome i n))
+    goes_publishes_some : (i n : ℕ) → i < F.routers → 0 < n → n < length (changed_rows (w.routers i).table) → Goes (after_happening t w (PublishesSome i n))
     goes_publishes_some i n within more fewer =
-        let v : Processes = next t w (PublishesSome i n) in
+        let v : Processes = after_happening t w (PublishesSome i n) in
         let r' : Router = router_publishing_some n (w.routers i) in
         let here : v.routers i ≡ r' = router_here i (router_publishing_some n) w.routers in
         let away : (j : ℕ) → j ≢ i → v.routers j ≡ w.routers j = λ j ne. router_away i (router_publishing_some n) w.routers j ne in
@@ -266,9 +266,9 @@ module _ (t : Topology) (F : IsFinite t) (ps : List Prefix) where
         }
 
     -- a router forgets a prefix
-    goes_forgets : (i : ℕ) (k : Prefix) → i < F.routers → may_forget k (w.routers i) ≡ true → Goes (next t w (Forgets i k))
+    goes_forgets : (i : ℕ) (k : Prefix) → i < F.routers → may_forget k (w.routers i) ≡ true → Goes (after_happening t w (Forgets i k))
     goes_forgets i k within may =
-        let v : Processes = next t w (Forgets i k) in
+        let v : Processes = after_happening t w (Forgets i k) in
         let r' : Router = router_forgetting k (w.routers i) in
         let here : v.routers i ≡ r' = router_here i (forgotten k) w.routers ∙ ap (λ b. if b then router_forgetting k (w.routers i) else w.routers i) may in
         let away : (j : ℕ) → j ≢ i → v.routers j ≡ w.routers j = λ j ne. router_away i (forgotten k) w.routers j ne in
@@ -280,13 +280,13 @@ module _ (t : Topology) (F : IsFinite t) (ps : List Prefix) where
         }
 
     -- a router releases a message
-    goes_releases : (i : ℕ) (h : Held) → i < F.routers → ripe_front (w.routers i) ≡ Some h → Goes (next t w (Releases i))
-    goes_releases i h within front = subst Goes (sym (ap (λ o. option_map_or (with_released t i w) o w) front)) (
-        let R : ReleasesOne t w (with_released t i w h) = record { i = i; h = h; front = front; router_is = router_here i router_releasing w.routers; routers_elsewhere = λ j ne. router_away i router_releasing w.routers j ne; coming_is = λ e. refl } in
-        record { falls = release_falls w (with_released t i w h) K G R within; known = known_release t F.routers ps w (with_released t i w h) G R within; ground = λ j. (stays_of w (with_released t i w h) i (router_releasing (w.routers i)) R.router_is R.routers_elsewhere (λ (y : Router). y.ports) refl j, λ p. stays_of w (with_released t i w h) i (router_releasing (w.routers i)) R.router_is R.routers_elsewhere (λ (y : Router). attachment_of y p) refl j) })
+    goes_releases : (i : ℕ) (h : Held) → i < F.routers → ripe_front (w.routers i) ≡ Some h → Goes (after_happening t w (Releases i))
+    goes_releases i h within front = subst Goes (sym (ap (λ o. option_map_or (having_released t i w) o w) front)) (
+        let R : ReleasesOne t w (having_released t i w h) = record { i = i; h = h; front = front; router_is = router_here i router_releasing w.routers; routers_elsewhere = λ j ne. router_away i router_releasing w.routers j ne; coming_is = λ e. refl } in
+        record { falls = release_falls w (having_released t i w h) K G R within; known = known_release t F.routers ps w (having_released t i w h) G R within; ground = λ j. (stays_of w (having_released t i w h) i (router_releasing (w.routers i)) R.router_is R.routers_elsewhere (λ (y : Router). y.ports) refl j, λ p. stays_of w (having_released t i w h) i (router_releasing (w.routers i)) R.router_is R.routers_elsewhere (λ (y : Router). attachment_of y p) refl j) })
 
     -- whatever still happens
-    pub goes_alone : (h : Happening) → HappensAlone F.routers w h → Goes (next t w h)
+    pub goes_alone : (h : Happening) → HappensAlone F.routers w h → Goes (after_happening t w h)
     goes_alone (Tells i x) alone = absurd alone
     goes_alone (Takes e) (c, at, le) = goes_takes e c at le
     goes_alone (Loses e) (c, at) = goes_loses e c at

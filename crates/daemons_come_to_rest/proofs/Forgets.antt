@@ -4,7 +4,7 @@ use Rattle.std.specs.List.{list_all}
 use Rattle.no_packet_loops.proofs.Common.{option_map_or, false≢true, has_row, Unreachable, None_not_Some, and_parts, and-false, slice_get-map, Prefix, prefix_cmp, prefix_eq, Machine, opening_machine, Neighbour, Port, Router, neighbours, machine_of, kept, ripe_of, unripe_of, Topology, LinkEnd, at_port}
 use Rattle.network_model.proofs.Common.{cases_eq, cases_lt, both_ways, least, ways, infinity, one_if}
 use Rattle.std.specs.FinMap.{find as row_of}
-use Rattle.machine_laws.specs.Laws.{reported_of, reported_at}
+use Rattle.machine_laws.specs.Laws.{reported_by, reported_at}
 use Rattle.router_core.specs.Alone.{is_unreported, knows_nothing, may_forget, router_forgetting}
 use Rattle.single_router.specs.Inputs.{attachment_of}
 use Rattle.no_packet_loops.proofs.Machines.{prefix_same}
@@ -49,7 +49,7 @@ unheard_stale None = refl
 unheard_stale (Some n) = ap (λ b. one_if (not n.up && not b)) (eq-eqb infinity infinity refl) ∙ ap one_if (and-false (not n.up))
 
 -- where nothing is stale at a port that is down, and infinity was reported where it is up, infinity was reported
-unheard_reported : (o : Option Neighbour) → ((n : Neighbour) → o ≡ Some n → is_unreported n ≡ true) → stale_of o ≤ 0 → reported_of (option_map unheard_port o) ≡ reported_of o
+unheard_reported : (o : Option Neighbour) → ((n : Neighbour) → o ≡ Some n → is_unreported n ≡ true) → stale_of o ≤ 0 → reported_by (option_map unheard_port o) ≡ reported_by o
 unheard_reported None h le = refl
 unheard_reported (Some n) h le = sym (by_up n.up refl (n.reported == infinity) refl (h n refl) le)
   where
@@ -178,7 +178,7 @@ module _ (t : Topology) (F : IsFinite t) (w v : Processes) (G : ForgetsOne w v) 
       }
         where
           here : (q : ℕ) → t.valid (at_port G.i q) ≡ true → reported_at (machine_of (v.routers G.i) G.k) q ≡ reported_at (machine_of (w.routers G.i) G.k) q
-          here q valid = ap reported_of (port_is q) ∙ unheard_reported (slice_get m.ports q) (λ n at. unreported_at m.ports K.unreported q n at) (none_stale q valid)
+          here q valid = ap reported_by (port_is q) ∙ unheard_reported (slice_get m.ports q) (λ n at. unreported_at m.ports K.unreported q n at) (none_stale q valid)
 
           at_end : (e : LinkEnd) → t.valid e ≡ true → reported_at (machine_of (v.routers e.router) G.k) e.port ≡ reported_at (machine_of (w.routers e.router) G.k) e.port
           at_end e valid = elim (cases_eq e.router G.i) [

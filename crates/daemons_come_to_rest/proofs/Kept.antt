@@ -8,7 +8,7 @@ use Rattle.single_router.specs.declared.input.Input.TheVariants as input
 use Rattle.single_router.specs.Openings.{made_router}
 use Rattle.coming_to_rest.proofs.Calm.{IsCalm, stays_calm, opens_calm}
 use Rattle.daemon_laws.specs.Processes.{Carried, Processes}
-use Rattle.daemon_laws.specs.Happenings.{Happening, Tells, Takes, Loses, Publishes, PublishesSome, Forgets, Releases, BeginsAnew, CanHappen, with_router, told, forgotten, next, after, AllCanHappen, Begins, IsReached, Begun, Happened, Rewired}
+use Rattle.daemon_laws.specs.Happenings.{Happening, Tells, Takes, Loses, Publishes, PublishesSome, Forgets, Releases, BeginsAnew, CanHappen, with_process, told_router, forgotten, after_happening, after_happenings, AllCanHappen, IsOpening, AreReached, Begun, Happened, Rewired}
 use Rattle.daemon_laws.specs.Facts.{fds_next, first_fds}
 use Rattle.daemon_laws.proofs.Cases.{each_but, by_take, by_release}
 use Rattle.daemon_laws.proofs.Goes.{Reacted, stays, meets_one}
@@ -19,7 +19,7 @@ use Rattle.daemon_laws.proofs.Orderly.{Orderly}
 use Rattle.daemon_laws.proofs.Order.{next_orderly, begins_orderly}
 use Rattle.daemon_laws.proofs.Placed.{placed_next}
 use Rattle.daemon_laws.proofs.Rewiring.{rewired_keeps, rewired_orderly, rewired_placed}
-use Rattle.daemon_laws.proofs.Seen.{is_in}
+use Rattle.daemon_laws.proofs.Seen.{is_port_in}
 use Rattle.daemon_laws.proofs.SomeRows.{row_forgotten, row_beside}
 use Rattle.daemon_laws.proofs.Moving.{in_session}
 use Rattle.daemon_laws.proofs.Steps.{router_here, router_away, goes_here, next_keeps}
@@ -45,16 +45,16 @@ module _ (t : Topology) (w : Processes) (K : Kept t w) (p : Prefix) where
   I = K.invariant p
 
   -- one router changed that stays calm
-  calm_with : (i : ℕ) (f : Router → Router) → IsCalm (machine_of (f (w.routers i)) p) → (j : ℕ) → IsCalm (machine_of (with_router i f w.routers j) p)
+  calm_with : (i : ℕ) (f : Router → Router) → IsCalm (machine_of (f (w.routers i)) p) → (j : ℕ) → IsCalm (machine_of (with_process i f w.routers j) p)
   calm_with i f here = each_but (router_away i f w.routers) (λ j y. IsCalm (machine_of y p)) (subst (λ (y : Router). IsCalm (machine_of y p)) (sym (router_here i f w.routers)) here) (K.calm p)
 
   -- whatever happens
-  calm_next : (h : Happening) → CanHappen w h → (j : ℕ) → IsCalm (machine_of ((next t w h).routers j) p)
+  calm_next : (h : Happening) → CanHappen w h → (j : ℕ) → IsCalm (machine_of ((after_happening t w h).routers j) p)
   calm_next (Tells i x) can =
-      calm_with i (told x) (calm_reacted p (w.routers i) (told x (w.routers i)) (I.sound i) (K.calm p i) (goes_told p (w.routers i) (I.keeps i) (I.sound i) w i x can).goes.reacted)
+      calm_with i (told_router x) (calm_reacted p (w.routers i) (told_router x (w.routers i)) (I.sound i) (K.calm p i) (goes_told p (w.routers i) (I.keeps i) (I.sound i) w i x can).goes.reacted)
   calm_next (Takes e) can = by_take t w (λ v. (j : ℕ) → IsCalm (machine_of (v.routers j) p)) (K.calm p) e (λ c at le.
-      calm_with e.router (told (input.Message e.port c.session c.message))
-      (calm_reacted p (w.routers e.router) (told (input.Message e.port c.session c.message) (w.routers e.router)) (I.sound e.router) (K.calm p e.router) (goes_here t p (K.pfd p) w I e c at le).goes.reacted))
+      calm_with e.router (told_router (input.Message e.port c.session c.message))
+      (calm_reacted p (w.routers e.router) (told_router (input.Message e.port c.session c.message) (w.routers e.router)) (I.sound e.router) (K.calm p e.router) (goes_here t p (K.pfd p) w I e c at le).goes.reacted))
   calm_next (Loses e) can = K.calm p
   calm_next (Publishes i) can = calm_with i router_publishing (K.calm p i)
   calm_next (PublishesSome i n) can = calm_with i (router_publishing_some n) (K.calm p i)
@@ -78,7 +78,7 @@ module _ (t : Topology) (w : Processes) (K : Kept t w) (p : Prefix) where
 -- ---- no later session
 
 -- an end that is in a session was in no later one
-pub latest : (t : Topology) (w : Processes) → Kept t w → (p : Prefix) (e : LinkEnd) (n : ℕ) → is_in p (router_at w e) e.port n ≡ true → w.last e ≤ n
+pub latest : (t : Topology) (w : Processes) → Kept t w → (p : Prefix) (e : LinkEnd) (n : ℕ) → is_port_in p (router_at w e) e.port n ≡ true → w.last e ≤ n
 latest t w K p e n on =
     let up = (and_parts (is_up_at (machine_of (router_at w e) p) e.port) (session_of w e == n) on).0 in
     let l = (K.orderly p).up_last e up in
@@ -88,7 +88,7 @@ latest t w K p e n on =
 -- ---- all
 
 -- whatever happens keeps all
-pub kept_next : (t : Topology) (w : Processes) (h : Happening) → Kept t w → CanHappen w h → Kept t (next t w h)
+pub kept_next : (t : Topology) (w : Processes) (h : Happening) → Kept t w → CanHappen w h → Kept t (after_happening t w h)
 kept_next t w h K can = record {
   pfd = λ p. fds_next p w h (K.pfd p);
   invariant = λ p. next_keeps t p (K.pfd p) w (K.invariant p) (K.orderly p) K.placed h can;
@@ -98,7 +98,7 @@ kept_next t w h K can = record {
 }
 
 -- it is so where processes begin
-pub kept_first : (t : Topology) (w : Processes) → Begins w → Kept t w
+pub kept_first : (t : Topology) (w : Processes) → IsOpening w → Kept t w
 kept_first t w B = record {
   pfd = λ p. first_fds p w;
   invariant = λ p. begins_kept t p w B;
@@ -108,12 +108,12 @@ kept_first t w B = record {
 }
 
 -- and so at every moment
-pub kept_after : (t : Topology) (w : Processes) (hs : List Happening) → Kept t w → AllCanHappen t w hs → Kept t (after t w hs)
+pub kept_after : (t : Topology) (w : Processes) (hs : List Happening) → Kept t w → AllCanHappen t w hs → Kept t (after_happenings t w hs)
 kept_after t w [] K can = K
-kept_after t w (h ∷ hs) K can = kept_after t (next t w h) hs (kept_next t w h K can.0) can.1
+kept_after t w (h ∷ hs) K can = kept_after t (after_happening t w h) hs (kept_next t w h K can.0) can.1
 
 -- it is so at every moment, whichever neighbours ports have got
-pub kept_reached : (t : Topology) (w : Processes) → IsReached t w → Kept t w
+pub kept_reached : (t : Topology) (w : Processes) → AreReached t w → Kept t w
 kept_reached _ _ (Begun t w B) = kept_first t w B
 kept_reached _ _ (Happened t w h M can) = kept_next t w h (kept_reached t w M) can
 kept_reached _ _ (Rewired t t' w M R) =

@@ -5,8 +5,8 @@ use Rattle.coming_to_rest.specs.Rest.{IsFinite}
 use Rattle.coming_to_rest.proofs.Order.{every}
 use Rattle.coming_to_rest.proofs.Measure.{top}
 use Rattle.daemon_laws.specs.Processes.{Processes}
-use Rattle.daemon_laws.specs.Happenings.{Happening, next}
-use Rattle.daemons_come_to_rest.specs.Rest.{HappensAlone, ComesToRest, rests, AlwaysComesToRest, AlwaysHasBound}
+use Rattle.daemon_laws.specs.Happenings.{Happening, after_happening}
+use Rattle.daemons_come_to_rest.specs.Rest.{HappensAlone, ProcessesComeToRest, rests, ProcessesAlwaysComeToRest, AlwaysHasBound}
 use Rattle.daemons_come_to_rest.proofs.Gathered.{KnownIn, prefixes_in, all_known}
 use Rattle.daemons_come_to_rest.proofs.Kept.{Kept, kept_next, kept_reached}
 use Rattle.daemons_come_to_rest.proofs.Falling.{all_places, all_loads, all_dues, ProcessesFall, goes_alone}
@@ -17,7 +17,7 @@ module _ (t : Topology) (F : IsFinite t) (ps : List Prefix) where
   record Leads (w v : Processes) : Type 0 where
     happening : Happening
     alone : HappensAlone F.routers w happening
-    to : next t w happening ≡ v
+    to : after_happening t w happening ≡ v
 
   -- what is kept at every moment, and all prefixes are these
   record Good (w : Processes) : Type 0 where
@@ -33,16 +33,16 @@ module _ (t : Topology) (F : IsFinite t) (ps : List Prefix) where
   falls w v G L = subst (ProcessesFall t F ps w) L.to (goes_alone t F ps w G.kept G.known L.happening L.alone).falls
 
   -- so all that is good comes to rest
-  good_rests : (w : Processes) → Good w → ComesToRest t F.routers w
-  good_rests = every Leads Good (ComesToRest t F.routers) (all_places t F ps) (all_loads t F ps) (all_dues t F ps) top
-      (λ w close. rests w (λ h alone. close (next t w h) (record { happening = h; alone = alone; to = refl }))) keeps falls
+  good_rests : (w : Processes) → Good w → ProcessesComeToRest t F.routers w
+  good_rests = every Leads Good (ProcessesComeToRest t F.routers) (all_places t F ps) (all_loads t F ps) (all_dues t F ps) top
+      (λ w close. rests w (λ h alone. close (after_happening t w h) (record { happening = h; alone = alone; to = refl }))) keeps falls
 
 -- what is kept comes to rest
-pub kept_rests : (t : Topology) (F : IsFinite t) (w : Processes) → Kept t w → ComesToRest t F.routers w
+pub kept_rests : (t : Topology) (F : IsFinite t) (w : Processes) → Kept t w → ProcessesComeToRest t F.routers w
 kept_rests t F w K = good_rests t F (prefixes_in t F w) w (record { kept = K; known = all_known t F w })
 
 -- every moment comes to rest
-pub always_rests : AlwaysComesToRest
+pub always_rests : ProcessesAlwaysComeToRest
 always_rests t w M F = kept_rests t F w (kept_reached t w M)
 
 -- and has a bound

@@ -7,7 +7,7 @@ use Rattle.router_core.specs.Alone.{may_forget}
 use Rattle.loop_freedom.specs.Network.{Topology}
 use Rattle.coming_to_rest.specs.Rest.{IsFinite}
 use Rattle.daemon_laws.specs.Processes.{Carried, Processes}
-use Rattle.daemon_laws.specs.Happenings.{Happening, Tells, Takes, Loses, Publishes, PublishesSome, Forgets, Releases, BeginsAnew, next, HoldsAlways}
+use Rattle.daemon_laws.specs.Happenings.{Happening, Tells, Takes, Loses, Publishes, PublishesSome, Forgets, Releases, BeginsAnew, after_happening, HoldsAlways}
 
 -- what still happens among the first n routers: an end takes the oldest message on its way there, which waits no longer, since the
 -- end has been in its session, or in a later one; that message is lost, whether it waits or not; a router publishes where
@@ -23,22 +23,22 @@ HappensAlone n w (Releases i) = (h : Held) × (i < n) × (ripe_front (w.routers 
 HappensAlone n w (BeginsAnew i costs attachments) = ⊥
 
 -- every list of such happenings ends, whatever their order
-pub data ComesToRest (t : Topology) (n : ℕ) : Processes → Type 0 where
-  rests : (w : Processes) → ((h : Happening) → HappensAlone n w h → ComesToRest t n (next t w h)) → ComesToRest t n w
+pub data ProcessesComeToRest (t : Topology) (n : ℕ) : Processes → Type 0 where
+  rests : (w : Processes) → ((h : Happening) → HappensAlone n w h → ProcessesComeToRest t n (after_happening t w h)) → ProcessesComeToRest t n w
 
 -- each of these happens so, where it does
 abbrev pub AllAlone : Topology → ℕ → Processes → List Happening → Type 0
 AllAlone t n w [] = ⊤
-AllAlone t n w (h ∷ hs) = HappensAlone n w h × AllAlone t n (next t w h) hs
+AllAlone t n w (h ∷ hs) = HappensAlone n w h × AllAlone t n (after_happening t w h) hs
 
 -- there is a number that no list of such happenings exceeds
-abbrev pub HasBound : Topology → ℕ → Processes → Type 0
-HasBound t n w = (most : ℕ) × ((hs : List Happening) → AllAlone t n w hs → length hs ≤ most)
+abbrev pub HasMostHappenings : Topology → ℕ → Processes → Type 0
+HasMostHappenings t n w = (most : ℕ) × ((hs : List Happening) → AllAlone t n w hs → length hs ≤ most)
 
 -- so it is at every moment, whatever has happened, where the topology has finitely many link ends
-abbrev pub AlwaysComesToRest : Type 0
-AlwaysComesToRest = HoldsAlways (λ t w. (F : IsFinite t) → ComesToRest t F.routers w)
+abbrev pub ProcessesAlwaysComeToRest : Type 0
+ProcessesAlwaysComeToRest = HoldsAlways (λ t w. (F : IsFinite t) → ProcessesComeToRest t F.routers w)
 
 -- and each moment has a bound
 abbrev pub AlwaysHasBound : Type 0
-AlwaysHasBound = HoldsAlways (λ t w. (F : IsFinite t) → HasBound t F.routers w)
+AlwaysHasBound = HoldsAlways (λ t w. (F : IsFinite t) → HasMostHappenings t F.routers w)

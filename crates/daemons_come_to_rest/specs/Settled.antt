@@ -8,9 +8,9 @@ use Rattle.coming_to_rest.specs.Rest.{IsFinite}
 use Rattle.single_router.specs.Inputs.{attachment_of}
 use Rattle.daemon_laws.specs.Processes.{Processes}
 use Rattle.daemon_laws.specs.Packets.{is_in_session}
-use Rattle.daemon_laws.specs.Happenings.{Happening, Tells, Takes, Loses, Publishes, PublishesSome, Forgets, Releases, BeginsAnew, after, HoldsAlways, Begins, AllCanHappen}
-use Rattle.daemon_laws.specs.Rest.{IsUpIn, NothingLost, IsAtRest, HasBestRow}
-use Rattle.daemons_come_to_rest.specs.Rest.{HappensAlone, AllAlone, HasBound}
+use Rattle.daemon_laws.specs.Happenings.{Happening, Tells, Takes, Loses, Publishes, PublishesSome, Forgets, Releases, BeginsAnew, after_happenings, HoldsAlways, IsOpening, AllCanHappen}
+use Rattle.daemon_laws.specs.Rest.{IsUpIn, NothingLost, AreAtRest, ProcessHasBestRow}
+use Rattle.daemons_come_to_rest.specs.Rest.{HappensAlone, AllAlone, HasMostHappenings}
 
 -- whether a message is lost
 abbrev pub is_loss : Happening → Bool
@@ -53,11 +53,11 @@ pub record HasSettled (t : Topology) (n : ℕ) (w : Processes) : Type 0 where
 
 -- there all is at rest: no computation goes on
 abbrev pub SettledIsAtRest : Topology → Processes → Type 0
-SettledIsAtRest t w = (n : ℕ) → HasSettled t n w → IsAtRest t n w
+SettledIsAtRest t w = (n : ℕ) → HasSettled t n w → AreAtRest t n w
 
 -- and each router has its best row for each prefix
 abbrev pub SettledIsBest : Topology → Processes → Type 0
-SettledIsBest t w = (n : ℕ) → n ≤ most_routers → HasSettled t n w → (p : Prefix) (i : ℕ) → i < n → HasBestRow t w p i
+SettledIsBest t w = (n : ℕ) → n ≤ most_routers → HasSettled t n w → (p : Prefix) (i : ℕ) → i < n → ProcessHasBestRow t w p i
 
 -- ---- from a moment on
 
@@ -72,23 +72,23 @@ SameGround w v = (i : ℕ) → ((v.routers i).ports ≡ (w.routers i).ports) × 
 
 -- where nothing happens any more but what happens alone: that ends, whatever its order, and where nothing is lost of a session that a link is
 -- up in it ends where each router has its best row
-pub record Converges (t : Topology) (n : ℕ) (w : Processes) : Type 0 where
+pub record ProcessesConverge (t : Topology) (n : ℕ) (w : Processes) : Type 0 where
   -- there is a number that no list of such happenings exceeds
-  pub bounded : HasBound t n w
+  pub bounded : HasMostHappenings t n w
   -- some of them, without a loss, lead to where nothing is left
-  pub somewhere : (hs : List Happening) × AllAlone t n w hs × LosesNone hs × NothingLeft n (after t w hs)
+  pub somewhere : (hs : List Happening) × AllAlone t n w hs × LosesNone hs × NothingLeft n (after_happenings t w hs)
   -- all of them leave links and attachments
-  pub ground : (hs : List Happening) → AllAlone t n w hs → SameGround w (after t w hs)
+  pub ground : (hs : List Happening) → AllAlone t n w hs → SameGround w (after_happenings t w hs)
   -- whichever they are, where nothing is left each router has its best row, if the two ends of each link agree now, and nothing was
   -- lost, before or since, of a session that a link is up in
   pub arrives : EndsAgree t w → n ≤ most_routers
-      → (hs : List Happening) → AllAlone t n w hs → NothingLost t (after t w hs) → NothingLeft n (after t w hs) → (p : Prefix) (i : ℕ) → i < n → HasBestRow t (after t w hs) p i
+      → (hs : List Happening) → AllAlone t n w hs → NothingLost t (after_happenings t w hs) → NothingLeft n (after_happenings t w hs) → (p : Prefix) (i : ℕ) → i < n → ProcessHasBestRow t (after_happenings t w hs) p i
   -- so it is without a loss, if nothing was lost before of a session that a link is up in
-  pub stays_whole : NothingLost t w → (hs : List Happening) → AllAlone t n w hs → LosesNone hs → NothingLost t (after t w hs)
+  pub stays_whole : NothingLost t w → (hs : List Happening) → AllAlone t n w hs → LosesNone hs → NothingLost t (after_happenings t w hs)
 
 -- so it is at every moment, whatever has happened, where the topology has finitely many link ends
-abbrev pub AlwaysConverges : Type 0
-AlwaysConverges = HoldsAlways (λ t w. (F : IsFinite t) → Converges t F.routers w)
+abbrev pub ProcessesAlwaysConverge : Type 0
+ProcessesAlwaysConverge = HoldsAlways (λ t w. (F : IsFinite t) → ProcessesConverge t F.routers w)
 
 -- something may happen after which ends agree and nothing was lost of a session that a link is up in, though a message of another was lost;
 -- but something still happens, without a loss, until nothing is left
@@ -98,15 +98,15 @@ pub record SomeConverges : Type 0 where
   pub few : finite.routers ≤ most_routers
   pub first : Processes
   pub happenings : List Happening
-  pub begins : Begins first
+  pub begins : IsOpening first
   pub can : AllCanHappen topology first happenings
-  pub agree : EndsAgree topology (after topology first happenings)
-  pub nothing_lost : NothingLost topology (after topology first happenings)
+  pub agree : EndsAgree topology (after_happenings topology first happenings)
+  pub nothing_lost : NothingLost topology (after_happenings topology first happenings)
   pub end : LinkEnd
   pub session : ℕ
-  pub was_lost : (after topology first happenings).lost end session ≡ true
+  pub was_lost : (after_happenings topology first happenings).lost end session ≡ true
   pub onward : List Happening
   pub some : 0 < length onward
-  pub alone : AllAlone topology finite.routers (after topology first happenings) onward
+  pub alone : AllAlone topology finite.routers (after_happenings topology first happenings) onward
   pub loses_none : LosesNone onward
-  pub left : NothingLeft finite.routers (after topology (after topology first happenings) onward)
+  pub left : NothingLeft finite.routers (after_happenings topology (after_happenings topology first happenings) onward)

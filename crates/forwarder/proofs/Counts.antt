@@ -8,7 +8,7 @@ use Rattle.publication.specs.declared.job.Job.{Job}
 use Rattle.forwarder.specs.Replies.{Replied}
 use Rattle.forwarder.specs.declared.gathering.GatherFault.{GatherFault}
 use Rattle.forwarder.specs.declared.gathering.GatherFault.TheVariants.{Stranger, Doubled}
-use Rattle.forwarder.specs.Gathering.{is_reply_to, job_number, fault_at, first_of, fault_in}
+use Rattle.forwarder.specs.Gathering.{is_reply_to, job_number, fault_at, earlier_fault, fault_in}
 
 abbrev bit : Bool → ℕ
 bit b = cond b 1 0
@@ -29,7 +29,7 @@ le_case : (a b : Bool) → (a ≡ true → b ≡ true) → cond a 1 0 ≤ cond b
 le_case true b f = rw (f refl) (omega arith)
 le_case false b f = omega arith
 
-both_none : (a b : Option GatherFault) → first_of a b ≡ None → (a ≡ None) × (b ≡ None)
+both_none : (a b : Option GatherFault) → earlier_fault a b ≡ None → (a ≡ None) × (b ≡ None)
 both_none (Some x) b e = absurd (cc)
 both_none None b e = (refl, e)
 

@@ -8,9 +8,9 @@ use Rattle.forwarder.specs.declared.gathering.GatherFault.TheVariants.{Stranger,
 use Rattle.faults.specs.declared.kind.FaultKind.{FaultKind}
 
 -- the first of two faults
-abbrev pub first_of : Option GatherFault → Option GatherFault → Option GatherFault
-first_of (Some e) later = Some e
-first_of None later = later
+abbrev pub earlier_fault : Option GatherFault → Option GatherFault → Option GatherFault
+earlier_fault (Some e) later = Some e
+earlier_fault None later = later
 
 module _ {X : Type 0} where
   -- a reply is to the job whose number, router and address it keeps
@@ -30,11 +30,11 @@ module _ {X : Type 0} where
   -- the first fault of replies that come after these
   abbrev pub fault_in : List (Job X) → List (Replied X) → List (Replied X) → Option GatherFault
   fault_in jobs earlier [] = None
-  fault_in jobs earlier (r ∷ rs) = first_of (fault_at jobs earlier r) (fault_in jobs (earlier ++ r ∷ []) rs)
+  fault_in jobs earlier (r ∷ rs) = earlier_fault (fault_at jobs earlier r) (fault_in jobs (earlier ++ r ∷ []) rs)
 
   -- what is wrong with replies to jobs: each in turn may be a stranger's or a second one; a job without a reply comes last
   abbrev pub fault_of : List (Job X) → List (Replied X) → Option GatherFault
-  fault_of jobs replies = first_of (fault_in jobs [] replies) (if list_all (λ j. list_any (is_reply_to j) replies) jobs then None else Some Missing)
+  fault_of jobs replies = earlier_fault (fault_in jobs [] replies) (if list_all (λ j. list_any (is_reply_to j) replies) jobs then None else Some Missing)
 
 -- as which number and name a fault is printed
 abbrev pub gather_kind : GatherFault → FaultKind

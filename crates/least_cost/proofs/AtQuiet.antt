@@ -6,7 +6,7 @@ use Rattle.network_model.specs.Network.{most_routers}
 use Rattle.machine_laws.specs.Laws.{is_up_at, reported_at}
 use Rattle.loop_freedom.specs.Network.{Topology, IsEdgeWalk, next_hop_of}
 use Rattle.loop_freedom.proofs.Walks.{walk_map}
-use Rattle.least_cost.specs.Quiet.{LeadsHome, Follows, IsQuiet, IsHome, IsRouted, IsCutOff, IsOptimal, OptimalAtQuiet, walk_end, edges_cost}
+use Rattle.least_cost.specs.Quiet.{LeadsHome, Follows, IsQuiet, IsHome, IsRouted, HasNoWayOut, IsOptimal, OptimalAtQuiet, walk_end, edges_cost}
 use Rattle.machine_laws.proofs.Distances.{distance_cases, least_below}
 use Rattle.machine_laws.proofs.Successors.{port_successor_is, port_successor_none, port_successor_home}
 use Rattle.machine_laws.proofs.Lists.{append_within, append_last}
@@ -327,7 +327,7 @@ module _ (t : Topology) (n : ℕ) (s : State) (k : Kept t s) (q : IsQuiet t n s)
           by_home (s.machine i).attachment refl ((k.sound i).successor_attached (h ∙ ap (λ (x : ℕ). Some x) last))
 
   -- a router that is out of reach is cut off
-  cut_off : (i : ℕ) → i < n → infinity ≤ rd i → IsCutOff s i
+  cut_off : (i : ℕ) → i < n → infinity ≤ rd i → HasNoWayOut s i
   unfolding rd
   cut_off i l f = record { no_successor = none; no_next_hop = q.published_is i l ∙ ap (next_hop_of (λ x. s.seen (at_port i x))) (port_successor_none (s.machine i) none); far_away = omega (arith, f, (k.sound i).rd_bounded) }
     where
@@ -346,7 +346,7 @@ module _ (t : Topology) (n : ℕ) (s : State) (k : Kept t s) (q : IsQuiet t n s)
   pub optimal_here : (i : ℕ) → i < n → IsOptimal t n s i
   optimal_here i l = record { connected = λ es w. routed i l (reached i l es w); disconnected = λ none. go none (cases_lt (rd i) infinity) }
     where
-      go : ((es : List LinkEnd) → LeadsHome t s i es → ⊥) → (rd i < infinity) ⊎ (infinity ≤ rd i) → IsCutOff s i
+      go : ((es : List LinkEnd) → LeadsHome t s i es → ⊥) → (rd i < infinity) ⊎ (infinity ≤ rd i) → HasNoWayOut s i
       go none (inl f) = absurd (none (chain i l f).places (leads i (chain i l f)))
       go none (inr f) = cut_off i l f
 

@@ -2,7 +2,7 @@
 use Rattle.std.proofs.Common.{◌≡◌, ℕ, ◌<◌, ◌≤◌, Bool, true, false, List, [], ◌∷◌, ◌++◌, Option, Some, None, length, refl, sym, arith, ◌∙◌, slice_get}
 use Rattle.network_model.proofs.Common.{both_ways, Machine, records_after, infinity, slice_get-changed_at, slice_get-changed_at_other, element_there, SeenItem, UpNotice, DownNotice, CostNotice, Reported}
 use Rattle.network_model.specs.declared.machine.Neighbour.{Neighbour}
-use Rattle.machine_laws.specs.Laws.{test_at, reported_of, Meets}
+use Rattle.machine_laws.specs.Laws.{test_at, reported_by, Meets}
 use Rattle.loop_freedom.specs.Network.{event_of, seen_after, notices}
 
 -- what a machine keeps of a port, with the session seen there
@@ -109,7 +109,7 @@ cost_of (Some n) = n.cost
 
 -- port q of a machine's records, with the session seen there
 abbrev pub port_in : List Neighbour → ℕ → ℕ → Port
-port_in ns q seen = record { up = test_at (λ n. n.up) (slice_get ns q); session = seen; cost = cost_of (slice_get ns q); reported = reported_of (slice_get ns q) }
+port_in ns q seen = record { up = test_at (λ n. n.up) (slice_get ns q); session = seen; cost = cost_of (slice_get ns q); reported = reported_by (slice_get ns q) }
 
 -- the port at which an item is taken is as the item leaves it, where there is a neighbour
 port_taken_at : (ns : List Neighbour) (q seen : ℕ) (x : SeenItem) (n : Neighbour) → slice_get ns q ≡ Some n → port_in (records_after (event_of q x) ns) q (seen_after x seen) ≡ port_after x (port_in ns q seen)

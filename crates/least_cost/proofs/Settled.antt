@@ -1,7 +1,7 @@
 -- Where nothing is on a link or held, every machine is passive: who is awaited owes a reply, and has a greater feasible distance.
 use Rattle.std.proofs.Common.{◌≡◌, ℕ, zero, suc, ◌+◌, ◌<◌, ◌≤◌, Bool, true, false, ◌==◌, [], Option, Some, None, is_some, refl, sym, subst, arith, ◌∙◌, eq-eqb}
 use Rattle.network_model.proofs.Common.{and_from, and_parts, false≢true, false_from_ne_true, infinity, is_port, Computation, Machine, LinkEnd, State, at_port, one_if}
-use Rattle.machine_laws.specs.Laws.{IsSound, is_active, is_up_at, awaits, owes, owes_of}
+use Rattle.machine_laws.specs.Laws.{IsSound, is_active, is_up_at, awaits, owes_port, owes_of}
 use Rattle.machine_laws.proofs.MachineLaws.{machine_laws}
 use Rattle.loop_freedom.specs.Network.{Topology}
 use Rattle.loop_freedom.specs.Facts.{End, pipe, is_current, end_at}
@@ -78,8 +78,8 @@ module _ (t : Topology) (s : State) (I : Invariant t s) (k : Kept t s) (rest : N
       waits_here : (end_at t s e).awaits ≡ true
       waits_here = and_from (is_current (s.machine e.router) e.port (s.seen e) (s.session e)) (awaits (s.machine e.router) e.port) current waits
 
-      debt : (is_current (s.machine f.router) f.port (s.seen f) (s.session f) ≡ true) × (owes (s.machine f.router) f.port ≡ true)
-      debt = and_parts (is_current (s.machine f.router) f.port (s.seen f) (s.session f)) (owes (s.machine f.router) f.port)
+      debt : (is_current (s.machine f.router) f.port (s.seen f) (s.session f) ≡ true) × (owes_port (s.machine f.router) f.port ≡ true)
+      debt = and_parts (is_current (s.machine f.router) f.port (s.seen f) (s.session f)) (owes_port (s.machine f.router) f.port)
           (owed (end_at t s e) (end_at t s f) (I.answers e v up) (silent e v) (silent f (t.far_valid e v)) waits_here)
 
       chosen : (end_at t s f).chosen ≡ true

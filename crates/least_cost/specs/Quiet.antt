@@ -54,7 +54,7 @@ pub record IsRouted (t : Topology) (n : ℕ) (s : State) (i : ℕ) : Type 0 wher
   pub least_cost : (es : List LinkEnd) (w : LeadsHome t s i es) → (s.machine i).rd ≤ edges_cost s es + w.cost
 
 -- router i has no successor, sends no traffic on, and is at distance infinity
-pub record IsCutOff (s : State) (i : ℕ) : Type 0 where
+pub record HasNoWayOut (s : State) (i : ℕ) : Type 0 where
   pub no_successor : (s.machine i).successor ≡ None
   pub no_next_hop : s.published i ≡ None
   pub far_away : (s.machine i).rd ≡ infinity
@@ -62,7 +62,7 @@ pub record IsCutOff (s : State) (i : ℕ) : Type 0 where
 -- router i is routed where a walk leads to an attached router, and cut off where none does
 pub record IsOptimal (t : Topology) (n : ℕ) (s : State) (i : ℕ) : Type 0 where
   pub connected : (es : List LinkEnd) → LeadsHome t s i es → IsRouted t n s i
-  pub disconnected : ((es : List LinkEnd) → LeadsHome t s i es → ⊥) → IsCutOff s i
+  pub disconnected : ((es : List LinkEnd) → LeadsHome t s i es → ⊥) → HasNoWayOut s i
 
 -- in a quiet network of as many routers as a network may have, whose costs are costs, every router is routed or cut off
 abbrev pub QuietIsOptimal : Topology → State → Type 0

@@ -86,4 +86,5 @@ pub use report::{print_report, print_state};
 pub use states::{LinkLine, MachineLine, RouterLine, State};
 pub use table::show_table;
 pub use text::Text;
+pub use values::kind_words;
 pub use waiting::Waiting;

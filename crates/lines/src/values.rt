@@ -9,8 +9,8 @@ use network_model::Entry;
 use script::Directory;
 use std::fmt;
 
-// The word for what a message is.
-pub(crate) fn kind_words(kind: Kind) -> &'static str
+/// The word for what a message is.
+pub fn kind_words(kind: Kind) -> &'static str
     ensures { result.now ≡ kind_text kind }
 {
     match kind {

@@ -12,8 +12,8 @@ abbrev pub new_image : List (Prefix × Marked) → WordTable
 new_image rows = record { generation = 0; rows = with_marked rows [] }
 
 -- an image with rows set over its own, in order, and another generation
-abbrev pub patched : ℕ → List (Prefix × Marked) → WordTable → WordTable
-patched generation rows image = record { generation = generation; rows = with_marked rows image.rows }
+abbrev pub patched_table : ℕ → List (Prefix × Marked) → WordTable → WordTable
+patched_table generation rows image = record { generation = generation; rows = with_marked rows image.rows }
 
 -- the rows of a patch
 abbrev pub new_rows : NewRows → List (Prefix × Marked)

@@ -27,13 +27,13 @@ first_block_fault (b ∷ bs) = first_of (block_fault b) (first_block_fault bs)
 -- ---- rows taken out
 
 -- the rows without those of these prefixes
-abbrev pub without_rows : List Block → List (Prefix × Marked) → List (Prefix × Marked)
-without_rows [] rows = rows
-without_rows (b ∷ bs) rows = without_rows bs (without_marked (block_of b) rows)
+abbrev pub without_blocks : List Block → List (Prefix × Marked) → List (Prefix × Marked)
+without_blocks [] rows = rows
+without_blocks (b ∷ bs) rows = without_blocks bs (without_marked (block_of b) rows)
 
 -- the image without the rows of these prefixes, of another generation
 abbrev pub withdrawn : ℕ → List Block → WordTable → WordTable
-withdrawn generation blocks image = record { generation = generation; rows = without_rows blocks image.rows }
+withdrawn generation blocks image = record { generation = generation; rows = without_blocks blocks image.rows }
 
 -- what the call answers that takes rows out, by the fault of the prefixes and by the image, if there is one: it takes no memory
 abbrev pub IsRemoveStatus : Option CallFault → Option WordTable → ℕ → Type 0

@@ -2,10 +2,10 @@
 use Rattle.std.specs.Prelude.{ℕ, ◌-◌, ◌*◌, ◌/◌, ◌^◌, ◌==◌, if◌then◌else◌, List, [], ◌∷◌, length, map, Option, None, Some}
 use Rattle.std.specs.Option.{option_map}
 use Rattle.ipv4_prefix.specs.Prefix.{Prefix}
-use Rattle.array_bitmap.specs.Words.{len_of, kind_of, port_of, session_of}
+use Rattle.array_bitmap.specs.Words.{len_of, kind_of, word_port, session_of}
 use Rattle.network_model.specs.Publication.{Image, image_answer}
 use Rattle.network_model.specs.declared.route.Entry.{Entry}
-use Rattle.row_words.specs.Rows.{WordTable, marked_answer, word_answer}
+use Rattle.row_words.specs.Rows.{WordTable, marked_answer, caller_word}
 use Rattle.c_interface.specs.Faults.{first_of}
 use Rattle.c_interface.specs.Rows.{row_fault, answer_row}
 use Rattle.c_interface.specs.declared.fault.CallFault.{CallFault}
@@ -35,7 +35,7 @@ answer_rows table addrs = map (λ addr. answer_row (entry_answer table addr)) ad
 
 -- the words that it answers
 abbrev pub answer_words : WordTable → List ℕ → List ℕ
-answer_words table addrs = map (word_answer table) addrs
+answer_words table addrs = map (caller_word table) addrs
 
 -- the rows that an image without words answers
 abbrev pub image_rows : Image → List ℕ → List Row
@@ -43,4 +43,4 @@ image_rows image addrs = map (λ addr. answer_row (image_answer image addr)) add
 
 -- the row of an answer word for an address: the parts of the word, and as many of the address's first bits as it says
 abbrev pub word_row : ℕ → ℕ → Row
-word_row addr w = record { addr = addr / 2 ^ (32 - len_of w) * 2 ^ (32 - len_of w); len = len_of w; kind = kind_of w; port = port_of w; session = session_of w }
+word_row addr w = record { addr = addr / 2 ^ (32 - len_of w) * 2 ^ (32 - len_of w); len = len_of w; kind = kind_of w; port = word_port w; session = session_of w }

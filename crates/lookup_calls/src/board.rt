@@ -15,13 +15,13 @@ use std::sync::atomic::{AtomicU64, Ordering};
 pub struct Page {
     image: Shared,
     past: Past,
-    ghost last: { last_image past.images ≡ Some image },
+    ghost last: { last_image past.elements ≡ Some image },
 }
 
 impl Page {
     /// A page of this image, which is the last of these.
     pub fn new(image: Shared, past: Past) -> Page
-        requires { last_image past.images ≡ Some image }
+        requires { last_image past.elements ≡ Some image }
         ensures { (result.image ≡ image) × (result.past ≡ past) }
     {
         Page { image, past }
@@ -152,7 +152,7 @@ pub fn fill_side(
     past: &Past,
 ) -> Result<(), CallFault>
     requires places { All (λ p. p.page.book ≡ past.now.book) places.now }
-    requires last { last_image past.now.images ≡ Some image.now }
+    requires last { last_image past.now.elements ≡ Some image.now }
     ensures { IsOkUnless result CallFault.NoMemory }
 {
     let mut ours = side == 0;

@@ -19,7 +19,7 @@ pub struct Change {
 
 impl Change {
     ghost use Rattle.lookup_calls.specs.Faults.{IsPatchFault};
-    ghost use Rattle.lookup_calls.specs.Histories.{followed};
+    ghost use Rattle.lookup_calls.specs.Histories.{with_missed};
     ghost use Rattle.lookup_calls.specs.Images.{new_rows};
 
     /// The change of these rows and prefixes.
@@ -44,7 +44,7 @@ impl Change {
 
     /// Makes the change in an image that nobody else holds.
     pub fn make(&self, image: &mut Shared) -> Result<(), CallFault>
-        ensures ok { OnOk result (image.new ≡ followed (Some self.now) image.old) }
+        ensures ok { OnOk result (image.new ≡ with_missed (Some self.now) image.old) }
         ensures unchanged { OnErr result (image.new ≡ image.old) }
         ensures err { IfErr result IsPatchFault }
     {

@@ -22,10 +22,10 @@
 //!
 //! What always holds: answers are those of the longest match over the rows that were given, set in order
 //! (`answer_rows` and `answer_words` in `specs/Rows.antt`). A reader never answers by an older image than
-//! before (`GoesOn` in `specs/Histories.antt`). A refused call changes nothing.
+//! before (`GrowsTo` of [`receipts`]). A refused call changes nothing.
 //!
-//! What is tricky: what a reader knows of its writer is a list of images that exists in the proofs alone
-//! (`src/past.rt`), while at run time only its length is there.
+//! What is tricky: what a reader knows of its writer is a receipt for a list of images (`src/past.rt`). The
+//! list exists in the proofs alone, while at run time only its length is there.
 //!
 //! Where there was a choice:
 //!

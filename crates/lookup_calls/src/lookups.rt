@@ -3,7 +3,8 @@
 ghost use Rattle.std.specs.Prelude.{◌≡◌, IfErr, IfSome, OnErr, OnOk, Some, length};
 ghost use Rattle.c_interface.specs.Faults.{fault_number};
 ghost use Rattle.lookup_calls.specs.Faults.{IsLookupStatus};
-ghost use Rattle.lookup_calls.specs.Histories.{GoesOn, last_image};
+ghost use Rattle.receipts.specs.Logs.{GrowsTo};
+ghost use Rattle.lookup_calls.specs.Histories.{last_image};
 ghost use Rattle.lookup_calls.specs.Readers.{IsReadStatus};
 ghost use Rattle.lookup_calls.specs.Rows.{answer_rows, answer_words};
 
@@ -54,10 +55,10 @@ pub fn read(
     answers: &mut [Row],
     generation: &mut u64,
 ) -> Result<(), CallFault>
-    ensures later { GoesOn reader.old reader.new }
+    ensures later { GrowsTo reader.old reader.new }
     ensures ok { OnOk result
         (IsReadStatus (Some reader.old) (length addrs.now) (length answers.old) 0) }
-    ensures answers { OnOk result (IfSome (last_image reader.new.images)
+    ensures answers { OnOk result (IfSome (last_image reader.new.elements)
         (λ i. (answers.new ≡ answer_rows i addrs.now) × (generation.new ≡ i.generation))) }
     ensures unchanged { OnErr result
         ((answers.new ≡ answers.old) × (generation.new ≡ generation.old)) }
@@ -81,10 +82,10 @@ pub fn read_words(
     words: &mut [u32],
     generation: &mut u64,
 ) -> Result<(), CallFault>
-    ensures later { GoesOn reader.old reader.new }
+    ensures later { GrowsTo reader.old reader.new }
     ensures ok { OnOk result
         (IsReadStatus (Some reader.old) (length addrs.now) (length words.old) 0) }
-    ensures words { OnOk result (IfSome (last_image reader.new.images)
+    ensures words { OnOk result (IfSome (last_image reader.new.elements)
         (λ i. (words.new ≡ answer_words i addrs.now) × (generation.new ≡ i.generation))) }
     ensures unchanged { OnErr result
         ((words.new ≡ words.old) × (generation.new ≡ generation.old)) }

@@ -2,7 +2,7 @@
 
 ghost use Rattle.std.specs.Prelude.{◌≡◌, [], ◌∷◌, None, IsOkUnless, OnErr, OnOk};
 ghost use Rattle.c_interface.specs.Rows.{row_fault};
-ghost use Rattle.lookup_calls.specs.Images.{new_rows, patched};
+ghost use Rattle.lookup_calls.specs.Images.{new_rows, patched_table};
 ghost use Rattle.lookup_calls.specs.Tables.{plain_rows};
 
 use crate::kept::Kept;
@@ -29,7 +29,7 @@ impl Patch {
     /// Sets the rows in an image, and its generation. Refused, it changes nothing.
     pub fn apply_to(&self, image: &mut Kept, alloc: Global) -> Result<(), NoMemory>
         ensures ok { OnOk result (image.new
-            ≡ patched self.now.generation (new_rows self.now.rows) image.old) }
+            ≡ patched_table self.now.generation (new_rows self.now.rows) image.old) }
         ensures unchanged { OnErr result (image.new ≡ image.old) }
     {
         match &self.rows {
@@ -50,7 +50,7 @@ pub fn apply_row(
     row: Row,
 ) -> Result<(), CallFault>
     requires { row_fault row ≡ None }
-    ensures ok { OnOk result (image.new ≡ patched generation (plain_rows (row ∷ [])) image.old) }
+    ensures ok { OnOk result (image.new ≡ patched_table generation (plain_rows (row ∷ [])) image.old) }
     ensures unchanged { OnErr result (image.new ≡ image.old) }
     ensures err { IsOkUnless result CallFault.NoMemory }
 {

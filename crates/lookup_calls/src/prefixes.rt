@@ -3,7 +3,7 @@
 ghost use Rattle.std.specs.Prelude.{◌≡◌, ◌≤◌, None, Some, IfOk, IfErr, IsOkUnless, OnOk, length};
 ghost use Rattle.array_bitmap.specs.Cursor.{rows_onward};
 ghost use Rattle.c_interface.specs.Faults.{first_of};
-ghost use Rattle.lookup_calls.specs.Prefixes.{block_of, block_fault, first_block_fault, cursor_fault, cursor_prefix, listed_row, listed_word, without_rows, IsFilledIn};
+ghost use Rattle.lookup_calls.specs.Prefixes.{block_of, block_fault, first_block_fault, cursor_fault, cursor_prefix, listed_row, listed_word, without_blocks, IsFilledIn};
 ghost use Rattle.lookup_calls.specs.Rows.{count_fault};
 
 use crate::kept::Kept;
@@ -100,7 +100,7 @@ pub fn copy_blocks(alloc: Global, blocks: &[Block]) -> Result<Vec<Block>, CallFa
 /// Takes the rows of prefixes out of an image.
 pub fn remove_rows(image: &mut Kept, blocks: &[Block])
     requires { first_block_fault blocks.now ≡ None }
-    ensures { image.new ≡ record image.old { rows = without_rows blocks.now image.old.rows } }
+    ensures { image.new ≡ record image.old { rows = without_blocks blocks.now image.old.rows } }
 {
     for &block in blocks {
         let Ok(prefix) = block.read() else {

@@ -3,7 +3,8 @@
 ghost use Rattle.std.specs.Prelude.{◌≡◌, ◌⊎◌, ◌∷◌, [], IfErr, IfOk, IfSome, None, OnErr, OnOk, Some, length};
 ghost use Rattle.c_interface.specs.Faults.{fault_number};
 ghost use Rattle.lookup_calls.specs.Faults.{IsPatchFault};
-ghost use Rattle.lookup_calls.specs.Histories.{changed, last_image, with_image};
+ghost use Rattle.receipts.specs.Logs.{with_element};
+ghost use Rattle.lookup_calls.specs.Histories.{changed, last_image};
 ghost use Rattle.lookup_calls.specs.Prefixes.{first_block_fault};
 ghost use Rattle.lookup_calls.specs.Readers.{IsOpenStatus};
 ghost use Rattle.lookup_calls.specs.Rows.{first_row_fault};
@@ -25,7 +26,7 @@ const MOST_READERS: usize = 1024;
 /// are more than 1,024.
 pub fn writer_of(alloc: Global, image: &Kept, readers: usize) -> Result<Box<ImageWriter>, CallFault>
     ensures ok { OnOk result (IsOpenStatus (Some image.now) readers 0) }
-    ensures made { IfOk result (λ w. w.value.images ≡ image.now ∷ []) }
+    ensures made { IfOk result (λ w. w.value.elements ≡ image.now ∷ []) }
     ensures err { IfErr result (λ f. IsOpenStatus (Some image.now) readers (fault_number f)) }
 {
     if readers > MOST_READERS {
@@ -52,8 +53,8 @@ pub fn publish_rows(
 ) -> Result<(), CallFault>
     requires rows { first_row_fault rows.now ≡ None }
     requires prefixes { first_block_fault prefixes.now ≡ None }
-    ensures ok { OnOk result (IfSome (last_image writer.old.images) (λ i. writer.new
-        ≡ with_image writer.old (changed generation (plain_rows rows.now) prefixes.now i))) }
+    ensures ok { OnOk result (IfSome (last_image writer.old.elements) (λ i. writer.new
+        ≡ with_element writer.old (changed generation (plain_rows rows.now) prefixes.now i))) }
     ensures unchanged { OnErr result (writer.new ≡ writer.old) }
     ensures err { IfErr result IsPatchFault }
 {
@@ -73,8 +74,8 @@ pub fn publish_words(
     requires rows { first_row_fault rows.now ≡ None }
     requires count { length words.now ≡ length rows.now }
     requires prefixes { first_block_fault prefixes.now ≡ None }
-    ensures ok { OnOk result (IfSome (last_image writer.old.images) (λ i. writer.new
-        ≡ with_image writer.old (changed generation (worded_rows rows.now words.now) prefixes.now i))) }
+    ensures ok { OnOk result (IfSome (last_image writer.old.elements) (λ i. writer.new
+        ≡ with_element writer.old (changed generation (worded_rows rows.now words.now) prefixes.now i))) }
     ensures unchanged { OnErr result (writer.new ≡ writer.old) }
     ensures err { IfErr result IsPatchFault }
 {

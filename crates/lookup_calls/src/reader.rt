@@ -2,7 +2,8 @@
 
 ghost use Rattle.std.specs.Prelude.{◌≡◌, ◌+◌, ◌<◌, ◌≤◌, All, IfErr, IfNone, IfSome, IsTrue, OnOk, false, length};
 ghost use Rattle.std.specs.Arc.{arc_value};
-ghost use Rattle.lookup_calls.specs.Histories.{GoesOn, last_image};
+ghost use Rattle.receipts.specs.Logs.{GrowsTo};
+ghost use Rattle.lookup_calls.specs.Histories.{last_image};
 ghost use Rattle.lookup_calls.specs.Readers.{IsUnlearned};
 ghost use Rattle.lookup_calls.specs.Rows.{answer_rows, answer_words};
 
@@ -35,9 +36,9 @@ struct Seat {
 impl Model for ImageReader {
     ghost use Rattle.std.specs.Prelude.{◌≡◌, ◌+◌, ◌<◌, All, length};
     ghost use Rattle.std.specs.Arc.{arc_value};
-    ghost use Rattle.lookup_calls.specs.Histories.{History};
+    ghost use Rattle.lookup_calls.specs.Histories.{Published};
 
-    ghost Value = { History };
+    ghost Value = { Published };
 
     ghost view = { λ r. r.past };
 
@@ -71,7 +72,7 @@ fn enter<'a>(board: &'a Board, first: usize, past: &Past) -> Option<Claim<'a, Op
 // The page, unless it is of an older image than the reader knows of.
 fn newer<'a>(page: &'a Option<Page>, past: &Past) -> Option<&'a Page>
     requires { IfSome page.now (λ p. p.past.book ≡ past.now.book) }
-    ensures { IfSome result (λ p. GoesOn past.now p.now.past) }
+    ensures { IfSome result (λ p. GrowsTo past.now p.now.past) }
 {
     let Some(page) = page else {
         return None;
@@ -85,7 +86,7 @@ fn newer<'a>(page: &'a Option<Page>, past: &Past) -> Option<&'a Page>
 // What was published by the time of a page, unless the reader knows of more.
 fn past_by(page: &Option<Page>, past: &Past) -> Option<Past>
     requires { IfSome page.now (λ p. p.past.book ≡ past.now.book) }
-    ensures { IfSome result (λ p. GoesOn past.now p) }
+    ensures { IfSome result (λ p. GrowsTo past.now p) }
 {
     let page = newer(page, past)?;
     Some(page.past().again())
@@ -101,8 +102,8 @@ fn answer_by(
 ) -> Option<Past>
     requires book { IfSome page.now (λ p. p.past.book ≡ past.now.book) }
     requires count { length answers.old ≡ length addrs.now }
-    ensures later { IfSome result (λ p. GoesOn past.now p) }
-    ensures answers { IfSome result (λ p. IfSome (last_image p.images)
+    ensures later { IfSome result (λ p. GrowsTo past.now p) }
+    ensures answers { IfSome result (λ p. IfSome (last_image p.elements)
         (λ i. (answers.new ≡ answer_rows i addrs.now) × (generation.new ≡ i.generation))) }
     ensures nothing { IfNone result
         ((answers.new ≡ answers.old) × (generation.new ≡ generation.old)) }
@@ -124,8 +125,8 @@ fn words_by(
 ) -> Option<Past>
     requires book { IfSome page.now (λ p. p.past.book ≡ past.now.book) }
     requires count { length words.old ≡ length addrs.now }
-    ensures later { IfSome result (λ p. GoesOn past.now p) }
-    ensures words { IfSome result (λ p. IfSome (last_image p.images)
+    ensures later { IfSome result (λ p. GrowsTo past.now p) }
+    ensures words { IfSome result (λ p. IfSome (last_image p.elements)
         (λ i. (words.new ≡ answer_words i addrs.now) × (generation.new ≡ i.generation))) }
     ensures nothing { IfNone result ((words.new ≡ words.old) × (generation.new ≡ generation.old)) }
 {
@@ -150,8 +151,8 @@ impl ImageReader {
     /// answers by none that is older than the last of these. It is refused with `BadCount` if fewer were
     /// published, and with `Shared` if the writer published `TRIES` times meanwhile. It takes no memory.
     pub fn learn(&mut self, published: u64) -> Result<(), CallFault>
-        ensures later { GoesOn self.old self.new }
-        ensures ok { OnOk result (published ≤ length self.new.images) }
+        ensures later { GrowsTo self.old self.new }
+        ensures ok { OnOk result (published ≤ length self.new.elements) }
         ensures err { IfErr result (IsUnlearned published self.new) }
     {
         if published <= self.past.count() {
@@ -177,8 +178,8 @@ impl ImageReader {
     /// if it found none in `TRIES`, because the writer published that often meanwhile.
     pub fn lookup(&mut self, addrs: &[u32], answers: &mut [Row], generation: &mut u64) -> bool
         requires count { length answers.old ≡ length addrs.now }
-        ensures later { GoesOn self.old self.new }
-        ensures answers { IsTrue result → IfSome (last_image self.new.images)
+        ensures later { GrowsTo self.old self.new }
+        ensures answers { IsTrue result → IfSome (last_image self.new.elements)
             (λ i. (answers.new ≡ answer_rows i addrs.now) × (generation.new ≡ i.generation)) }
         ensures nothing { result ≡ false
             → (answers.new ≡ answers.old) × (generation.new ≡ generation.old) }
@@ -200,8 +201,8 @@ impl ImageReader {
     /// As `lookup`, with the words of the answers.
     pub fn lookup_words(&mut self, addrs: &[u32], words: &mut [u32], generation: &mut u64) -> bool
         requires count { length words.old ≡ length addrs.now }
-        ensures later { GoesOn self.old self.new }
-        ensures words { IsTrue result → IfSome (last_image self.new.images)
+        ensures later { GrowsTo self.old self.new }
+        ensures words { IsTrue result → IfSome (last_image self.new.elements)
             (λ i. (words.new ≡ answer_words i addrs.now) × (generation.new ≡ i.generation)) }
         ensures nothing { result ≡ false
             → (words.new ≡ words.old) × (generation.new ≡ generation.old) }

@@ -28,7 +28,7 @@ impl Model for Shared {
 
 impl Shared {
     ghost use Rattle.lookup_calls.specs.Faults.{IsPatchFault};
-    ghost use Rattle.lookup_calls.specs.Images.{new_rows, patched};
+    ghost use Rattle.lookup_calls.specs.Images.{new_rows, patched_table};
     ghost use Rattle.lookup_calls.specs.Rows.{first_row_fault};
     ghost use Rattle.lookup_calls.specs.Prefixes.{first_block_fault, withdrawn};
     ghost use Rattle.lookup_calls.specs.Tables.{plain_rows, worded_rows};
@@ -76,7 +76,7 @@ impl Shared {
     /// Sets rows over those of the image, in order, and its generation, where nobody else holds it.
     pub fn apply(&mut self, alloc: Global, generation: u64, rows: &[Row]) -> Result<(), CallFault>
         requires { first_row_fault rows.now ≡ None }
-        ensures ok { OnOk result (self.new ≡ patched generation (plain_rows rows.now) self.old) }
+        ensures ok { OnOk result (self.new ≡ patched_table generation (plain_rows rows.now) self.old) }
         ensures unchanged { OnErr result (self.new ≡ self.old) }
         ensures err { IfErr result IsPatchFault }
     {
@@ -104,7 +104,7 @@ impl Shared {
         requires rows { first_row_fault rows.now ≡ None }
         requires count { length words.now ≡ length rows.now }
         ensures ok { OnOk result (self.new
-            ≡ patched generation (worded_rows rows.now words.now) self.old) }
+            ≡ patched_table generation (worded_rows rows.now words.now) self.old) }
         ensures unchanged { OnErr result (self.new ≡ self.old) }
         ensures err { IfErr result IsPatchFault }
     {
@@ -126,7 +126,7 @@ impl Shared {
     ) -> Result<(), CallFault>
         requires { first_block_fault blocks.now ≡ None }
         ensures ok { OnOk result (self.new ≡ withdrawn patch.now.generation blocks.now
-            (patched patch.now.generation (new_rows patch.now.rows) self.old)) }
+            (patched_table patch.now.generation (new_rows patch.now.rows) self.old)) }
         ensures unchanged { OnErr result (self.new ≡ self.old) }
         ensures err { IfErr result IsPatchFault }
     {

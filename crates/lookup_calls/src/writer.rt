@@ -2,7 +2,8 @@
 
 ghost use Rattle.std.specs.Prelude.{◌≡◌, ◌⊎◌, ◌<◌, ◌≤◌, ◌∷◌, [], All, IfErr, IfOk, IfSome, IsOkUnless, MatchResult, OnErr, OnOk, Some, length};
 ghost use Rattle.lookup_calls.specs.Faults.{IsPatchFault};
-ghost use Rattle.lookup_calls.specs.Histories.{followed, head_of, last_image, with_image};
+ghost use Rattle.receipts.specs.Logs.{head_of, with_element};
+ghost use Rattle.lookup_calls.specs.Histories.{with_missed, last_image};
 
 use crate::board::{Board, clear_side, fill_side, make_places};
 use crate::change::Change;
@@ -12,6 +13,7 @@ use crate::reader::ImageReader;
 use crate::shared::Shared;
 use c_interface::CallFault;
 use core::mem::replace_with;
+use receipts::Receipt;
 use std::alloc::Global;
 use std::marker::Model;
 use std::sync::Arc;
@@ -35,17 +37,18 @@ pub struct ImageWriter {
 impl Model for ImageWriter {
     ghost use Rattle.std.specs.Prelude.{◌≡◌, ◌<◌, All, IfSome, Some};
     ghost use Rattle.std.specs.Arc.{arc_value};
-    ghost use Rattle.lookup_calls.specs.Histories.{History, followed, head_of, last_image};
+    ghost use Rattle.receipts.specs.Logs.{head_of};
+    ghost use Rattle.lookup_calls.specs.Histories.{Published, with_missed, last_image};
 
-    ghost Value = { History };
+    ghost Value = { Published };
 
     ghost view = { λ w. w.past };
 
     ghost invariant = { λ w. (w.head ≡ head_of w.past.book)
         × All (λ p. p.page.book ≡ w.past.book) (arc_value w.board).places.items
-        × (last_image w.past.images ≡ Some w.shown)
+        × (last_image w.past.elements ≡ Some w.shown)
         × (w.side < 2)
-        × IfSome w.hidden (λ h. followed w.missed h ≡ w.shown) };
+        × IfSome w.hidden (λ h. with_missed w.missed h ≡ w.shown) };
 }
 
 // Has an image follow, and then changes it. Refused, it may be wanting nothing.
@@ -55,8 +58,8 @@ fn follow(
     change: &Change,
 ) -> Result<(), (CallFault, Option<Change>)>
     ensures { MatchResult result
-        (λ _. image.new ≡ followed (Some change.now) (followed missed image.old))
-        (λ e. IsPatchFault e.0 × (followed e.1 image.new ≡ followed missed image.old)) }
+        (λ _. image.new ≡ with_missed (Some change.now) (with_missed missed image.old))
+        (λ e. IsPatchFault e.0 × (with_missed e.1 image.new ≡ with_missed missed image.old)) }
 {
     if let Some(last) = &missed
         && let Err(fault) = last.make(image)
@@ -75,7 +78,7 @@ fn show(board: &Board, side: usize, head: &Head, past: &Past, image: &Shared) ->
     requires side { side < 2 }
     requires head { head.now ≡ head_of past.now.book }
     requires places { All (λ p. p.page.book ≡ past.now.book) board.now.places.items }
-    ensures { IfSome result (λ p. p ≡ with_image past.now image.now) }
+    ensures { IfSome result (λ p. p ≡ with_element past.now image.now) }
 {
     let more = past.add(head, image)?;
     if fill_side(&board.places, side, image, &more).is_err() {
@@ -89,8 +92,8 @@ fn show(board: &Board, side: usize, head: &Head, past: &Past, image: &Shared) ->
 #[tactic(auto, using(crate::proofs::Beginnings::last_more))]
 fn turn(writer: ImageWriter, change: Change) -> (ImageWriter, Result<(), CallFault>)
     ensures { MatchResult result.1
-        (λ _. IfSome (last_image writer.images)
-        (λ i. result.0 ≡ with_image writer (followed (Some change) i)))
+        (λ _. IfSome (last_image writer.elements)
+        (λ i. result.0 ≡ with_element writer (with_missed (Some change) i)))
         (λ f. IsPatchFault f × (result.0 ≡ writer)) }
 {
     let ImageWriter {
@@ -167,10 +170,10 @@ impl ImageWriter {
     #[tactic(auto, using(crate::proofs::Beginnings::last_more))]
     pub fn new(alloc: Global, image: &Kept, readers: usize) -> Result<ImageWriter, CallFault>
         requires { readers ≤ 1024 }
-        ensures ok { IfOk result (λ w. w.images ≡ image.now ∷ []) }
+        ensures ok { IfOk result (λ w. w.elements ≡ image.now ∷ []) }
         ensures err { IsOkUnless result CallFault.NoMemory }
     {
-        let (head, none) = Past::open();
+        let (head, none): (Head, Past) = Receipt::open();
         let shown = Shared::new(alloc, image.copy(alloc)?)?;
         let hidden = Shared::new(alloc, image.copy(alloc)?)?;
         let places = make_places(alloc, readers, &none)?;
@@ -198,8 +201,8 @@ impl ImageWriter {
     /// Makes the change, and has readers take the image from now on. Refused, it publishes nothing: while
     /// a reader is still in a look-up that began before the publication before, or for want of memory.
     pub(crate) fn publish(&mut self, change: Change) -> Result<(), CallFault>
-        ensures ok { OnOk result (IfSome (last_image self.old.images)
-            (λ i. self.new ≡ with_image self.old (followed (Some change) i))) }
+        ensures ok { OnOk result (IfSome (last_image self.old.elements)
+            (λ i. self.new ≡ with_element self.old (with_missed (Some change) i))) }
         ensures unchanged { OnErr result (self.new ≡ self.old) }
         ensures err { IfErr result IsPatchFault }
     {
@@ -208,7 +211,7 @@ impl ImageWriter {
 
     /// How many images it has published, the first that it was made of.
     pub fn published(&self) -> u64
-        ensures { result ≡ length self.now.images }
+        ensures { result ≡ length self.now.elements }
     {
         self.past.count()
     }

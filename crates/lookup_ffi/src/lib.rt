@@ -39,7 +39,7 @@
 ghost use Rattle.std.specs.Prelude.{◌≡◌, ◌≢◌, ◌<◌, None, Some, OnOk, OnErr, IfOk, IfErr, IfSome, IfNone, length};
 ghost use Rattle.std.specs.Option.{option_map};
 ghost use Rattle.lookup_ffi.specs.Handles.{handle_image};
-ghost use Rattle.lookup_calls.specs.Images.{new_image, patched};
+ghost use Rattle.lookup_calls.specs.Images.{new_image, patched_table};
 ghost use Rattle.c_interface.specs.Faults.{fault_number, IsStatusBy};
 ghost use Rattle.lookup_calls.specs.Faults.{IsApplyStatus, IsGiveStatus, IsLookupStatus};
 ghost use Rattle.lookup_calls.specs.Rows.{answer_rows, first_row_fault};
@@ -94,7 +94,7 @@ fn apply(
 ) -> Result<(), CallFault>
     ensures ok { OnOk result (IsApplyStatus (first_row_fault rows.now) (handle_image image.old) 0) }
     ensures patched { OnOk result (handle_image image.new
-        ≡ option_map (patched generation (plain_rows rows.now)) (handle_image image.old)) }
+        ≡ option_map (patched_table generation (plain_rows rows.now)) (handle_image image.old)) }
     ensures unchanged { OnErr result (handle_image image.new ≡ handle_image image.old) }
     ensures err { IfErr result (λ f.
         IsApplyStatus (first_row_fault rows.now) (handle_image image.old) (fault_number f)) }
@@ -120,7 +120,7 @@ pub extern "C" fn tuhvondi_image_apply(
 ) -> u32
     ensures status { IsApplyStatus (first_row_fault rows.now) (handle_image image.old) result }
     ensures done { result ≡ 0 → handle_image image.new
-        ≡ option_map (patched generation (plain_rows rows.now)) (handle_image image.old) }
+        ≡ option_map (patched_table generation (plain_rows rows.now)) (handle_image image.old) }
     ensures refused { result ≢ 0 → handle_image image.new ≡ handle_image image.old }
 {
     status(apply(alloc, image, generation, rows))

@@ -2,7 +2,8 @@
 
 ghost use Rattle.std.specs.Prelude.{◌≡◌, ◌≢◌, ◌∷◌, [], IfErr, IfSome, IsSome, None, OnErr, OnOk, Some, is_some, length};
 ghost use Rattle.c_interface.specs.Faults.{first_of, fault_number};
-ghost use Rattle.lookup_calls.specs.Histories.{GoesOn, changed, last_image, with_image};
+ghost use Rattle.receipts.specs.Logs.{GrowsTo, with_element};
+ghost use Rattle.lookup_calls.specs.Histories.{changed, last_image};
 ghost use Rattle.lookup_calls.specs.Prefixes.{first_block_fault};
 ghost use Rattle.lookup_calls.specs.Readers.{IsCountStatus, IsLearnStatus, IsOpenStatus, IsPublishStatus, IsReadStatus, IsSeatStatus};
 ghost use Rattle.lookup_calls.specs.Rows.{answer_rows, first_row_fault};
@@ -27,7 +28,7 @@ fn open(
     ensures ok { OnOk result (IsOpenStatus (handle_image image.old) readers 0) }
     ensures held { OnOk result (IsSome (handle_writer writer.new)) }
     ensures made { OnOk result (IfSome (handle_image image.old)
-        (λ i. IfSome (handle_writer writer.new) (λ h. h.images ≡ i ∷ []))) }
+        (λ i. IfSome (handle_writer writer.new) (λ h. h.elements ≡ i ∷ []))) }
     ensures unchanged { OnErr result (handle_writer writer.new ≡ handle_writer writer.old) }
     ensures err { IfErr result
         (λ f. IsOpenStatus (handle_image image.old) readers (fault_number f)) }
@@ -53,7 +54,7 @@ pub extern "C" fn tuhvondi_writer_new(
     ensures status { IsOpenStatus (handle_image image.old) readers result }
     ensures held { result ≡ 0 → IsSome (handle_writer writer.new) }
     ensures done { result ≡ 0 → IfSome (handle_image image.old)
-        (λ i. IfSome (handle_writer writer.new) (λ h. h.images ≡ i ∷ [])) }
+        (λ i. IfSome (handle_writer writer.new) (λ h. h.elements ≡ i ∷ [])) }
     ensures refused { result ≢ 0 → handle_writer writer.new ≡ handle_writer writer.old }
     ensures image { handle_image image.new ≡ handle_image image.old }
 {
@@ -71,8 +72,8 @@ fn publish(
     ensures ok { OnOk result (IsPublishStatus (first_of (first_row_fault rows.now)
         (first_block_fault prefixes.now)) (handle_writer writer.old) 0) }
     ensures published { OnOk result (IfSome (handle_writer writer.old)
-        (λ h. IfSome (last_image h.images) (λ i. handle_writer writer.new
-        ≡ Some (with_image h (changed generation (plain_rows rows.now) prefixes.now i))))) }
+        (λ h. IfSome (last_image h.elements) (λ i. handle_writer writer.new
+        ≡ Some (with_element h (changed generation (plain_rows rows.now) prefixes.now i))))) }
     ensures unchanged { OnErr result (handle_writer writer.new ≡ handle_writer writer.old) }
     ensures err { IfErr result (λ f. IsPublishStatus (first_of (first_row_fault rows.now)
         (first_block_fault prefixes.now)) (handle_writer writer.old) (fault_number f)) }
@@ -102,8 +103,8 @@ pub extern "C" fn tuhvondi_writer_publish(
     ensures status { IsPublishStatus (first_of (first_row_fault rows.now)
         (first_block_fault prefixes.now)) (handle_writer writer.old) result }
     ensures done { result ≡ 0 → IfSome (handle_writer writer.old)
-        (λ h. IfSome (last_image h.images) (λ i. handle_writer writer.new
-        ≡ Some (with_image h (changed generation (plain_rows rows.now) prefixes.now i)))) }
+        (λ h. IfSome (last_image h.elements) (λ i. handle_writer writer.new
+        ≡ Some (with_element h (changed generation (plain_rows rows.now) prefixes.now i)))) }
     ensures refused { result ≢ 0 → handle_writer writer.new ≡ handle_writer writer.old }
 {
     status(publish(alloc, writer, generation, rows, prefixes))
@@ -118,7 +119,7 @@ pub extern "C" fn tuhvondi_writer_published(
     published: &mut u64,
 ) -> u32
     ensures status { IsCountStatus (handle_writer writer.old) result }
-    ensures done { IfSome (handle_writer writer.old) (λ h. published.new ≡ length h.images) }
+    ensures done { IfSome (handle_writer writer.old) (λ h. published.new ≡ length h.elements) }
     ensures refused { result ≢ 0 → published.new ≡ published.old }
     ensures writer { handle_writer writer.new ≡ handle_writer writer.old }
 {
@@ -183,9 +184,9 @@ pub extern "C" fn tuhvondi_reader_lookup(
         (handle_reader reader.old) (length addrs.now) (length answers.old) result }
     ensures kept { is_some (handle_reader reader.new) ≡ is_some (handle_reader reader.old) }
     ensures later { IfSome (handle_reader reader.old)
-        (λ h. IfSome (handle_reader reader.new) (λ k. GoesOn h k)) }
+        (λ h. IfSome (handle_reader reader.new) (λ k. GrowsTo h k)) }
     ensures done { result ≡ 0 → IfSome (handle_reader reader.new)
-        (λ h. IfSome (last_image h.images)
+        (λ h. IfSome (last_image h.elements)
         (λ i. (answers.new ≡ answer_rows i addrs.now) × (generation.new ≡ i.generation))) }
     ensures refused { result ≢ 0
         → (answers.new ≡ answers.old) × (generation.new ≡ generation.old) }
@@ -210,7 +211,7 @@ pub extern "C" fn tuhvondi_reader_learn(
     ensures status { IsLearnStatus published (handle_reader reader.new) result }
     ensures kept { is_some (handle_reader reader.new) ≡ is_some (handle_reader reader.old) }
     ensures later { IfSome (handle_reader reader.old)
-        (λ h. IfSome (handle_reader reader.new) (λ k. GoesOn h k)) }
+        (λ h. IfSome (handle_reader reader.new) (λ k. GrowsTo h k)) }
 {
     let Some(mut held) = reader.take(alloc) else {
         return CallFault::Empty.number();

@@ -7,8 +7,9 @@ ghost use Rattle.std.specs.Prelude.{◌≡◌, ◌≢◌, None, Some, OnOk, OnEr
 ghost use Rattle.std.specs.Option.{option_map};
 ghost use Rattle.c_interface.specs.Faults.{IsStatusBy, first_of, fault_number};
 ghost use Rattle.lookup_calls.specs.Faults.{IsApplyStatus, IsLookupStatus};
-ghost use Rattle.lookup_calls.specs.Histories.{GoesOn, changed, last_image, with_image};
-ghost use Rattle.lookup_calls.specs.Images.{new_image, patched};
+ghost use Rattle.receipts.specs.Logs.{GrowsTo, with_element};
+ghost use Rattle.lookup_calls.specs.Histories.{changed, last_image};
+ghost use Rattle.lookup_calls.specs.Images.{new_image, patched_table};
 ghost use Rattle.lookup_calls.specs.Prefixes.{cursor_fault, cursor_prefix, first_block_fault, listed_row, listed_word, rows_status, IsFilledIn};
 ghost use Rattle.lookup_calls.specs.Readers.{IsPublishStatus, IsReadStatus};
 ghost use Rattle.lookup_calls.specs.Rows.{answer_words, count_fault, words_fault};
@@ -71,7 +72,7 @@ fn apply(
     ensures ok { OnOk result
         (IsApplyStatus (words_fault rows.now words.now) (handle_image image.old) 0) }
     ensures patched { OnOk result (handle_image image.new
-        ≡ option_map (patched generation (worded_rows rows.now words.now)) (handle_image image.old)) }
+        ≡ option_map (patched_table generation (worded_rows rows.now words.now)) (handle_image image.old)) }
     ensures unchanged { OnErr result (handle_image image.new ≡ handle_image image.old) }
     ensures err { IfErr result (λ f.
         IsApplyStatus (words_fault rows.now words.now) (handle_image image.old) (fault_number f)) }
@@ -97,7 +98,7 @@ pub extern "C" fn tuhvondi_image_apply_words(
 ) -> u32
     ensures status { IsApplyStatus (words_fault rows.now words.now) (handle_image image.old) result }
     ensures done { result ≡ 0 → handle_image image.new
-        ≡ option_map (patched generation (worded_rows rows.now words.now)) (handle_image image.old) }
+        ≡ option_map (patched_table generation (worded_rows rows.now words.now)) (handle_image image.old) }
     ensures refused { result ≢ 0 → handle_image image.new ≡ handle_image image.old }
 {
     status(apply(alloc, image, generation, rows, words))
@@ -199,7 +200,7 @@ fn publish(
     ensures ok { OnOk result (IsPublishStatus (first_of (words_fault rows.now words.now)
         (first_block_fault prefixes.now)) (handle_writer writer.old) 0) }
     ensures published { OnOk result (IfSome (handle_writer writer.old)
-        (λ h. IfSome (last_image h.images) (λ i. handle_writer writer.new ≡ Some (with_image h
+        (λ h. IfSome (last_image h.elements) (λ i. handle_writer writer.new ≡ Some (with_element h
         (changed generation (worded_rows rows.now words.now) prefixes.now i))))) }
     ensures unchanged { OnErr result (handle_writer writer.new ≡ handle_writer writer.old) }
     ensures err { IfErr result (λ f. IsPublishStatus (first_of (words_fault rows.now words.now)
@@ -229,7 +230,7 @@ pub extern "C" fn tuhvondi_writer_publish_words(
     ensures status { IsPublishStatus (first_of (words_fault rows.now words.now)
         (first_block_fault prefixes.now)) (handle_writer writer.old) result }
     ensures done { result ≡ 0 → IfSome (handle_writer writer.old)
-        (λ h. IfSome (last_image h.images) (λ i. handle_writer writer.new ≡ Some (with_image h
+        (λ h. IfSome (last_image h.elements) (λ i. handle_writer writer.new ≡ Some (with_element h
         (changed generation (worded_rows rows.now words.now) prefixes.now i)))) }
     ensures refused { result ≢ 0 → handle_writer writer.new ≡ handle_writer writer.old }
 {
@@ -249,9 +250,9 @@ pub extern "C" fn tuhvondi_reader_lookup_words(
         (handle_reader reader.old) (length addrs.now) (length words.old) result }
     ensures kept { is_some (handle_reader reader.new) ≡ is_some (handle_reader reader.old) }
     ensures later { IfSome (handle_reader reader.old)
-        (λ h. IfSome (handle_reader reader.new) (λ k. GoesOn h k)) }
+        (λ h. IfSome (handle_reader reader.new) (λ k. GrowsTo h k)) }
     ensures done { result ≡ 0 → IfSome (handle_reader reader.new)
-        (λ h. IfSome (last_image h.images)
+        (λ h. IfSome (last_image h.elements)
         (λ i. (words.new ≡ answer_words i addrs.now) × (generation.new ≡ i.generation))) }
     ensures refused { result ≢ 0
         → (words.new ≡ words.old) × (generation.new ≡ generation.old) }

@@ -1,7 +1,7 @@
 //! What C holds of a writer. No other module sees its pointer.
 
 ghost use Rattle.std.specs.Prelude.{◌≡◌, MatchOption, None, Some};
-ghost use Rattle.lookup_calls.specs.Histories.{History};
+ghost use Rattle.lookup_calls.specs.Histories.{Published};
 
 use lookup_calls::ImageWriter;
 use std::alloc::Global;
@@ -16,7 +16,7 @@ pub struct WriterHandle {
     writer: *mut u8,
     holds: bool,
     alloc: Global,
-    ghost value: { History },
+    ghost value: { Published },
 }
 
 impl Model for WriterHandle {

@@ -1,7 +1,7 @@
 -- A link that comes up or goes down keeps the invariant.
 use Rattle.std.proofs.Common.{refl, sym, ◌∙◌, ap, subst, arith, inl, inr, ◌≡◌, ℕ, suc, ◌<◌, ◌≤◌, true, false, ◌==◌, [], ◌∷◌, append-nil, ne_eqb}
 use Rattle.network_model.proofs.Common.{both_ways, and_left, and_right, false_from_ne_true, Machine, is_port, UpNotice, LinkEnd, State, infinity, one_if}
-use Rattle.machine_laws.specs.Laws.{is_up_at, awaits, owes}
+use Rattle.machine_laws.specs.Laws.{is_up_at, awaits, owes_port}
 use Rattle.loop_freedom.specs.Network.{Topology, LinkUp, LinkDown, IsEnd}
 use Rattle.loop_freedom.proofs.Ends.{end_cases, end_far, end_near, end_valid, ends_agree}
 use Rattle.loop_freedom.proofs.Link.{EndInvariant, Answered}
@@ -67,7 +67,7 @@ module _ (t : Topology) (old new : State) (I : Invariant t old) (L : LinkUp t ol
       (and_left (is_current mx e.port (new.seen e) (new.session e)) (is_port e.port mx.successor) X.off)
       X.hidden
       (and_left (is_current mx e.port (new.seen e) (new.session e)) (awaits mx e.port) X.off)
-      (and_left (is_current my f.port (new.seen f) (new.session f)) (owes my f.port) Y.off)
+      (and_left (is_current my f.port (new.seen f) (new.session f)) (owes_port my f.port) Y.off)
       (up_bounded e)
 
   -- the ends of other links are as before

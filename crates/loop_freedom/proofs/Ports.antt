@@ -3,7 +3,7 @@ use Rattle.std.proofs.Common.{refl, sym, ◌∙◌, ap, subst, arith, ◌≡◌,
 use Rattle.network_model.proofs.Common.{both_ways, and_from, and_left, false≢true, Kind, Update, Query, Reply, infinity, Machine, records_after, reaction, length-changed_at, slice_get-changed_at, slice_get-changed_at_other, Report, SeenItem, UpNotice, DownNotice, CostNotice, Reported, one_if}
 use Rattle.network_model.specs.declared.machine.Neighbour.{Neighbour}
 use Rattle.network_model.specs.declared.machine.Event.TheVariants.{Message}
-use Rattle.machine_laws.specs.Laws.{released, is_kind, is_up_at, reported_at, reported_of, test_at, is_message, is_down, Meets, MachineLaws}
+use Rattle.machine_laws.specs.Laws.{released, is_kind, is_up_at, reported_at, reported_by, test_at, is_message, is_down, Meets, MachineLaws}
 use Rattle.loop_freedom.specs.Network.{event_of, seen_after}
 use Rattle.loop_freedom.specs.Facts.{is_current}
 use Rattle.loop_freedom.proofs.Notices.{IsLawfulInbox, lawful_later}
@@ -76,7 +76,7 @@ port_step_other laws m p q item seen n d =
       goes_down = λ e. absurd (both_ways (is_down q (event_of p item)) (other_down p q item d) e);
       stays = λ e. cur ∙ e;
       nothing = λ e. refl;
-      reports = λ e. ap reported_of slice;
+      reports = λ e. ap reported_by slice;
       comes = λ off on. absurd (both_ways (is_current m q seen n) off (sym cur ∙ on));
       lets_go = λ r u. absurd (d (other_released p q item r));
     }
@@ -98,7 +98,7 @@ up_of_up s c None f = absurd (f refl)
 up_of_up s c (Some x) f = refl
 
 -- nothing is reported at a port after its up notice
-reported_of_up : (s c : ℕ) (o : Option Neighbour) → reported_of (option_map (changed_by (UpNotice s c)) o) ≡ infinity
+reported_of_up : (s c : ℕ) (o : Option Neighbour) → reported_by (option_map (changed_by (UpNotice s c)) o) ≡ infinity
 reported_of_up s c None = refl
 reported_of_up s c (Some x) = refl
 
@@ -113,7 +113,7 @@ up_of_cost s c None = refl
 up_of_cost s c (Some x) = refl
 
 -- a cost notice leaves what was reported
-reported_of_cost : (s c : ℕ) (o : Option Neighbour) → reported_of (option_map (changed_by (CostNotice s c)) o) ≡ reported_of o
+reported_of_cost : (s c : ℕ) (o : Option Neighbour) → reported_by (option_map (changed_by (CostNotice s c)) o) ≡ reported_by o
 reported_of_cost s c None = refl
 reported_of_cost s c (Some x) = refl
 
@@ -123,7 +123,7 @@ up_of_message m None = refl
 up_of_message m (Some x) = refl
 
 -- a message at a port that is up sets what was reported
-reported_of_message : (m : Report) (o : Option Neighbour) → is_up o ≡ true → reported_of (option_map (changed_by (Reported m)) o) ≡ m.value
+reported_of_message : (m : Report) (o : Option Neighbour) → is_up o ≡ true → reported_by (option_map (changed_by (Reported m)) o) ≡ m.value
 reported_of_message m None e = absurd (false≢true e)
 reported_of_message m (Some x) e = refl
 
@@ -143,8 +143,8 @@ module _ (laws : MachineLaws) (m : Machine) (p : ℕ) where
   up_after item = ap is_up (slice_after item)
 
   -- what is reported at the port after the reaction is as the item leaves it
-  reported_after : (item : SeenItem) → reported_at (reaction m (event_of p item)).machine p ≡ reported_of (option_map (changed_by item) (slice_get m.ports p))
-  reported_after item = ap reported_of (slice_after item)
+  reported_after : (item : SeenItem) → reported_at (reaction m (event_of p item)).machine p ≡ reported_by (option_map (changed_by item) (slice_get m.ports p))
+  reported_after item = ap reported_by (slice_after item)
 
   -- an item that may be taken is an event that the machine may meet
   pub meets_item : (item : SeenItem) (rest : List SeenItem) (seen n : ℕ) (up : Bool) → p < length m.ports → IsLawfulInbox (is_up_at m p) seen up n (item ∷ rest) → Meets m (event_of p item)

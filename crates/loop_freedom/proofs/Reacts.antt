@@ -3,7 +3,7 @@ use Rattle.std.proofs.Common.{refl, sym, ◌∙◌, ap, subst, arith, inl, inr, 
 use Rattle.network_model.proofs.Common.{cases_Bool, both_ways, cases_eq, and_parts, and_from, and_left, true_from_ne_false, false_from_ne_true, Kind, Query, Reply, infinity, Machine, port_count, is_port, reaction, Report, SeenHeld, SeenItem, NextHop, one_if}
 use Rattle.network_model.specs.declared.machine.Event.{Event}
 use Rattle.network_model.specs.declared.machine.Outgoing.{Outgoing}
-use Rattle.machine_laws.specs.Laws.{released, is_up_at, reported_at, awaits, owes, is_active, sent_to, count_kind, is_message, is_down, IsSound, Meets, MachineLaws}
+use Rattle.machine_laws.specs.Laws.{released, is_up_at, reported_at, awaits, owes_port, is_active, sent_to, count_kind, is_message, is_down, IsSound, Meets, MachineLaws}
 use Rattle.loop_freedom.specs.Network.{held_for}
 use Rattle.machine_laws.proofs.Events.{is_port-Some, is_port_same}
 use Rattle.loop_freedom.specs.Facts.{count, AtLeast, End, live, is_current, end_of}
@@ -121,8 +121,8 @@ module _ (laws : MachineLaws) (m : Machine) (ev : Event) (sound : IsSound m) (me
   not_successor e s = both_ways (is_up_at m q) e (sound.successor_up q s there)
 
   -- no reply is owed to a port that is down
-  not_owed : is_up_at m q ≡ false → owes m q ≡ false
-  not_owed e = false_from_ne_true (owes m q) (λ a. both_ways (is_up_at m q) e (sound.owes_up q a))
+  not_owed : is_up_at m q ≡ false → owes_port m q ≡ false
+  not_owed e = false_from_ne_true (owes_port m q) (λ a. both_ways (is_up_at m q) e (sound.owes_up q a))
 
   -- what is false of a port that is down counts the same with the session's test as without
   counts_same : (a : Bool) → (is_up_at m q ≡ false → a ≡ false) → current' ≡ true → one_if (current && a) ≡ one_if a
@@ -154,19 +154,19 @@ module _ (laws : MachineLaws) (m : Machine) (ev : Event) (sound : IsSound m) (me
   ]
 
   -- what is owed grows by the query taken and falls by the reply added
-  replies : one_if (current && owes m q) + count Query (front taken) ≤ 1 → one_if (current' && owes after q) + count Reply added_at ≡ one_if (current && owes m q) + count Query (front taken)
+  replies : one_if (current && owes_port m q) + count Query (front taken) ≤ 1 → one_if (current' && owes_port after q) + count Reply added_at ≡ one_if (current && owes_port m q) + count Query (front taken)
   replies le = elim (cases_Bool current') [
     | inl on ↦
-        let g : one_if (current && owes m q) ≡ one_if (owes m q) = counts_same (owes m q) not_owed on in
-        let g' : one_if (current' && owes after q) ≡ one_if (owes after q) = one_if_on current' (owes after q) on in
+        let g : one_if (current && owes_port m q) ≡ one_if (owes_port m q) = counts_same (owes_port m q) not_owed on in
+        let g' : one_if (current' && owes_port after q) ≡ one_if (owes_port after q) = one_if_on current' (owes_port after q) on in
         let c : one_if (is_message Query q ev) ≡ count Query (front taken) = P.counts Query in
         let law = laws.counts_replies m ev sound meets q (no_down on)
-        (λ e. false_from_ne_true (owes m q) (λ o. omega (arith, le, g, c, one_if_true (is_message Query q ev) e, one_if_true (owes m q) o))) in
+        (λ e. false_from_ne_true (owes_port m q) (λ o. omega (arith, le, g, c, one_if_true (is_message Query q ev) e, one_if_true (owes_port m q) o))) in
         let a = count_added Reply on in
         omega (arith, g, g', c, law, a)
     | inr off ↦
-        let z = one_if_off current (owes m q) (was_off off) in
-        let z' = one_if_off current' (owes after q) off in
+        let z = one_if_off current (owes_port m q) (was_off off) in
+        let z' = one_if_off current' (owes_port after q) off in
         let t = none_taken Query (was_off off) in
         let a : count Reply added_at ≡ 0 = ap (count Reply) (nothing_added off) in
         omega (arith, z, z', t, a)

@@ -2,7 +2,7 @@
 use Rattle.std.proofs.Common.{refl, sym, ◌∙◌, ap, subst, inl, inr, ◌≡◌, ℕ, ◌<◌, true, Bool, ◌&&◌, ◌==◌, List, Option, Some, None, length, slice_get}
 use Rattle.network_model.proofs.Common.{cases_eq, both_ways, false≢true, Machine, reaction, event_at_home, LinkEnd, State}
 use Rattle.network_model.specs.declared.machine.Neighbour.{Neighbour}
-use Rattle.machine_laws.specs.Laws.{Meets, MachineLaws, is_up_at, reported_of, test_at}
+use Rattle.machine_laws.specs.Laws.{Meets, MachineLaws, is_up_at, reported_by, test_at}
 use Rattle.loop_freedom.specs.Network.{Topology, TakeAtHome}
 use Rattle.loop_freedom.specs.Facts.{messages, is_current}
 use Rattle.loop_freedom.proofs.Reacts.{PortStep}
@@ -33,7 +33,7 @@ module _ (laws : MachineLaws) (m : Machine) where
         goes_down = λ e. absurd (false≢true e);
         stays = λ e. cur ∙ e;
         nothing = λ e. refl;
-        reports = λ e. ap (λ (ns : List Neighbour). reported_of (slice_get ns q)) (ports_home None);
+        reports = λ e. ap (λ (ns : List Neighbour). reported_by (slice_get ns q)) (ports_home None);
         comes = λ off on. absurd (both_ways (is_current m q seen n) off (sym cur ∙ on));
         lets_go = λ r u. cc;
       }
@@ -44,7 +44,7 @@ module _ (laws : MachineLaws) (m : Machine) where
         goes_down = λ e. absurd (false≢true e);
         stays = λ e. cur ∙ e;
         nothing = λ e. refl;
-        reports = λ e. ap (λ (ns : List Neighbour). reported_of (slice_get ns q)) (ports_home (Some c));
+        reports = λ e. ap (λ (ns : List Neighbour). reported_by (slice_get ns q)) (ports_home (Some c));
         comes = λ off on. absurd (both_ways (is_current m q seen n) off (sym cur ∙ on));
         lets_go = λ r u. cc;
       }

@@ -5,7 +5,7 @@ use Rattle.metric.specs.declared.kind.Kind.TheVariants.{Query, Reply}
 use Rattle.network_model.specs.Machine.{Machine, is_port}
 use Rattle.network_model.specs.View.{Report, SeenHeld, SeenItem, UpNotice, DownNotice, CostNotice, Reported, NextHop, LinkEnd, State}
 use Rattle.network_model.specs.Numbers.{one_if}
-use Rattle.machine_laws.specs.Laws.{is_kind, is_up_at, reported_at, awaits, owes, is_active}
+use Rattle.machine_laws.specs.Laws.{is_kind, is_up_at, reported_at, awaits, owes_port, is_active}
 use Rattle.loop_freedom.specs.Network.{Topology}
 
 -- ---- lists of messages
@@ -84,7 +84,7 @@ end_of m q seen n o pfd items ripe unripe = record {
   pfd = pfd;
   active = is_active m;
   awaits = is_current m q seen n && awaits m q;
-  owes = is_current m q seen n && owes m q;
+  owes = is_current m q seen n && owes_port m q;
   chosen = is_current m q seen n && is_port q m.successor;
   shown = is_next_hop q n o;
   out = messages items ++ live n ripe;

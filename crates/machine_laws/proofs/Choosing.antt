@@ -4,7 +4,7 @@ use Rattle.network_model.proofs.Common.{both_ways, none-some, Machine, Reaction,
 use Rattle.network_model.specs.declared.machine.Neighbour.{Neighbour}
 use Rattle.network_model.specs.declared.machine.Event.{Event}
 use Rattle.network_model.specs.declared.machine.Event.TheVariants.{Up}
-use Rattle.machine_laws.specs.Laws.{released, test_at, is_up_at, reported_of, reported_at, awaits, is_active, Meets, IsSound, RisesAtCompletion, KeepsOrChooses}
+use Rattle.machine_laws.specs.Laws.{released, test_at, is_up_at, reported_by, reported_at, awaits, is_active, Meets, IsSound, RisesAtCompletion, KeepsOrChooses}
 use Rattle.machine_laws.proofs.Lists.{append_within, test_within}
 use Rattle.machine_laws.proofs.Distances.{AllSound, chosen_feasible, feasible_below_least, ways_sound}
 use Rattle.machine_laws.proofs.Events.{sound_after, attachment_sound_after, successor_kept}
@@ -31,7 +31,7 @@ pub rises_at_completion : RisesAtCompletion
 rises_at_completion m e sound meets rise p up = rises_of m e (reaction m e) (outcome m e sound meets) rise p up
 
 -- the port that is chosen reported less than the new feasible distance
-pub chosen_reported : (fd : ℕ) (ns : List Neighbour) (s : Option ℕ) (p : ℕ) → AllSound ns → chosen_successor fd ns s ≡ Some p → reported_of (slice_get ns p) < min fd (least ns)
+pub chosen_reported : (fd : ℕ) (ns : List Neighbour) (s : Option ℕ) (p : ℕ) → AllSound ns → chosen_successor fd ns s ≡ Some p → reported_by (slice_get ns p) < min fd (least ns)
 chosen_reported fd ns s p sound h =
     let both = chosen_feasible fd ns s p h in
     let f = both.1 in
@@ -41,7 +41,7 @@ chosen_reported fd ns s p sound h =
 
 -- another port's coming up changes no report
 pub reported_other : (m : Machine) (q cost p : ℕ) → (p ≡ q → ⊥) → reported_at (with_records m (Up q cost)) p ≡ reported_at m p
-reported_other m q cost p other = ap reported_of (slice_get-changed_at_other (λ n. record { up = true; cost = cost; reported = infinity }) q p m.ports other)
+reported_other m q cost p other = ap reported_by (slice_get-changed_at_other (λ n. record { up = true; cost = cost; reported = infinity }) q p m.ports other)
 
 -- nor whether this one is up
 pub up_other : (m : Machine) (q cost p : ℕ) → (p ≡ q → ⊥) → is_up_at (with_records m (Up q cost)) p ≡ is_up_at m p
@@ -63,7 +63,7 @@ port_way n p up = append_within n.ports (home_ways n.attachment) p (test_within 
 pub settled_reported : (m : Machine) (e : Event) (fd p : ℕ) → IsSound m → Meets m e → chosen_successor fd (ways (with_records m e)) (with_records m e).successor ≡ Some p → is_up_at (with_records m e) p ≡ true
     → reported_at (with_records m e) p < min fd (least (ways (with_records m e)))
 settled_reported m e fd p sound meets s up =
-    let r : reported_of (slice_get (ways (with_records m e)) p) < min fd (least (ways (with_records m e))) = chosen_reported fd (ways (with_records m e)) (with_records m e).successor p (ways_sound_after m e sound meets) s in
+    let r : reported_by (slice_get (ways (with_records m e)) p) < min fd (least (ways (with_records m e))) = chosen_reported fd (ways (with_records m e)) (with_records m e).successor p (ways_sound_after m e sound meets) s in
     rw (port_way (with_records m e) p up) at r
 
 -- the law of the successor for one reaction and one port

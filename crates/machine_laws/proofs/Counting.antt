@@ -4,7 +4,7 @@ use Rattle.network_model.proofs.Common.{option_map_or, list_any, and-true, both_
 use Rattle.network_model.specs.declared.machine.Neighbour.{Neighbour}
 use Rattle.network_model.specs.declared.machine.Event.{Event}
 use Rattle.network_model.specs.declared.machine.Outgoing.{Outgoing}
-use Rattle.machine_laws.specs.Laws.{released, is_kind, sent_to, count_kind, test_at, is_up_at, awaits, owes, is_active, is_message, is_down, IsSound, CountsQueries, CountsReplies}
+use Rattle.machine_laws.specs.Laws.{released, is_kind, sent_to, count_kind, test_at, is_up_at, awaits, owes_port, is_active, is_message, is_down, IsSound, CountsQueries, CountsReplies}
 use Rattle.machine_laws.proofs.Sends.{sent_append, count_append, count_one, count_all}
 use Rattle.machine_laws.proofs.Events.{is_port-Some, replied_by, released_by}
 use Rattle.machine_laws.proofs.Outcomes.{Account, Outcome, came_up, goes_on, settles, asks, is_alone, outcome, active_awaits, awaited_kept, test_nowhere, waiting, awaited_after_is}
@@ -54,10 +54,10 @@ greeting_count k m p q other = go (m.rd == infinity)
     go false = count_one k Update p (Some q) m.rd ∙ (rw other)
 
 -- a passive machine awaits nobody and owes nothing
-pub passive_nothing : (m : Machine) (p : ℕ) → is_active m ≡ false → (awaits m p ≡ false) × (owes m p ≡ false)
+pub passive_nothing : (m : Machine) (p : ℕ) → is_active m ≡ false → (awaits m p ≡ false) × (owes_port m p ≡ false)
 passive_nothing m p h = go m.computation refl
   where
-    go : (o : Option Computation) → m.computation ≡ o → (awaits m p ≡ false) × (owes m p ≡ false)
+    go : (o : Option Computation) → m.computation ≡ o → (awaits m p ≡ false) × (owes_port m p ≡ false)
     go None k = rw k (refl, refl)
     go (Some c) k = absurd (true≢false (rw k at h))
 
@@ -114,7 +114,7 @@ counts_queries m e sound meets p d fair = queries_of m e (reaction m e) sound (o
 
 -- the law of replies for one reaction and one port
 abbrev RepliesCount : Machine → Event → Reaction → ℕ → Type 0
-RepliesCount m e r p = one_if (owes r.machine p) + count_kind Reply (sent_to p r.sends) ≡ one_if (owes m p) + one_if (is_message Query p e)
+RepliesCount m e r p = one_if (owes_port r.machine p) + count_kind Reply (sent_to p r.sends) ≡ one_if (owes_port m p) + one_if (is_message Query p e)
 
 -- with no one up nothing is owed, and nobody is answered
 alone_account : (m : Machine) (e : Event) (debt answer : Option ℕ) (p : ℕ) → IsSound m → Account m e debt answer → list_any (λ n. n.up) (records_after e m.ports) ≡ false → (is_port p debt ≡ false) × (is_port p answer ≡ false)
@@ -125,7 +125,7 @@ alone_account m e debt answer p sound a none =
     )
 
 -- every outcome counts its replies
-replies_of : (m : Machine) (e : Event) (r : Reaction) → IsSound m → Outcome m e r → (p : ℕ) → is_down p e ≡ false → (is_message Query p e ≡ true → owes m p ≡ false) → RepliesCount m e r p
+replies_of : (m : Machine) (e : Event) (r : Reaction) → IsSound m → Outcome m e r → (p : ℕ) → is_down p e ≡ false → (is_message Query p e ≡ true → owes_port m p ≡ false) → RepliesCount m e r p
 replies_of m e r sound (came_up q cost) p d fair = rw (greeting_count Reply m p q refl) refl
 replies_of m e r sound (goes_on _ c debt answer h some a) p d fair = rw (count_one Reply Reply p answer m.rd) (a.balance p d fair)
 replies_of m e r sound (settles _ fd owed dec a f) p d fair = rw (settled_replies p owed m.rd (least (ways (with_records m e))) (records_after e m.ports)) (a.balance p d fair)

@@ -6,7 +6,7 @@ use Rattle.machine_laws.specs.Laws.{IsSoundPort, test_at}
 use Rattle.machine_laws.proofs.Lists.{list_any_nowhere, position_passes, position_found, append_each}
 
 -- a sum is below infinity, or infinity
-plus_cases : (a c : ℕ) → ((plus a c ≡ a + c) × (a + c < infinity)) ⊎ (plus a c ≡ infinity)
+pub plus_cases : (a c : ℕ) → ((plus a c ≡ a + c) × (a + c < infinity)) ⊎ (plus a c ≡ infinity)
 plus_cases a c = go (nat_lt (a + c) infinity) refl
   where
     go : (b : Bool) → nat_lt (a + c) infinity ≡ b → (((if b then a + c else infinity) ≡ a + c) × (a + c < infinity)) ⊎ ((if b then a + c else infinity) ≡ infinity)

@@ -4,15 +4,15 @@ use Rattle.network_model.proofs.Common.{option_map_or, list_any, cases_eq, both_
 use Rattle.network_model.specs.declared.machine.Neighbour.{Neighbour}
 use Rattle.network_model.specs.declared.machine.Event.{Event}
 use Rattle.network_model.specs.declared.machine.Event.TheVariants.{Message, Up, Down, Cost, Attached, Detached}
-use Rattle.machine_laws.specs.Laws.{released, test_at, is_up_at, awaits, owes, is_active, is_message, is_down, Meets, IsSound}
+use Rattle.machine_laws.specs.Laws.{released, test_at, is_up_at, awaits, owes_port, is_active, is_message, is_down, Meets, IsSound}
 use Rattle.machine_laws.proofs.Lists.{list_any_nowhere, test_within}
 use Rattle.machine_laws.proofs.Sends.{eqb_same}
 use Rattle.machine_laws.proofs.Events.{is_port-Some, is_port_same, asked_by, asked_event, asker_up, released_alone, successor_stays, stays_up}
 
 -- what is owed after an event and what it answers are, together, what was owed and what the event asks
 pub record Account (m : Machine) (e : Event) (debt answer : Option ℕ) : Type 0 where
-  pub balance : (p : ℕ) → is_down p e ≡ false → (is_message Query p e ≡ true → owes m p ≡ false)
-      → one_if (is_port p debt) + one_if (is_port p answer) ≡ one_if (owes m p) + one_if (is_message Query p e)
+  pub balance : (p : ℕ) → is_down p e ≡ false → (is_message Query p e ≡ true → owes_port m p ≡ false)
+      → one_if (is_port p debt) + one_if (is_port p answer) ≡ one_if (owes_port m p) + one_if (is_message Query p e)
   pub debt_successor : (p : ℕ) → debt ≡ Some p → (with_records m e).successor ≡ Some p
   pub debt_up : (p : ℕ) → debt ≡ Some p → is_up_at (with_records m e) p ≡ true
   pub answer_up : (p : ℕ) → answer ≡ Some p → is_up_at (with_records m e) p ≡ true
@@ -73,11 +73,11 @@ at_active n e c k = active_at n.attachment n.ports n.rd n.fd n.successor n.compu
 -- ---- what is owed
 
 -- a passive machine owes nothing
-passive_owes : (m : Machine) (p : ℕ) → m.computation ≡ None → owes m p ≡ false
+passive_owes : (m : Machine) (p : ℕ) → m.computation ≡ None → owes_port m p ≡ false
 passive_owes m p h = rw h
 
 -- an active machine owes what its computation does
-active_owes : (m : Machine) (c : Computation) (p : ℕ) → m.computation ≡ Some c → owes m p ≡ is_port p c.debt
+active_owes : (m : Machine) (c : Computation) (p : ℕ) → m.computation ≡ Some c → owes_port m p ≡ is_port p c.debt
 active_owes m c p h = rw h
 
 -- a passive machine owes nothing, and answers whoever asks
@@ -131,8 +131,8 @@ account_lost m e c q h a l k = record {
 account_asked : (m : Machine) (e : Event) (c : Computation) (q : ℕ) → IsSound m → Meets m e → m.computation ≡ Some c → asker e ≡ Some q → m.successor ≡ Some q → Account m e (Some q) None
 account_asked m e c q sound meets h a s = record {
   balance = λ p d ask.
-      let owed_to_asker : owes m p ≡ true → is_message Query p e ≡ true = λ t. asked_by p e ∙ is_port_same p (asker e) (a ∙ sym s ∙ sound.owes_successor p t) in
-      let none : owes m p ≡ false = false_from_ne_true (owes m p) (λ t. both_ways (owes m p) (ask (owed_to_asker t)) t) in
+      let owed_to_asker : owes_port m p ≡ true → is_message Query p e ≡ true = λ t. asked_by p e ∙ is_port_same p (asker e) (a ∙ sym s ∙ sound.owes_successor p t) in
+      let none : owes_port m p ≡ false = false_from_ne_true (owes_port m p) (λ t. both_ways (owes_port m p) (ask (owed_to_asker t)) t) in
       rw (none, asked_by p e, a) (omega arith);
   debt_successor = λ p k. (asked_event q e a).successor_same (port_count m) m.successor ∙ s ∙ k;
   debt_up = λ p k. let by : asker e ≡ Some p = a ∙ k in stays_up m e p ((asked_event p e by).none_down p) (asker_up m p e meets by);

@@ -48,13 +48,13 @@ abbrev pub is_up_at : Machine → ℕ → Bool
 is_up_at m p = test_at (λ n. n.up) (slice_get m.ports p)
 
 -- what a neighbour reported; infinity where there is no neighbour
-abbrev pub reported_of : Option Neighbour → ℕ
-reported_of None = infinity
-reported_of (Some n) = n.reported
+abbrev pub reported_by : Option Neighbour → ℕ
+reported_by None = infinity
+reported_by (Some n) = n.reported
 
 -- what the neighbour at port p reported; infinity where there is no such port
 abbrev pub reported_at : Machine → ℕ → ℕ
-reported_at m p = reported_of (slice_get m.ports p)
+reported_at m p = reported_by (slice_get m.ports p)
 
 -- whether the computation under way, if there is one, awaits the reply of port p
 abbrev pub awaits_of : Option Computation → ℕ → Bool
@@ -71,8 +71,8 @@ owes_of None p = false
 owes_of (Some c) p = is_port p c.debt
 
 -- whether the machine owes a reply to port p
-abbrev pub owes : Machine → ℕ → Bool
-owes m p = owes_of m.computation p
+abbrev pub owes_port : Machine → ℕ → Bool
+owes_port m p = owes_of m.computation p
 
 -- whether a computation is under way
 abbrev pub is_active : Machine → Bool
@@ -130,8 +130,8 @@ pub record IsSound (m : Machine) : Type 0 where
   pub active_above : is_active m ≡ true → m.fd < m.rd
   pub awaits_some : is_active m ≡ true → (p : ℕ) × (awaits m p ≡ true)
   pub awaits_up : (p : ℕ) → awaits m p ≡ true → is_up_at m p ≡ true
-  pub owes_successor : (p : ℕ) → owes m p ≡ true → m.successor ≡ Some p
-  pub owes_up : (p : ℕ) → owes m p ≡ true → is_up_at m p ≡ true
+  pub owes_successor : (p : ℕ) → owes_port m p ≡ true → m.successor ≡ Some p
+  pub owes_up : (p : ℕ) → owes_port m p ≡ true → is_up_at m p ≡ true
 
 -- every message that an event sends carries the distance after it, to a port that is up
 abbrev pub SendsDistance : Type 0
@@ -155,8 +155,8 @@ CountsQueries = (m : Machine) (e : Event) → IsSound m → Meets m e → (p : �
 
 -- at each port that stays up, what is owed grows by the query taken and falls by the replies sent, if nobody asks who is owed a reply
 abbrev pub CountsReplies : Type 0
-CountsReplies = (m : Machine) (e : Event) → IsSound m → Meets m e → (p : ℕ) → is_down p e ≡ false → (is_message Query p e ≡ true → owes m p ≡ false)
-    → one_if (owes (reaction m e).machine p) + count_kind Reply (sent_to p (reaction m e).sends) ≡ one_if (owes m p) + one_if (is_message Query p e)
+CountsReplies = (m : Machine) (e : Event) → IsSound m → Meets m e → (p : ℕ) → is_down p e ≡ false → (is_message Query p e ≡ true → owes_port m p ≡ false)
+    → one_if (owes_port (reaction m e).machine p) + count_kind Reply (sent_to p (reaction m e).sends) ≡ one_if (owes_port m p) + one_if (is_message Query p e)
 
 -- a machine that is active after an event was active, keeps its distance and asks nobody; or all who are up get one query, and nothing after it
 abbrev pub GoesOnOrAsks : Type 0

@@ -3,7 +3,7 @@ use Rattle.std.proofs.Common.{refl, sym, ◌∙◌, arith, inl, inr, true≢fals
 use Rattle.std.specs.Prelude.{⊤}
 use Rattle.std.proofs.lemmas.Bool.{and_parts, cases_lt}
 use Rattle.minima.specs.declared.due.Due.{Due}
-use Rattle.minima.specs.Trees.{is_before, lesser}
+use Rattle.minima.specs.Trees.{is_sooner, lesser}
 
 -- the one is no later than the other, by its moment and then by its router. What is not there is later than anything
 abbrev pub NoLater : Option Due → Option Due → Type 0
@@ -29,7 +29,7 @@ no_later_trans (Some a) (Some b) (Some c) p q = both p q
     both (inr x) (inr y) = inr (x.0 ∙ y.0, (let first = x.1 in let second = y.1 in omega (arith, first, second)))
 
 -- what is before another is no later
-before_is : (b a : Due) → is_before b a ≡ true → NoLater (Some b) (Some a)
+before_is : (b a : Due) → is_sooner b a ≡ true → NoLater (Some b) (Some a)
 before_is b a is = by_moment (nat_lt b.moment a.moment) refl is
   where
     by_moment : (t : Bool) → nat_lt b.moment a.moment ≡ t → (t || ((b.moment == a.moment) && nat_lt b.router a.router)) ≡ true → NoLater (Some b) (Some a)
@@ -40,7 +40,7 @@ before_is b a is = by_moment (nat_lt b.moment a.moment) refl is
         inr (eqb-true b.moment a.moment parts.0, omega (arith, lower))
 
 -- and what is not before another is no sooner
-not_before : (b a : Due) → is_before b a ≡ false → NoLater (Some a) (Some b)
+not_before : (b a : Due) → is_sooner b a ≡ false → NoLater (Some a) (Some b)
 not_before b a is = by_moment (nat_lt b.moment a.moment) refl is
   where
     by_equal : (t : Bool) → (b.moment == a.moment) ≡ t → (t && nat_lt b.router a.router) ≡ false → a.moment ≤ b.moment → NoLater (Some a) (Some b)
@@ -59,18 +59,18 @@ not_before b a is = by_moment (nat_lt b.moment a.moment) refl is
 pub lesser_left : (a b : Option Due) → NoLater (lesser a b) a
 lesser_left None b = tt
 lesser_left (Some a) None = no_later_itself (Some a)
-lesser_left (Some a) (Some b) = by_test (is_before b a) refl
+lesser_left (Some a) (Some b) = by_test (is_sooner b a) refl
   where
-    by_test : (t : Bool) → is_before b a ≡ t → NoLater (if t then Some b else Some a) (Some a)
+    by_test : (t : Bool) → is_sooner b a ≡ t → NoLater (if t then Some b else Some a) (Some a)
     by_test true is = before_is b a is
     by_test false is = no_later_itself (Some a)
 
 pub lesser_right : (a b : Option Due) → NoLater (lesser a b) b
 lesser_right None b = no_later_itself b
 lesser_right (Some a) None = tt
-lesser_right (Some a) (Some b) = by_test (is_before b a) refl
+lesser_right (Some a) (Some b) = by_test (is_sooner b a) refl
   where
-    by_test : (t : Bool) → is_before b a ≡ t → NoLater (if t then Some b else Some a) (Some b)
+    by_test : (t : Bool) → is_sooner b a ≡ t → NoLater (if t then Some b else Some a) (Some b)
     by_test true is = no_later_itself (Some b)
     by_test false is = not_before b a is
 
@@ -78,7 +78,7 @@ lesser_right (Some a) (Some b) = by_test (is_before b a) refl
 pub lesser_is : (a b : Option Due) → (lesser a b ≡ a) ⊎ (lesser a b ≡ b)
 lesser_is None b = inr refl
 lesser_is (Some a) None = inl refl
-lesser_is (Some a) (Some b) = by_test (is_before b a)
+lesser_is (Some a) (Some b) = by_test (is_sooner b a)
   where
     by_test : (t : Bool) → ((if t then Some b else Some a) ≡ Some a) ⊎ ((if t then Some b else Some a) ≡ Some b)
     by_test true = inr refl

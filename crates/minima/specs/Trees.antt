@@ -18,14 +18,14 @@ NoneDue moments = (i m : ℕ) → slice_get moments i ≡ Some (Some m) → ⊥
 -- ---- the tree
 
 -- whether one pair is before the other: it is sooner, or of the same moment and a lower router
-abbrev pub is_before : Due → Due → Bool
-is_before a b = nat_lt a.moment b.moment || ((a.moment == b.moment) && nat_lt a.router b.router)
+abbrev pub is_sooner : Due → Due → Bool
+is_sooner a b = nat_lt a.moment b.moment || ((a.moment == b.moment) && nat_lt a.router b.router)
 
 -- the one of two that is before the other, or the only one
 abbrev pub lesser : Option Due → Option Due → Option Due
 lesser None b = b
 lesser (Some a) None = Some a
-lesser (Some a) (Some b) = if is_before b a then Some b else Some a
+lesser (Some a) (Some b) = if is_sooner b a then Some b else Some a
 
 -- the pair of a router that is due at a moment, if it is
 abbrev pub pair_of : ℕ → Option ℕ → Option Due

@@ -1,7 +1,7 @@
 //! A moment, and the router that is due then.
 
 ghost use Rattle.std.specs.Prelude.{◌≡◌};
-ghost use Rattle.minima.specs.Trees.{is_before, lesser, pair_of};
+ghost use Rattle.minima.specs.Trees.{is_sooner, lesser, pair_of};
 
 /// A router, and the moment at which it is due.
 #[derive(Clone, Copy)]
@@ -12,7 +12,7 @@ pub struct Due {
 
 // Whether one is before the other: sooner, or at the same moment with a lower number.
 fn is_before(a: Due, b: Due) -> bool
-    ensures { result ≡ is_before a b }
+    ensures { result ≡ is_sooner a b }
 {
     a.moment < b.moment || (a.moment == b.moment && a.router < b.router)
 }

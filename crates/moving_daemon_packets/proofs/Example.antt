@@ -5,10 +5,10 @@ use Rattle.single_router.specs.declared.input.Input.TheVariants as input
 use Rattle.single_router.specs.declared.opening.Attachment.{Attachment}
 use Rattle.single_router.specs.Openings.{made_router}
 use Rattle.daemon_laws.specs.Processes.{Processes}
-use Rattle.daemon_laws.specs.Packets.{is_in_session, entry_leads}
-use Rattle.daemon_laws.specs.Happenings.{Happening, Tells, Takes, Publishes, Releases, AllCanHappen, IsMade, Begins, IsReached, Begun, Happened, MayRewire, is_new_link, next, after}
+use Rattle.daemon_laws.specs.Packets.{is_in_session, session_leads}
+use Rattle.daemon_laws.specs.Happenings.{Happening, Tells, Takes, Publishes, Releases, AllCanHappen, IsMade, IsOpening, AreReached, Begun, Happened, MayRewire, is_new_link, after_happening, after_happenings}
 use Rattle.daemon_laws.specs.Moments.{fds_reached}
-use Rattle.moving_daemon_packets.specs.Moving.{Moment, moment_next, moment_rewired, moment_after, Leads, StaysNear, doing, SomeComesBack}
+use Rattle.moving_daemon_packets.specs.Moving.{Moment, moment_next, moment_rewired, moment_after, LeadsOn, StaysNearAtDaemons, doing, SomeComesBack}
 
 -- ---- links
 
@@ -96,7 +96,7 @@ made_one : (b : Bool) → IsMade (made_router (7 ∷ 7 ∷ []) (homes b))
 made_one true = record { costs = 7 ∷ 7 ∷ []; attachments = homes true; good = refl; made = refl }
 made_one false = record { costs = 7 ∷ 7 ∷ []; attachments = homes false; good = refl; made = refl }
 
-begins : Begins first
+begins : IsOpening first
 begins = record { routers_made = λ i. made_one (i == 0); nothing_comes = λ e. refl; never_up = λ e. refl; never_heard = λ e. refl; never_lost = λ e s. refl }
 
 one : IsCost 1
@@ -116,12 +116,12 @@ can_tell : AllCanHappen (links false) first told
 can_tell = ((omega arith, five), ((omega arith, five), ((omega arith, one), ((omega arith, one), (tt, (tt, (tt, (tt, (tt, (tt, (tt, (tt, tt))))))))))))
 
 abbrev then_are : Processes
-then_are = after (links false) first told
+then_are = after_happenings (links false) first told
 
 -- all that happens comes to a moment
-abbrev reached : (t : Topology) (w : Processes) (hs : List Happening) → IsReached t w → AllCanHappen t w hs → IsReached t (after t w hs)
+abbrev reached : (t : Topology) (w : Processes) (hs : List Happening) → AreReached t w → AllCanHappen t w hs → AreReached t (after_happenings t w hs)
 reached t w [] M can = M
-reached t w (h ∷ hs) M can = reached t (next t w h) hs (Happened t w h M can.0) can.1
+reached t w (h ∷ hs) M can = reached t (after_happening t w h) hs (Happened t w h M can.0) can.1
 
 abbrev moment : Moment
 moment = record { topology = links false; processes = then_are; fd_published = fds_reached (links false) then_are (reached (links false) first told (Begun (links false) first begins) can_tell) }
@@ -152,7 +152,7 @@ can_find : AllCanHappen (links true) (moment_rewired moment (links true)).proces
 can_find = ((omega arith, one), ((omega arith, one), (tt, (tt, (tt, (tt, (tt, (tt, (tt, (tt, (tt, (tt, (tt, tt)))))))))))))
 
 -- where a packet waits it stays near, if it is near at the end
-waits_near : (leads : Leads) (m : Moment) (addr : ℕ) (p : Prefix) (f k : ℕ) (hs : List Happening) → AllCanHappen m.topology m.processes hs → (moment_after m (doing hs)).fd_published p k < f → StaysNear leads m addr p f k (doing hs)
+waits_near : (leads : LeadsOn) (m : Moment) (addr : ℕ) (p : Prefix) (f k : ℕ) (hs : List Happening) → AllCanHappen m.topology m.processes hs → (moment_after m (doing hs)).fd_published p k < f → StaysNearAtDaemons leads m addr p f k (doing hs)
 waits_near leads m addr p f k [] can lt = lt
 waits_near leads m addr p f k (h ∷ hs) can lt = (can.0, waits_near leads (moment_next m h) addr p f k hs can.1 lt)
 
@@ -181,6 +181,6 @@ some_comes_back = record {
   is_linked = refl;
   new = refl;
   goes = record { entry = Via 0 1; matched = refl; leads = refl };
-  near = (may, waits_near entry_leads (moment_rewired moment (links true)) 5 everywhere 7 2 found can_find near);
+  near = (may, waits_near session_leads (moment_rewired moment (links true)) 5 everywhere 7 2 found can_find near);
   goes_back = record { entry = Via 0 1; matched = refl; leads = refl };
 }

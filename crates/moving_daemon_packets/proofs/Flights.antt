@@ -9,14 +9,14 @@ use Rattle.single_router.specs.declared.input.Input.TheVariants as input
 use Rattle.single_router.specs.Inputs.{told_fault, router_after}
 use Rattle.single_router.specs.Openings.{made_router}
 use Rattle.daemon_laws.specs.Processes.{Processes}
-use Rattle.daemon_laws.specs.Packets.{is_in_session, entry_leads, lets_in}
-use Rattle.daemon_laws.specs.Happenings.{Happening, Tells, Takes, Loses, Publishes, PublishesSome, Forgets, Releases, BeginsAnew, CanHappen, with_router, told, forgotten, next, link_stays, MayRewire}
+use Rattle.daemon_laws.specs.Packets.{is_in_session, session_leads, lets_in}
+use Rattle.daemon_laws.specs.Happenings.{Happening, Tells, Takes, Loses, Publishes, PublishesSome, Forgets, Releases, BeginsAnew, CanHappen, with_process, told_router, forgotten, after_happening, link_stays, MayRewire}
 use Rattle.daemon_laws.proofs.Anew.{Anew, Here, Across, Away, anew_at}
 use Rattle.daemon_laws.proofs.Cases.{by_take, by_release}
 use Rattle.daemon_laws.proofs.Rewiring.{Stays, stays_far, stays_at, same_at}
 use Rattle.daemon_laws.proofs.Steps.{router_here, router_away}
 use Rattle.daemon_laws.proofs.Walks.{row_reached, let_in}
-use Rattle.moving_daemon_packets.specs.Moving.{Moment, moment_next, moment_rewired, moment_after, HoldsAtEveryMoment, Event, Goes, Does, Rewires}
+use Rattle.moving_daemon_packets.specs.Moving.{Moment, moment_next, moment_rewired, moment_after, HoldsAtEveryMoment, DaemonEvent, Goes, Does, Rewires}
 use Rattle.moving_daemon_packets.specs.Flights.{Survives, IsOnLink, HopsAtOnce, UnmarkedHopsAtOnce}
 use Rattle.moving_daemon_packets.proofs.Calm.{IsKept, kept_next, kept_rewired, now, kept}
 
@@ -54,7 +54,7 @@ costs_change (x ∷ xs) (suc j) c zero session h = h
 costs_change (x ∷ xs) (suc j) c (suc q) session h = costs_change xs j c q session h
 
 -- a router that is told something is in sessions in which it was, or its link came up
-told_in : (i : Input) (r : Router) (q session : ℕ) → is_up_in (told i r).ports q session ≡ true → (is_up_in r.ports q session ≡ true) ⊎ ((c : ℕ) × (i ≡ input.Up q session c))
+told_in : (i : Input) (r : Router) (q session : ℕ) → is_up_in (told_router i r).ports q session ≡ true → (is_up_in r.ports q session ≡ true) ⊎ ((c : ℕ) × (i ≡ input.Up q session c))
 told_in i r q session = by_fault (is_none (told_fault i r))
   where
     by_input : (x : Input) → is_up_in (router_after x r).ports q session ≡ true → (is_up_in r.ports q session ≡ true) ⊎ ((c : ℕ) × (x ≡ input.Up q session c))
@@ -84,7 +84,7 @@ forgotten_in p r = by_test (may_forget p r)
 
 module _ (t : Topology) (w : Processes) (f : LinkEnd) (session : ℕ) where
   -- where one router is changed that keeps its ports, the router at an end is in the sessions that it was in
-  changed_in : (j : ℕ) (g : Router → Router) → ((r : Router) → (g r).ports ≡ r.ports) → is_up_in (with_router j g w.routers f.router).ports f.port session ≡ true → is_in_session w f session ≡ true
+  changed_in : (j : ℕ) (g : Router → Router) → ((r : Router) → (g r).ports ≡ r.ports) → is_up_in (with_process j g w.routers f.router).ports f.port session ≡ true → is_in_session w f session ≡ true
   changed_in j g same h = sym (ap (λ (ports : List Port). is_up_in ports f.port session) (by_test (f.router == j))) ∙ h
     where
       by_test : (b : Bool) → (if b then g (w.routers f.router) else w.routers f.router).ports ≡ (w.routers f.router).ports
@@ -92,7 +92,7 @@ module _ (t : Topology) (w : Processes) (f : LinkEnd) (session : ℕ) where
       by_test false = refl
 
   -- what a router takes keeps them
-  message_in : (q s : ℕ) (m : _) (r : Router) → (told (input.Message q s m) r).ports ≡ r.ports
+  message_in : (q s : ℕ) (m : _) (r : Router) → (told_router (input.Message q s m) r).ports ≡ r.ports
   message_in q s m r = by_fault (is_none (told_fault (input.Message q s m) r))
     where
       by_fault : (b : Bool) → (if b then router_after (input.Message q s m) r else r).ports ≡ r.ports
@@ -100,11 +100,11 @@ module _ (t : Topology) (w : Processes) (f : LinkEnd) (session : ℕ) where
       by_fault false = refl
 
   -- an end that is in a session was in it, or had not been in it yet, unless its process begins anew
-  was_in : (h : Happening) → CanHappen w h → ((i : ℕ) (costs : _) (attachments : _) → h ≡ BeginsAnew i costs attachments → i ≢ f.router) → is_in_session (next t w h) f session ≡ true
+  was_in : (h : Happening) → CanHappen w h → ((i : ℕ) (costs : _) (attachments : _) → h ≡ BeginsAnew i costs attachments → i ≢ f.router) → is_in_session (after_happening t w h) f session ≡ true
       → (is_in_session w f session ≡ true) ⊎ (w.last f < session)
   was_in (Tells i x) can stays h = elim (cases_eq f.router i) [
-    | inl e ↦ by_told e (told_in x (w.routers i) f.port session (ap (λ (r : Router). is_up_in r.ports f.port session) (sym (ap (λ (k : ℕ). with_router i (told x) w.routers k) e ∙ router_here i (told x) w.routers)) ∙ h))
-    | inr d ↦ inl (ap (λ (r : Router). is_up_in r.ports f.port session) (sym (router_away i (told x) w.routers f.router d)) ∙ h)
+    | inl e ↦ by_told e (told_in x (w.routers i) f.port session (ap (λ (r : Router). is_up_in r.ports f.port session) (sym (ap (λ (k : ℕ). with_process i (told_router x) w.routers k) e ∙ router_here i (told_router x) w.routers)) ∙ h))
+    | inr d ↦ inl (ap (λ (r : Router). is_up_in r.ports f.port session) (sym (router_away i (told_router x) w.routers f.router d)) ∙ h)
   ]
     where
       by_told : f.router ≡ i → (is_up_in (w.routers i).ports f.port session ≡ true) ⊎ ((c : ℕ) × (x ≡ input.Up f.port session c)) → (is_in_session w f session ≡ true) ⊎ (w.last f < session)
@@ -114,7 +114,7 @@ module _ (t : Topology) (w : Processes) (f : LinkEnd) (session : ℕ) where
           later : f.router ≡ i → (c : ℕ) → CanHappen w (Tells i (input.Up f.port session c)) → w.last f < session
           later e c own = subst (λ (k : ℕ). w.last (at_port k f.port) < session) (sym e) own.0
   was_in (Takes e) can stays is = by_take t w (λ v. is_in_session v f session ≡ true → (is_in_session w f session ≡ true) ⊎ (w.last f < session)) (λ h. inl h) e
-      (λ c at le h. inl (changed_in e.router (told (input.Message e.port c.session c.message)) (message_in e.port c.session c.message) h)) is
+      (λ c at le h. inl (changed_in e.router (told_router (input.Message e.port c.session c.message)) (message_in e.port c.session c.message) h)) is
   was_in (Loses e) can stays h = inl h
   was_in (Publishes i) can stays h = inl (changed_in i router_publishing (λ r. refl) h)
   was_in (PublishesSome i n) can stays h = inl (changed_in i (router_publishing_some n) (λ r. refl) h)
@@ -127,7 +127,7 @@ module _ (t : Topology) (w : Processes) (f : LinkEnd) (session : ℕ) where
 -- ---- on the link
 
 -- the end across has been in the session, or in a later one, also once this has happened
-last_next : (m : Moment) (e : LinkEnd) (session : ℕ) (h : Happening) → (m.topology).valid e ≡ true → Survives e session m h → session ≤ (m.processes).last ((m.topology).far e) → session ≤ (next m.topology m.processes h).last ((m.topology).far e)
+last_next : (m : Moment) (e : LinkEnd) (session : ℕ) (h : Happening) → (m.topology).valid e ≡ true → Survives e session m h → session ≤ (m.processes).last ((m.topology).far e) → session ≤ (after_happening m.topology m.processes h).last ((m.topology).far e)
 last_next m e session (Tells i x) v S le = omega (arith, le)
 last_next m e session (Takes d) v S le = by_take m.topology m.processes (λ v. session ≤ v.last ((m.topology).far e)) le d (λ c at past. le)
 last_next m e session (Loses d) v S le = le
@@ -137,7 +137,7 @@ last_next m e session (Forgets i p) v S le = le
 last_next m e session (Releases i) v S le = by_release m.topology m.processes (λ v. session ≤ v.last ((m.topology).far e)) le i (λ x at. le)
 last_next m e session (BeginsAnew i costs attachments) v S le = by_place (anew_at m.topology i m.processes ((m.topology).far e))
   where
-    by_place : Anew m.topology i m.processes ((m.topology).far e) → session ≤ (next m.topology m.processes (BeginsAnew i costs attachments)).last ((m.topology).far e)
+    by_place : Anew m.topology i m.processes ((m.topology).far e) → session ≤ (after_happening m.topology m.processes (BeginsAnew i costs attachments)).last ((m.topology).far e)
     by_place (Here g is) = absurd (S.0 (sym g))
     by_place (Across d g is) = (let own = S.1 (sym g ∙ ap (λ (x : LinkEnd). x.router) ((m.topology).far_far e v)) in omega (arith, is, own))
     by_place (Away d g is) = omega (arith, is, le)
@@ -160,11 +160,11 @@ last_same m K t e R on =
     same.last ∙ ap (m.processes).last (stays m K t e R on).far_is
 
 -- the link is there, and leads where it led
-record SameLink (m : Moment) (e : LinkEnd) (es : List Event) : Type 0 where
+record SameLink (m : Moment) (e : LinkEnd) (es : List DaemonEvent) : Type 0 where
   valid : (m.topology).valid e ≡ true
   far_is : ((moment_after m es).topology).far e ≡ (m.topology).far e
 
-same_link : (m : Moment) → IsKept m → (e : LinkEnd) (session : ℕ) (es : List Event) → IsOnLink e session m es → ((moment_after m es).topology).valid e ≡ true → SameLink m e es
+same_link : (m : Moment) → IsKept m → (e : LinkEnd) (session : ℕ) (es : List DaemonEvent) → IsOnLink e session m es → ((moment_after m es).topology).valid e ≡ true → SameLink m e es
 same_link m K e session [] on v = record { valid = v; far_is = refl }
 same_link m K e session (Goes k ∷ es) on v = absurd on
 same_link m K e session (Does h ∷ es) on v = (let rest = same_link (moment_next m h) (kept_next m h K on.0) e session es on.2 v in record { valid = rest.valid; far_is = rest.far_is })
@@ -174,7 +174,7 @@ same_link m K e session (Rewires t ∷ es) on v =
     record { valid = S.was; far_is = rest.far_is ∙ S.far_is }
 
 -- it was in the session when the packet left
-was_there : (m : Moment) → IsKept m → (e : LinkEnd) (session : ℕ) (es : List Event) → (m.topology).valid e ≡ true → session ≤ (m.processes).last ((m.topology).far e) → IsOnLink e session m es
+was_there : (m : Moment) → IsKept m → (e : LinkEnd) (session : ℕ) (es : List DaemonEvent) → (m.topology).valid e ≡ true → session ≤ (m.processes).last ((m.topology).far e) → IsOnLink e session m es
     → is_in_session (moment_after m es).processes (((moment_after m es).topology).far e) session ≡ true → is_in_session m.processes ((m.topology).far e) session ≡ true
 was_there m K e session [] v le on is = is
 was_there m K e session (Goes k ∷ es) v le on is = absurd on
@@ -191,7 +191,7 @@ was_there m K e session (Rewires t ∷ es) v le on is =
     subst (λ (f : LinkEnd). is_in_session m.processes f session ≡ true) S.far_is then_is
 
 -- the other end has been in that session, or in a later one, when the packet comes
-last_along : (m : Moment) → IsKept m → (e : LinkEnd) (session : ℕ) (es : List Event) → (m.topology).valid e ≡ true → session ≤ (m.processes).last ((m.topology).far e) → IsOnLink e session m es
+last_along : (m : Moment) → IsKept m → (e : LinkEnd) (session : ℕ) (es : List DaemonEvent) → (m.topology).valid e ≡ true → session ≤ (m.processes).last ((m.topology).far e) → IsOnLink e session m es
     → session ≤ ((moment_after m es).processes).last (((moment_after m es).topology).far e)
 last_along m K e session [] v le on = le
 last_along m K e session (Goes k ∷ es) v le on = absurd on
@@ -202,7 +202,7 @@ last_along m K e session (Rewires t ∷ es) v le on =
     last_along (moment_rewired m t) (kept_rewired m t K on.0) e session es S.is (omega (arith, last_is, le)) on.2
 
 -- what is kept then
-kept_after : (m : Moment) → IsKept m → (e : LinkEnd) (session : ℕ) (es : List Event) → IsOnLink e session m es → IsKept (moment_after m es)
+kept_after : (m : Moment) → IsKept m → (e : LinkEnd) (session : ℕ) (es : List DaemonEvent) → IsOnLink e session m es → IsKept (moment_after m es)
 kept_after m K e session [] on = K
 kept_after m K e session (Goes k ∷ es) on = absurd on
 kept_after m K e session (Does h ∷ es) on = kept_after (moment_next m h) (kept_next m h K on.0) e session es on.2
@@ -216,7 +216,7 @@ at_once m K i k q session p es row on leads = by_test (((moment_after m es).topo
     shown = ap (λ o. is_next_hop q session o) (ap (option_and_then next_hop) row) ∙ and_from (q == q) (session == session) (eq-eqb q q refl) (eq-eqb session session refl)
 
     by_test : (b : Bool) → (((moment_after m es).topology).valid (at_port i q) && is_in_session (moment_after m es).processes (((moment_after m es).topology).far (at_port i q)) session) ≡ b
-        → (if b then Some (((moment_after m es).topology).far (at_port i q)).router else None) ≡ Some k → entry_leads m.topology m.processes i (Via q session) ≡ Some k
+        → (if b then Some (((moment_after m es).topology).far (at_port i q)).router else None) ≡ Some k → session_leads m.topology m.processes i (Via q session) ≡ Some k
     by_test false is g = absurd (None_not_Some g)
     by_test true is g =
         let parts = and_parts (((moment_after m es).topology).valid (at_port i q)) (is_in_session (moment_after m es).processes (((moment_after m es).topology).far (at_port i q)) session) is in
@@ -239,7 +239,7 @@ in_order m K i k q session p es row on before leads = by_test (n.valid (at_port 
     shown : is_next_hop q session (next_hop_at p ((m.processes).routers i)) ≡ true
     shown = ap (λ o. is_next_hop q session o) (ap (option_and_then next_hop) row) ∙ and_from (q == q) (session == session) (eq-eqb q q refl) (eq-eqb session session refl)
 
-    by_test : (b : Bool) → n.valid (at_port i q) ≡ b → (d : Bool) → lets_in v (n.far (at_port i q)) ≡ d → (if b && d then Some (n.far (at_port i q)).router else None) ≡ Some k → entry_leads m.topology m.processes i (Via q session) ≡ Some k
+    by_test : (b : Bool) → n.valid (at_port i q) ≡ b → (d : Bool) → lets_in v (n.far (at_port i q)) ≡ d → (if b && d then Some (n.far (at_port i q)).router else None) ≡ Some k → session_leads m.topology m.processes i (Via q session) ≡ Some k
     by_test false a d b g = absurd (None_not_Some g)
     by_test true a false b g = absurd (None_not_Some g)
     by_test true a true b g =

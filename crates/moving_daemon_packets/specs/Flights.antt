@@ -4,9 +4,9 @@ use Rattle.std.specs.FinMap.{find as row_of}
 use Rattle.ipv4_prefix.specs.Prefix.{Prefix, prefix_cmp}
 use Rattle.network_model.specs.declared.route.Entry.{Entry}
 use Rattle.network_model.specs.View.{LinkEnd, at_port}
-use Rattle.daemon_laws.specs.Packets.{published_rows, entry_leads, unmarked_leads}
+use Rattle.daemon_laws.specs.Packets.{rows_in_force, session_leads, unmarked_leads}
 use Rattle.daemon_laws.specs.Happenings.{Happening, BeginsAnew, CanHappen, own_session, MayRewire, link_stays}
-use Rattle.moving_daemon_packets.specs.Moving.{Moment, moment_next, moment_rewired, moment_after, Event, Goes, Does, Rewires}
+use Rattle.moving_daemon_packets.specs.Moving.{Moment, moment_next, moment_rewired, moment_after, DaemonEvent, Goes, Does, Rewires}
 
 -- a packet that left by this end of a link in this session is not lost by what happens. What is on its way to a process ends with it, and so does what is on
 -- its way from one, but in sessions that the process at the other end has come into
@@ -15,7 +15,7 @@ Survives e session m (BeginsAnew i costs attachments) = (i ≢ ((m.topology).far
 Survives e session m _ = ⊤
 
 -- it is on the link while all this happens: by none of it it is lost, and the link stays
-abbrev pub IsOnLink : LinkEnd → ℕ → Moment → List Event → Type 0
+abbrev pub IsOnLink : LinkEnd → ℕ → Moment → List DaemonEvent → Type 0
 IsOnLink e session m [] = ⊤
 IsOnLink e session m (Goes k ∷ es) = ⊥
 IsOnLink e session m (Does h ∷ es) = CanHappen m.processes h × Survives e session m h × IsOnLink e session (moment_next m h) es
@@ -23,11 +23,11 @@ IsOnLink e session m (Rewires t ∷ es) = MayRewire m.topology t m.processes × 
 
 -- where its row leads when the packet is let in, it led when the packet left: so the hop may count as made then
 abbrev pub HopsAtOnce : Moment → Type 0
-HopsAtOnce m = (i k q session : ℕ) (p : Prefix) (es : List Event) → row_of prefix_cmp p (published_rows m.processes i) ≡ Some (Entry.Via q session) → IsOnLink (at_port i q) session m es
-    → entry_leads (moment_after m es).topology (moment_after m es).processes i (Entry.Via q session) ≡ Some k → entry_leads m.topology m.processes i (Entry.Via q session) ≡ Some k
+HopsAtOnce m = (i k q session : ℕ) (p : Prefix) (es : List DaemonEvent) → row_of prefix_cmp p (rows_in_force m.processes i) ≡ Some (Entry.Via q session) → IsOnLink (at_port i q) session m es
+    → session_leads (moment_after m es).topology (moment_after m es).processes i (Entry.Via q session) ≡ Some k → session_leads m.topology m.processes i (Entry.Via q session) ≡ Some k
 
 -- the same where packets tell no session, if the packet comes before each message of a later session
 abbrev pub UnmarkedHopsAtOnce : Moment → Type 0
-UnmarkedHopsAtOnce m = (i k q session : ℕ) (p : Prefix) (es : List Event) → row_of prefix_cmp p (published_rows m.processes i) ≡ Some (Entry.Via q session) → IsOnLink (at_port i q) session m es
+UnmarkedHopsAtOnce m = (i k q session : ℕ) (p : Prefix) (es : List DaemonEvent) → row_of prefix_cmp p (rows_in_force m.processes i) ≡ Some (Entry.Via q session) → IsOnLink (at_port i q) session m es
     → ((moment_after m es).processes).heard (((moment_after m es).topology).far (at_port i q)) ≤ session
-    → unmarked_leads (moment_after m es).topology (moment_after m es).processes i (Entry.Via q session) ≡ Some k → entry_leads m.topology m.processes i (Entry.Via q session) ≡ Some k
+    → unmarked_leads (moment_after m es).topology (moment_after m es).processes i (Entry.Via q session) ≡ Some k → session_leads m.topology m.processes i (Entry.Via q session) ≡ Some k

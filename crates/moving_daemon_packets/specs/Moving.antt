@@ -7,11 +7,11 @@ use Rattle.network_model.specs.View.{at_port}
 use Rattle.loop_freedom.specs.Network.{Topology}
 use Rattle.moving_packets.specs.Moving.{IsBetter}
 use Rattle.daemon_laws.specs.Processes.{Processes}
-use Rattle.daemon_laws.specs.Packets.{IsForwarded, published_rows, entry_leads}
+use Rattle.daemon_laws.specs.Packets.{IsForwardedByRows, rows_in_force, session_leads}
 use Rattle.daemon_laws.specs.Facts.{fds_next}
 use Rattle.daemon_laws.specs.Moments.{fds_reached}
-use Rattle.daemon_laws.specs.Rest.{published_entry}
-use Rattle.daemon_laws.specs.Happenings.{Happening, Publishes, PublishesSome, Forgets, BeginsAnew, CanHappen, next, MayRewire, is_new_link, rewired, IsReached}
+use Rattle.daemon_laws.specs.Rest.{entry_in_force}
+use Rattle.daemon_laws.specs.Happenings.{Happening, Publishes, PublishesSome, Forgets, BeginsAnew, CanHappen, after_happening, MayRewire, is_new_link, rewired, AreReached}
 
 -- the links and the processes at a moment, and the feasible distance with which each router published last
 pub record Moment : Type 0 where
@@ -21,7 +21,7 @@ pub record Moment : Type 0 where
 
 -- once this has happened
 abbrev pub moment_next : Moment → Happening → Moment
-moment_next m h = record { topology = m.topology; processes = next m.topology m.processes h; fd_published = λ p. fds_next p m.processes h (m.fd_published p) }
+moment_next m h = record { topology = m.topology; processes = after_happening m.topology m.processes h; fd_published = λ p. fds_next p m.processes h (m.fd_published p) }
 
 -- once ports have got other neighbours, so that the links are these. No router has published or chosen anything by that
 abbrev pub moment_rewired : Moment → Topology → Moment
@@ -29,52 +29,52 @@ moment_rewired m t = record { topology = t; processes = rewired m.topology t m.p
 
 -- what holds at every moment, whatever has happened since the routers began, and whichever neighbours ports have got
 abbrev pub HoldsAtEveryMoment : (Moment → Type 0) → Type 0
-HoldsAtEveryMoment P = (t : Topology) (w : Processes) (M : IsReached t w) → P (record { topology = t; processes = w; fd_published = fds_reached t w M })
+HoldsAtEveryMoment P = (t : Topology) (w : Processes) (M : AreReached t w) → P (record { topology = t; processes = w; fd_published = fds_reached t w M })
 
 -- what happens while a packet is on its way: it goes on to a router, or something else happens, or ports get other neighbours
-pub data Event : Type 0 where
-  Goes : (router : ℕ) → Event
-  Does : (happening : Happening) → Event
-  Rewires : (topology : Topology) → Event
+pub data DaemonEvent : Type 0 where
+  Goes : (router : ℕ) → DaemonEvent
+  Does : (happening : Happening) → DaemonEvent
+  Rewires : (topology : Topology) → DaemonEvent
 
 -- where a packet is after these events, which began at router i
-abbrev pub router_after : ℕ → List Event → ℕ
-router_after i [] = i
-router_after i (Goes k ∷ es) = router_after k es
-router_after i (Does h ∷ es) = router_after i es
-router_after i (Rewires t ∷ es) = router_after i es
+abbrev pub daemon_at_end : ℕ → List DaemonEvent → ℕ
+daemon_at_end i [] = i
+daemon_at_end i (Goes k ∷ es) = daemon_at_end k es
+daemon_at_end i (Does h ∷ es) = daemon_at_end i es
+daemon_at_end i (Rewires t ∷ es) = daemon_at_end i es
 
 -- the moment then
-abbrev pub moment_after : Moment → List Event → Moment
+abbrev pub moment_after : Moment → List DaemonEvent → Moment
 moment_after m [] = m
 moment_after m (Goes k ∷ es) = moment_after m es
 moment_after m (Does h ∷ es) = moment_after (moment_next m h) es
 moment_after m (Rewires t ∷ es) = moment_after (moment_rewired m t) es
 
 -- how entries lead on, over the links of a topology and in the processes of a moment
-abbrev pub Leads : Type 0
-Leads = Topology → Processes → ℕ → Entry → Option ℕ
+abbrev pub LeadsOn : Type 0
+LeadsOn = Topology → Processes → ℕ → Entry → Option ℕ
 
 -- a packet for the address, matched by this prefix among the rows in force, goes from one router to the other
-abbrev pub Forwards : Leads → Moment → ℕ → Prefix → ℕ → ℕ → Type 0
-Forwards leads m addr p i k = IsForwarded (leads m.topology m.processes) (published_rows m.processes) addr p i k
+abbrev pub Forwards : LeadsOn → Moment → ℕ → Prefix → ℕ → ℕ → Type 0
+Forwards leads m addr p i k = IsForwardedByRows (leads m.topology m.processes) (rows_in_force m.processes) addr p i k
 
 -- a packet is at router k, where it came by a row of prefix p whose published feasible distance was f. It goes on along the rows in force at each moment,
 -- whatever happens meanwhile, and stays near: whenever it leaves a router, and at the end, that router's published feasible distance for the prefix by which
 -- the packet came is still below that of the row by which it came
-abbrev pub StaysNear : Leads → Moment → ℕ → Prefix → ℕ → ℕ → List Event → Type 0
-StaysNear leads m addr p f k [] = m.fd_published p k < f
-StaysNear leads m addr p f k (Goes l ∷ es) = (m.fd_published p k < f) × ((q : Prefix) × Forwards leads m addr q k l × StaysNear leads m addr q (m.fd_published q k) l es)
-StaysNear leads m addr p f k (Does h ∷ es) = CanHappen m.processes h × StaysNear leads (moment_next m h) addr p f k es
-StaysNear leads m addr p f k (Rewires t ∷ es) = MayRewire m.topology t m.processes × StaysNear leads (moment_rewired m t) addr p f k es
+abbrev pub StaysNearAtDaemons : LeadsOn → Moment → ℕ → Prefix → ℕ → ℕ → List DaemonEvent → Type 0
+StaysNearAtDaemons leads m addr p f k [] = m.fd_published p k < f
+StaysNearAtDaemons leads m addr p f k (Goes l ∷ es) = (m.fd_published p k < f) × ((q : Prefix) × Forwards leads m addr q k l × StaysNearAtDaemons leads m addr q (m.fd_published q k) l es)
+StaysNearAtDaemons leads m addr p f k (Does h ∷ es) = CanHappen m.processes h × StaysNearAtDaemons leads (moment_next m h) addr p f k es
+StaysNearAtDaemons leads m addr p f k (Rewires t ∷ es) = MayRewire m.topology t m.processes × StaysNearAtDaemons leads (moment_rewired m t) addr p f k es
 
 -- the feasible distance of router i for the prefix
-abbrev pub fd_chosen : Moment → Prefix → ℕ → ℕ
-fd_chosen m p i = (machine_of ((m.processes).routers i) p).fd
+abbrev pub moment_fd : Moment → Prefix → ℕ → ℕ
+moment_fd m p i = (machine_of ((m.processes).routers i) p).fd
 
 -- whether it is higher once this has happened
-abbrev pub rises : Moment → Happening → Prefix → ℕ → Bool
-rises m h p i = nat_lt (fd_chosen m p i) (fd_chosen (moment_next m h) p i)
+abbrev pub happening_raises : Moment → Happening → Prefix → ℕ → Bool
+happening_raises m h p i = nat_lt (moment_fd m p i) (moment_fd (moment_next m h) p i)
 
 -- whether the published one is
 abbrev pub published_rises : Moment → Happening → Prefix → ℕ → Bool
@@ -88,68 +88,68 @@ loses_all k _ = false
 
 -- the same of a packet that is where no rise of a feasible distance, for the prefix by which it came, is both begun and published while it is there, and none
 -- is published by a router that forgets or begins anew: risen says whether one has begun. A port that gets another neighbour is no rise, and ends none that has begun
-abbrev pub IsCalm : Leads → Moment → ℕ → Prefix → Bool → ℕ → List Event → Type 0
-IsCalm leads m addr p risen k [] = ⊤
-IsCalm leads m addr p risen k (Goes l ∷ es) = (q : Prefix) × Forwards leads m addr q k l × IsCalm leads m addr q false l es
-IsCalm leads m addr p risen k (Does h ∷ es) = CanHappen m.processes h × (((risen || loses_all k h) && published_rises m h p k) ≡ false)
-    × IsCalm leads (moment_next m h) addr p (risen || rises m h p k) k es
-IsCalm leads m addr p risen k (Rewires t ∷ es) = MayRewire m.topology t m.processes × IsCalm leads (moment_rewired m t) addr p risen k es
+abbrev pub IsCalmAtDaemons : LeadsOn → Moment → ℕ → Prefix → Bool → ℕ → List DaemonEvent → Type 0
+IsCalmAtDaemons leads m addr p risen k [] = ⊤
+IsCalmAtDaemons leads m addr p risen k (Goes l ∷ es) = (q : Prefix) × Forwards leads m addr q k l × IsCalmAtDaemons leads m addr q false l es
+IsCalmAtDaemons leads m addr p risen k (Does h ∷ es) = CanHappen m.processes h × (((risen || loses_all k h) && published_rises m h p k) ≡ false)
+    × IsCalmAtDaemons leads (moment_next m h) addr p (risen || happening_raises m h p k) k es
+IsCalmAtDaemons leads m addr p risen k (Rewires t ∷ es) = MayRewire m.topology t m.processes × IsCalmAtDaemons leads (moment_rewired m t) addr p risen k es
 
 -- such a packet stays near
-abbrev pub CalmStaysNear : Leads → Moment → Type 0
-CalmStaysNear leads m = (addr i k : ℕ) (p : Prefix) (es : List Event) → Forwards leads m addr p i k → IsCalm leads m addr p false k es → StaysNear leads m addr p (m.fd_published p i) k es
+abbrev pub CalmStaysNearAtDaemons : LeadsOn → Moment → Type 0
+CalmStaysNearAtDaemons leads m = (addr i k : ℕ) (p : Prefix) (es : List DaemonEvent) → Forwards leads m addr p i k → IsCalmAtDaemons leads m addr p false k es → StaysNearAtDaemons leads m addr p (m.fd_published p i) k es
 
 -- since a packet left router i by a row of prefix p, the router has published a better way for it
-abbrev pub HasBetter : ℕ → ℕ → Prefix → Moment → Moment → Type 0
-HasBetter addr i p m m' = IsBetter addr p (m.fd_published p i) (m'.fd_published p i) (published_entry m.processes i) (published_entry m'.processes i)
+abbrev pub HasBetterAtDaemons : ℕ → ℕ → Prefix → Moment → Moment → Type 0
+HasBetterAtDaemons addr i p m m' = IsBetter addr p (m.fd_published p i) (m'.fd_published p i) (entry_in_force m.processes i) (entry_in_force m'.processes i)
 
 -- a packet that stays near comes back to a router only where that has published a better way since
-abbrev pub ComesBackForBetter : Leads → Moment → Type 0
-ComesBackForBetter leads m = (addr i k : ℕ) (p q : Prefix) (es : List Event) → Forwards leads m addr p i k → StaysNear leads m addr p (m.fd_published p i) k es
-    → Forwards leads (moment_after m es) addr q (router_after k es) i → HasBetter addr i p m (moment_after m es)
+abbrev pub ComesBackForBetterAtDaemons : LeadsOn → Moment → Type 0
+ComesBackForBetterAtDaemons leads m = (addr i k : ℕ) (p q : Prefix) (es : List DaemonEvent) → Forwards leads m addr p i k → StaysNearAtDaemons leads m addr p (m.fd_published p i) k es
+    → Forwards leads (moment_after m es) addr q (daemon_at_end k es) i → HasBetterAtDaemons addr i p m (moment_after m es)
 
 -- whether the rows that router i has published may change by this: it publishes, forgets a prefix, or its process begins anew
-abbrev pub publishes : ℕ → Happening → Bool
-publishes i (Publishes j) = i == j
-publishes i (PublishesSome j n) = i == j
-publishes i (Forgets j p) = i == j
-publishes i (BeginsAnew j costs attachments) = i == j
-publishes i _ = false
+abbrev pub happening_publishes : ℕ → Happening → Bool
+happening_publishes i (Publishes j) = i == j
+happening_publishes i (PublishesSome j n) = i == j
+happening_publishes i (Forgets j p) = i == j
+happening_publishes i (BeginsAnew j costs attachments) = i == j
+happening_publishes i _ = false
 
 -- whether it does so meanwhile. A port that gets another neighbour publishes nothing
-abbrev pub has_published : ℕ → List Event → Bool
-has_published i [] = false
-has_published i (Goes k ∷ es) = has_published i es
-has_published i (Does h ∷ es) = publishes i h || has_published i es
-has_published i (Rewires t ∷ es) = has_published i es
+abbrev pub publishes_meanwhile : ℕ → List DaemonEvent → Bool
+publishes_meanwhile i [] = false
+publishes_meanwhile i (Goes k ∷ es) = publishes_meanwhile i es
+publishes_meanwhile i (Does h ∷ es) = happening_publishes i h || publishes_meanwhile i es
+publishes_meanwhile i (Rewires t ∷ es) = publishes_meanwhile i es
 
 -- so not to one that has published nothing since
-abbrev pub ComesBackOncePublished : Leads → Moment → Type 0
-ComesBackOncePublished leads m = (addr i k : ℕ) (p q : Prefix) (es : List Event) → Forwards leads m addr p i k → StaysNear leads m addr p (m.fd_published p i) k es
-    → Forwards leads (moment_after m es) addr q (router_after k es) i → has_published i es ≡ true
+abbrev pub ComesBackOncePublishedAtDaemons : LeadsOn → Moment → Type 0
+ComesBackOncePublishedAtDaemons leads m = (addr i k : ℕ) (p q : Prefix) (es : List DaemonEvent) → Forwards leads m addr p i k → StaysNearAtDaemons leads m addr p (m.fd_published p i) k es
+    → Forwards leads (moment_after m es) addr q (daemon_at_end k es) i → publishes_meanwhile i es ≡ true
 
 -- how often a packet comes to router i
-abbrev pub visits : ℕ → List Event → ℕ
-visits i [] = 0
-visits i (Goes k ∷ es) = if i == k then suc (visits i es) else visits i es
-visits i (Does h ∷ es) = visits i es
-visits i (Rewires t ∷ es) = visits i es
+abbrev pub visits_meanwhile : ℕ → List DaemonEvent → ℕ
+visits_meanwhile i [] = 0
+visits_meanwhile i (Goes k ∷ es) = if i == k then suc (visits_meanwhile i es) else visits_meanwhile i es
+visits_meanwhile i (Does h ∷ es) = visits_meanwhile i es
+visits_meanwhile i (Rewires t ∷ es) = visits_meanwhile i es
 
 -- how often that publishes meanwhile, or forgets or begins anew
-abbrev pub publications : ℕ → List Event → ℕ
-publications i [] = 0
-publications i (Goes k ∷ es) = publications i es
-publications i (Does h ∷ es) = if publishes i h then suc (publications i es) else publications i es
-publications i (Rewires t ∷ es) = publications i es
+abbrev pub publications_meanwhile : ℕ → List DaemonEvent → ℕ
+publications_meanwhile i [] = 0
+publications_meanwhile i (Goes k ∷ es) = publications_meanwhile i es
+publications_meanwhile i (Does h ∷ es) = if happening_publishes i h then suc (publications_meanwhile i es) else publications_meanwhile i es
+publications_meanwhile i (Rewires t ∷ es) = publications_meanwhile i es
 
 -- a packet that stays near comes back to a router at most as often as that publishes meanwhile
-abbrev pub ComesBackSeldom : Leads → Moment → Type 0
-ComesBackSeldom leads m = (addr i k : ℕ) (p : Prefix) (es : List Event) → Forwards leads m addr p i k → StaysNear leads m addr p (m.fd_published p i) k es → visits i es ≤ publications i es
+abbrev pub ComesBackSeldomAtDaemons : LeadsOn → Moment → Type 0
+ComesBackSeldomAtDaemons leads m = (addr i k : ℕ) (p : Prefix) (es : List DaemonEvent) → Forwards leads m addr p i k → StaysNearAtDaemons leads m addr p (m.fd_published p i) k es → visits_meanwhile i es ≤ publications_meanwhile i es
 
 -- ---- that there is something to say
 
 -- these happenings, as events
-abbrev pub doing : List Happening → List Event
+abbrev pub doing : List Happening → List DaemonEvent
 doing [] = []
 doing (h ∷ hs) = Does h ∷ doing hs
 
@@ -157,7 +157,7 @@ doing (h ∷ hs) = Does h ∷ doing hs
 pub record SomeComesBack : Type 0 where
   pub before : Topology
   pub processes : Processes
-  pub reached : IsReached before processes
+  pub reached : AreReached before processes
   pub topology : Topology
   pub happenings : List Happening
   pub addr : ℕ
@@ -168,6 +168,6 @@ pub record SomeComesBack : Type 0 where
   pub was_linked : before.valid (at_port router port) ≡ true
   pub is_linked : topology.valid (at_port router port) ≡ true
   pub new : is_new_link before topology (at_port router port) ≡ true
-  pub goes : Forwards entry_leads (record { topology = before; processes = processes; fd_published = fds_reached before processes reached }) addr prefix router to
-  pub near : StaysNear entry_leads (record { topology = before; processes = processes; fd_published = fds_reached before processes reached }) addr prefix (fds_reached before processes reached prefix router) to (Rewires topology ∷ doing happenings)
-  pub goes_back : Forwards entry_leads (moment_after (record { topology = before; processes = processes; fd_published = fds_reached before processes reached }) (Rewires topology ∷ doing happenings)) addr prefix to router
+  pub goes : Forwards session_leads (record { topology = before; processes = processes; fd_published = fds_reached before processes reached }) addr prefix router to
+  pub near : StaysNearAtDaemons session_leads (record { topology = before; processes = processes; fd_published = fds_reached before processes reached }) addr prefix (fds_reached before processes reached prefix router) to (Rewires topology ∷ doing happenings)
+  pub goes_back : Forwards session_leads (moment_after (record { topology = before; processes = processes; fd_published = fds_reached before processes reached }) (Rewires topology ∷ doing happenings)) addr prefix to router

@@ -20,9 +20,9 @@
 //! What is not said: how many hops a packet makes. The law has no number of routers.
 #![tactic(auto)]
 
-ghost use Rattle.daemon_laws.specs.Packets.{entry_leads, unmarked_leads};
+ghost use Rattle.daemon_laws.specs.Packets.{session_leads, unmarked_leads};
 ghost use Rattle.moving_daemon_packets.specs.Flights.{HopsAtOnce, UnmarkedHopsAtOnce};
-ghost use Rattle.moving_daemon_packets.specs.Moving.{HoldsAtEveryMoment, ComesBackForBetter, ComesBackOncePublished, ComesBackSeldom, CalmStaysNear, SomeComesBack};
+ghost use Rattle.moving_daemon_packets.specs.Moving.{HoldsAtEveryMoment, ComesBackForBetterAtDaemons, ComesBackOncePublishedAtDaemons, ComesBackSeldomAtDaemons, CalmStaysNearAtDaemons, SomeComesBack};
 
 /// Whatever happens, and in which order, also while ports get other neighbours: a packet that stays near comes back
 /// to a router only where that has published a better way since, and at most as often as that publishes, forgets a
@@ -32,14 +32,14 @@ ghost use Rattle.moving_daemon_packets.specs.Moving.{HoldsAtEveryMoment, ComesBa
 /// the session of the row, and where they do not and routers let in only what comes in the session of the message
 /// that they took last.
 pub fn comes_back()
-    ensures marked { HoldsAtEveryMoment (ComesBackForBetter entry_leads) }
-    ensures unmarked { HoldsAtEveryMoment (ComesBackForBetter unmarked_leads) }
-    ensures published { HoldsAtEveryMoment (ComesBackOncePublished entry_leads) }
-    ensures unmarked_published { HoldsAtEveryMoment (ComesBackOncePublished unmarked_leads) }
-    ensures seldom { HoldsAtEveryMoment (ComesBackSeldom entry_leads) }
-    ensures unmarked_seldom { HoldsAtEveryMoment (ComesBackSeldom unmarked_leads) }
-    ensures calm { HoldsAtEveryMoment (CalmStaysNear entry_leads) }
-    ensures unmarked_calm { HoldsAtEveryMoment (CalmStaysNear unmarked_leads) }
+    ensures marked { HoldsAtEveryMoment (ComesBackForBetterAtDaemons session_leads) }
+    ensures unmarked { HoldsAtEveryMoment (ComesBackForBetterAtDaemons unmarked_leads) }
+    ensures published { HoldsAtEveryMoment (ComesBackOncePublishedAtDaemons session_leads) }
+    ensures unmarked_published { HoldsAtEveryMoment (ComesBackOncePublishedAtDaemons unmarked_leads) }
+    ensures seldom { HoldsAtEveryMoment (ComesBackSeldomAtDaemons session_leads) }
+    ensures unmarked_seldom { HoldsAtEveryMoment (ComesBackSeldomAtDaemons unmarked_leads) }
+    ensures calm { HoldsAtEveryMoment (CalmStaysNearAtDaemons session_leads) }
+    ensures unmarked_calm { HoldsAtEveryMoment (CalmStaysNearAtDaemons unmarked_leads) }
 {}
 
 /// A packet that is long on a link went when it left: where its row leads when the packet is let in, it led already

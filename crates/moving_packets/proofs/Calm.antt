@@ -3,7 +3,7 @@ use Rattle.std.proofs.Common.{sym, ap, subst, ◌∙◌, arith, ◌<◌, ◌≡�
 use Rattle.no_packet_loops.proofs.Common.{Prefix, Entry, IsForwarded, History, history, with_step, Some_injective}
 use Rattle.no_packet_loops.specs.Packets.{published_entry}
 use Rattle.all_packets.specs.Journeys.{Event, Goes, Does, routers_met}
-use Rattle.moving_packets.specs.Moving.{HoldsAfterEveryRun, fd_chosen, fd_published, rises, router_after, history_after, StaysNear, IsCalm, CalmStaysNear, IsBy, HasBetter, ComesBackForBetter, HopsComeNearer}
+use Rattle.moving_packets.specs.Moving.{HoldsAfterEveryRun, fd_chosen, fd_published, rises, router_at_end, history_after, StaysNear, IsCalm, CalmStaysNear, IsBy, HasBetter, ComesBackForBetter, HopsComeNearer}
 use Rattle.moving_packets.proofs.Reached.{IsMade, made, made_more, bounded, covered, goes_before, lower, has_row, stays_or_chosen}
 use Rattle.moving_packets.proofs.Returns.{IsLow, stays_low, IsOn, Descends, first_on, goes_on, comes_back}
 
@@ -15,7 +15,7 @@ descends = record { covered = covered; goes_before = goes_before; bounded = boun
 
 -- whatever is done meanwhile
 module _ (h0 : History) (M0 : IsMade h0) (addr i k0 : ℕ) (p : Prefix) (F0 : IsForwarded h0.world addr p i k0) where
-  returns : (h : History) → IsMade h → (q : Prefix) (k g : ℕ) (es : List Event) → IsOn addr p (fd_published h0 p i) q g → StaysNear h addr q g k es → (q' : Prefix) → IsForwarded (history_after h es).world addr q' (router_after k es) i → HasBetter addr i p h0 (history_after h es)
+  returns : (h : History) → IsMade h → (q : Prefix) (k g : ℕ) (es : List Event) → IsOn addr p (fd_published h0 p i) q g → StaysNear h addr q g k es → (q' : Prefix) → IsForwarded (history_after h es).world addr q' (router_at_end k es) i → HasBetter addr i p h0 (history_after h es)
   returns h M q k g [] O C q' F = comes_back descends h0 M0 addr i k0 p F0 h M q k g O C q' F
   returns h M q k g (Goes l ∷ es) O C q' F = returns h M (C.1).0 l (fd_published h (C.1).0 k) es (goes_on descends h M addr p (fd_published h0 p i) q k g O C.0 (C.1).0 l (C.1).1) (C.1).2 q' F
   returns h M q k g (Does s ∷ es) O C q' F = returns (with_step h s) (made_more h s M C.0) q k g es O C.1 q' F
@@ -49,7 +49,7 @@ always_near n ss w valid r addr i k p es F C =
 -- ---- how far it goes
 
 -- each hop by one prefix brings it nearer
-nearer : (h : History) (addr : ℕ) (p : Prefix) (k g : ℕ) (es : List Event) → StaysNear h addr p g k es → IsBy h addr p k es → length (routers_met es) + fd_published (history_after h es) p (router_after k es) < g
+nearer : (h : History) (addr : ℕ) (p : Prefix) (k g : ℕ) (es : List Event) → StaysNear h addr p g k es → IsBy h addr p k es → length (routers_met es) + fd_published (history_after h es) p (router_at_end k es) < g
 nearer h addr p k g [] C B = omega (arith, C)
 nearer h addr p k g (Goes l ∷ es) C B =
     let same : (C.1).0 ≡ p = ap (λ (r : Prefix × Entry). r.0) (Some_injective (sym ((C.1).1).1 ∙ (B.0).1)) in

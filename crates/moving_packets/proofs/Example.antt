@@ -6,7 +6,7 @@ use Rattle.network_model.specs.declared.step.Step.{Step}
 use Rattle.network_model.specs.declared.step.Step.TheVariants.{LinkUp, LinkDown, Deliver, Publish, Release}
 use Rattle.all_packets.specs.Journeys.{Event, Does}
 use Rattle.no_packet_loops.proofs.Runs.{history_world}
-use Rattle.moving_packets.specs.Moving.{fd_published, router_after, history_after, StaysNear, IsMoving, HasBetter, SomeComesBackForBetter, SomeComesBackAfterRise}
+use Rattle.moving_packets.specs.Moving.{fd_published, router_at_end, history_after, StaysNear, IsMoving, HasBetter, SomeComesBackForBetter, SomeComesBackAfterRise}
 
 -- ---- a packet that waits
 
@@ -16,7 +16,7 @@ waiting [] = []
 waiting (s ∷ ss) = Does s ∷ waiting ss
 
 -- where it waits through lawful steps it is where it was
-waits : (ss : List Step) (k : ℕ) → router_after k (waiting ss) ≡ k
+waits : (ss : List Step) (k : ℕ) → router_at_end k (waiting ss) ≡ k
 waits [] k = refl
 waits (s ∷ ss) k = waits ss k
 

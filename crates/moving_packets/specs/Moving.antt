@@ -36,25 +36,25 @@ abbrev pub rises : (History → Prefix → ℕ → ℕ) → History → Step →
 rises fd h s p i = nat_lt (fd h p i) (fd (with_step h s) p i)
 
 -- the machine of router i for the prefix
-abbrev pub machine_at : World → Prefix → ℕ → Machine
-machine_at w p i = option_map_or (λ r. machine_of r p) (slice_get w.routers i) (opening_machine None [])
+abbrev pub machine_in : World → Prefix → ℕ → Machine
+machine_in w p i = option_map_or (λ r. machine_of r p) (slice_get w.routers i) (opening_machine None [])
 
 -- where the feasible distances of a router rise
 pub record RisesComeFrom (h : History) : Type 0 where
   -- the present one where it takes something; and if a port is up then, at the end of a computation, to its distance at most
   pub taken : (s : Step) (p : Prefix) (i : ℕ) → Lawful h.world s → rises fd_chosen h s p i ≡ true → (q : ℕ) × (s ≡ Deliver i q)
-  pub completed : (s : Step) (p : Prefix) (i q : ℕ) → Lawful h.world s → rises fd_chosen h s p i ≡ true → is_up_at (machine_at (next h.world s) p i) q ≡ true
-      → (is_active (machine_at h.world p i) ≡ true) × (fd_chosen (with_step h s) p i ≤ (machine_at h.world p i).rd)
+  pub completed : (s : Step) (p : Prefix) (i q : ℕ) → Lawful h.world s → rises fd_chosen h s p i ≡ true → is_up_at (machine_in (next h.world s) p i) q ≡ true
+      → (is_active (machine_in h.world p i) ≡ true) × (fd_chosen (with_step h s) p i ≤ (machine_in h.world p i).rd)
   -- the published one where it publishes
   pub published : (s : Step) (p : Prefix) (i : ℕ) → Lawful h.world s → rises fd_published h s p i ≡ true → s ≡ Publish i
 
 -- ---- a packet that moves
 
 -- where a packet is after these events, which began at router i
-abbrev pub router_after : ℕ → List Event → ℕ
-router_after i [] = i
-router_after i (Goes k ∷ es) = router_after k es
-router_after i (Does s ∷ es) = router_after i es
+abbrev pub router_at_end : ℕ → List Event → ℕ
+router_at_end i [] = i
+router_at_end i (Goes k ∷ es) = router_at_end k es
+router_at_end i (Does s ∷ es) = router_at_end i es
 
 -- what was done once these events have happened
 abbrev pub history_after : History → List Event → History
@@ -97,7 +97,7 @@ HasBetter addr i p h h' = IsBetter addr p (fd_published h p i) (fd_published h' 
 -- a packet that stays near comes back to a router only where that has published a better way since
 abbrev pub ComesBackForBetter : History → Type 0
 ComesBackForBetter h = (addr i k : ℕ) (p q : Prefix) (es : List Event) → IsForwarded h.world addr p i k → StaysNear h addr p (fd_published h p i) k es
-    → IsForwarded (history_after h es).world addr q (router_after k es) i → HasBetter addr i p h (history_after h es)
+    → IsForwarded (history_after h es).world addr q (router_at_end k es) i → HasBetter addr i p h (history_after h es)
 
 -- whether router i publishes meanwhile
 abbrev pub publishes : ℕ → Step → Bool
@@ -113,7 +113,7 @@ has_published i (Does s ∷ es) = publishes i s || has_published i es
 -- so not to one that has published nothing since
 abbrev pub ComesBackOncePublished : History → Type 0
 ComesBackOncePublished h = (addr i k : ℕ) (p q : Prefix) (es : List Event) → IsForwarded h.world addr p i k → StaysNear h addr p (fd_published h p i) k es
-    → IsForwarded (history_after h es).world addr q (router_after k es) i → has_published i es ≡ true
+    → IsForwarded (history_after h es).world addr q (router_at_end k es) i → has_published i es ≡ true
 
 -- how often a packet comes to router i
 abbrev pub visits : ℕ → List Event → ℕ
@@ -142,7 +142,7 @@ IsBy h addr p k (Does s ∷ es) = IsBy (with_step h s) addr p k es
 -- where a packet stays near, each hop by one prefix brings it nearer, by the published feasible distances
 abbrev pub HopsComeNearer : History → Type 0
 HopsComeNearer h = (addr i k : ℕ) (p : Prefix) (es : List Event) → IsForwarded h.world addr p i k → StaysNear h addr p (fd_published h p i) k es → IsBy h addr p k es
-    → length (i ∷ routers_met es) + fd_published (history_after h es) p (router_after k es) ≤ fd_published h p i
+    → length (i ∷ routers_met es) + fd_published (history_after h es) p (router_at_end k es) ≤ fd_published h p i
 
 -- a packet goes on along the rows in force at each moment, while lawful steps of every kind are done
 abbrev pub IsMoving : World → ℕ → ℕ → List Event → Type 0
@@ -176,11 +176,11 @@ HopsEnd w = (most : ℕ) × ((addr i : ℕ) (es : List Event) → i < length w.r
 abbrev pub SomeComesBackForBetter : Type 0
 SomeComesBackForBetter = (n : Network) × (ss : List Step) × (w : World) × (addr : ℕ) × (i : ℕ) × (k : ℕ) × (p : Prefix) × (es : List Event) × IsNetwork n × Runs (opening n) ss w
     × IsForwarded (history n ss).world addr p i k × StaysNear (history n ss) addr p (fd_published (history n ss) p i) k es
-    × IsForwarded (history_after (history n ss) es).world addr p (router_after k es) i
+    × IsForwarded (history_after (history n ss) es).world addr p (router_at_end k es) i
 
 -- some packet does not stay near, and comes back to a router that has no better way
 abbrev pub SomeComesBackAfterRise : Type 0
 SomeComesBackAfterRise = (n : Network) × (ss : List Step) × (w : World) × (addr : ℕ) × (i : ℕ) × (k : ℕ) × (p : Prefix) × (es : List Event) × IsNetwork n × Runs (opening n) ss w
     × IsForwarded (history n ss).world addr p i k × IsMoving w addr k es
-    × IsForwarded (history_after (history n ss) es).world addr p (router_after k es) i
+    × IsForwarded (history_after (history n ss) es).world addr p (router_at_end k es) i
     × (HasBetter addr i p (history n ss) (history_after (history n ss) es) → ⊥)

@@ -6,7 +6,7 @@ use Rattle.std.proofs.lemmas.Option.{none-some}
 use Rattle.c_interface.specs.Faults.{first_of}
 use Rattle.c_interface.specs.declared.fault.CallFault.{CallFault}
 use Rattle.single_router.specs.Openings.{first_fault_in}
-use Rattle.network_calls.specs.Parts.{attachment_fault, first_place, link_fault, list_fault, listed, IsOpeningFault}
+use Rattle.network_calls.specs.Parts.{attachment_parts_fault, first_place, link_fault, list_fault, failure_in_list, IsOpeningFault}
 use Rattle.network_calls.specs.declared.failure.Failure.{Failure}
 use Rattle.network_calls.specs.declared.failure.Failure.TheVariants.{Given}
 use Rattle.c_interface.specs.declared.fault.CallFault.TheVariants.{NoMemory}
@@ -42,11 +42,11 @@ no_fault {X} fault k (x ∷ xs) none = by_first (fault x) refl none (no_fault fa
 -- ---- the first fault of the lists
 
 module _ (links : List LinkParts) (attachments : List AttachmentParts) where
-  pub none_listed : first_place link_fault 0 links ≡ None → first_place attachment_fault 0 attachments ≡ None → list_fault links attachments ≡ None
+  pub none_listed : first_place link_fault 0 links ≡ None → first_place attachment_parts_fault 0 attachments ≡ None → list_fault links attachments ≡ None
   none_listed no_link no_attachment =
-      ap (λ a. option_map_or (λ f. Some (listed 1 f)) a (option_map (listed 2) (first_place attachment_fault 0 attachments))) no_link ∙ ap (option_map (listed 2)) no_attachment
+      ap (λ a. option_map_or (λ f. Some (failure_in_list 1 f)) a (option_map (failure_in_list 2) (first_place attachment_parts_fault 0 attachments))) no_link ∙ ap (option_map (failure_in_list 2)) no_attachment
 
   -- so only memory can be lacked
-  pub lacks_memory : (network : Option (Failure × FaultPlace)) → first_place link_fault 0 links ≡ None → first_place attachment_fault 0 attachments ≡ None
+  pub lacks_memory : (network : Option (Failure × FaultPlace)) → first_place link_fault 0 links ≡ None → first_place attachment_parts_fault 0 attachments ≡ None
       → IsOpeningFault (list_fault links attachments) network (Given NoMemory, record { position = 0; list = 0 })
   lacks_memory network no_link no_attachment = subst (λ o. IsOpeningFault o network (Given NoMemory, record { position = 0; list = 0 })) (sym (none_listed no_link no_attachment)) (inl refl)

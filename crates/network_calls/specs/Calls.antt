@@ -24,7 +24,7 @@ use Rattle.simulation.specs.Simulation.{Simulation, after_steps, simulation_refu
 use Rattle.simulation.specs.Tracing.{IsTraced}
 use Rattle.network_calls.specs.Failures.{failure_number, refusal_number}
 use Rattle.network_calls.specs.Steps.{parts_of_step_fault, step_of}
-use Rattle.network_calls.specs.Shown.{machine_at}
+use Rattle.network_calls.specs.Shown.{machine_heard}
 use Rattle.network_calls.specs.declared.machine.MachineShown.{MachineShown}
 use Rattle.network_calls.specs.declared.counts.Counts.{Counts}
 use Rattle.network_calls.specs.declared.failure.Failure.{Failure}
@@ -32,13 +32,13 @@ use Rattle.network_calls.specs.declared.failure.Failure.TheVariants.{Given, Refu
 use Rattle.network_calls.specs.declared.step.StepParts.{StepParts}
 
 -- what a test of the network finds; that the handle holds none comes first
-abbrev pub held_fault : (Simulation → Option Failure) → Option Simulation → Option Failure
-held_fault test None = Some (Given Empty)
-held_fault test (Some s) = test s
+abbrev pub held_failure : (Simulation → Option Failure) → Option Simulation → Option Failure
+held_failure test None = Some (Given Empty)
+held_failure test (Some s) = test s
 
 -- why nothing is done with a network as a whole: the handle holds none
 abbrev pub at_all : Option Simulation → Option Failure
-at_all held = held_fault (λ s. None) held
+at_all held = held_failure (λ s. None) held
 
 -- what the test of router i finds; that there is none comes first
 abbrev pub router_fault : {X : Type 0} → (X → Option Failure) → List X → ℕ → Option Failure
@@ -52,7 +52,7 @@ running_fault parts s = option_map_or (λ f. Some (Given f)) (parts_of_step_faul
 
 -- the same of the network that a handle holds; a fault of the parts comes first
 abbrev pub step_fault : StepParts → Option Simulation → Option Failure
-step_fault parts held = option_map_or (λ f. Some (Given f)) (parts_of_step_fault parts) (held_fault (λ s. option_map (λ e. Refused e) (simulation_refusal s (step_of parts))) held)
+step_fault parts held = option_map_or (λ f. Some (Given f)) (parts_of_step_fault parts) (held_failure (λ s. option_map (λ e. Refused e) (simulation_refusal s (step_of parts))) held)
 
 -- what a step may need memory for: all but a link that goes down, the release of a message that is stale, and a delivery at a router with room
 abbrev pub StepNeedsMemory : Step → World → Type 0
@@ -103,24 +103,24 @@ pub record IsSettling (old new : Simulation) (most done status : ℕ) : Type 0 w
 
 -- why nothing is looked up
 abbrev pub lookup_fault : ℕ → ℕ → ℕ → Option Simulation → Option Failure
-lookup_fault i addrs answers held = held_fault (λ s. router_fault (λ (image : Image). if addrs == answers then None else Some (Given BadCount)) s.images i) held
+lookup_fault i addrs answers held = held_failure (λ s. router_fault (λ (image : Image). if addrs == answers then None else Some (Given BadCount)) s.images i) held
 
 -- the rows that an image answers for addresses
-abbrev pub answer_rows : Image → List ℕ → List Row
-answer_rows image addrs = map (λ addr. answer_row (image_answer image addr)) addrs
+abbrev pub image_answer_rows : Image → List ℕ → List Row
+image_answer_rows image addrs = map (λ addr. answer_row (image_answer image addr)) addrs
 
 -- what the image in force at a router answers was written
 abbrev pub IsAnswered : ℕ → List ℕ → List Row → Simulation → Type 0
-IsAnswered i addrs answers s = IfSome (slice_get s.images i) (λ image. answers ≡ answer_rows image addrs)
+IsAnswered i addrs answers s = IfSome (slice_get s.images i) (λ image. answers ≡ image_answer_rows image addrs)
 
 -- ---- rows and traces
 
 -- why nothing is told of a router
 abbrev pub at_router : ℕ → Option Simulation → Option Failure
-at_router i held = held_fault (λ s. router_fault (λ (r : Router). None) s.world.routers i) held
+at_router i held = held_failure (λ s. router_fault (λ (r : Router). None) s.world.routers i) held
 
 -- the rows that a router has in force were written, as many as there was room for
-pub record IsListed (r : Router) (old new : List Row) (written more : ℕ) : Type 0 where
+pub record AreRowsListed (r : Router) (old new : List Row) (written more : ℕ) : Type 0 where
   pub rows : IsWrittenOver (take (length old) (r.table).published) old new
   pub count : written ≡ length (take (length old) (r.table).published)
   pub more_is : more ≡ (if nat_lt (length old) (length (r.table).published) then 1 else 0)
@@ -144,15 +144,15 @@ pub record IsFollowed (s : Simulation) (addr i : ℕ) (old new : List ℕ) (coun
 
 -- why nothing is shown of a link
 abbrev pub at_link : ℕ → Option Simulation → Option Failure
-at_link l held = held_fault (λ s. if nat_lt l (length s.world.links) then None else Some (Refused Refusal.UnknownLink)) held
+at_link l held = held_failure (λ s. if nat_lt l (length s.world.links) then None else Some (Refused Refusal.UnknownLink)) held
 
 -- of the port of a router
-abbrev pub at_port : ℕ → ℕ → Option Simulation → Option Failure
-at_port i q held = held_fault (λ s. option_map (λ e. Refused e) (port_refusal s.world i q)) held
+abbrev pub at_router_port : ℕ → ℕ → Option Simulation → Option Failure
+at_router_port i q held = held_failure (λ s. option_map (λ e. Refused e) (port_refusal s.world i q)) held
 
 -- a router's machine for a prefix, where the router has heard of it
 abbrev pub shown_machine : World → ℕ → Prefix → Option MachineShown
-shown_machine w i p = option_and_then (machine_at p) (slice_get w.routers i)
+shown_machine w i p = option_and_then (machine_heard p) (slice_get w.routers i)
 
 -- why none is shown
 abbrev pub machine_refusal : World → ℕ → Prefix → Option Refusal
@@ -160,7 +160,7 @@ machine_refusal w i p = first_cause ((is_none (slice_get w.routers i), Refusal.U
 
 -- the same of the network that a handle holds; a fault of the prefix comes first
 abbrev pub at_machine : ℕ → ℕ → ℕ → Option Simulation → Option Failure
-at_machine i addr len held = option_map_or (λ f. Some (Given f)) (prefix_fault addr len) (held_fault (λ s. option_map (λ e. Refused e) (machine_refusal s.world i (as_prefix addr len))) held)
+at_machine i addr len held = option_map_or (λ f. Some (Given f)) (prefix_fault addr len) (held_failure (λ s. option_map (λ e. Refused e) (machine_refusal s.world i (as_prefix addr len))) held)
 
 -- ---- numbers
 

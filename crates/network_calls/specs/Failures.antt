@@ -4,7 +4,7 @@ use Rattle.faults.specs.Numbers.{kind_number}
 use Rattle.network_model.specs.Kinds.{network_kind, refusal_kind}
 use Rattle.network_model.specs.declared.network.NetworkFault.{NetworkFault}
 use Rattle.network_model.specs.declared.step.Refusal.{Refusal}
-use Rattle.c_interface.specs.Faults.{fault_number}
+use Rattle.c_interface.specs.Faults.{fault_number, IsDoneOrOutOfMemory}
 use Rattle.network_calls.specs.declared.failure.Failure.{Failure}
 use Rattle.network_calls.specs.declared.failure.Failure.TheVariants.{Given, BadLimits, Network, Refused}
 
@@ -23,21 +23,17 @@ failure_number BadLimits = 50
 failure_number (Network f) = network_number f
 failure_number (Refused e) = refusal_number e
 
--- done, or refused for want of memory
-abbrev pub IsDoneOrOutOfMemory : ℕ → Type 0
-IsDoneOrOutOfMemory status = (status ≡ 0) ⊎ (status ≡ 20)
-
 -- what a call answers, by what its tests find: that, or, where they find nothing, done or want of memory
-abbrev pub IsStatusBy : Option Failure → ℕ → Type 0
-IsStatusBy (Some f) status = status ≡ failure_number f
-IsStatusBy None status = IsDoneOrOutOfMemory status
+abbrev pub IsStatusByFailure : Option Failure → ℕ → Type 0
+IsStatusByFailure (Some f) status = status ≡ failure_number f
+IsStatusByFailure None status = IsDoneOrOutOfMemory status
 
 -- the same of a call that may need memory for this alone
-abbrev pub IsStatusOnlyBy : Option Failure → Type 0 → ℕ → Type 0
-IsStatusOnlyBy (Some f) Needs status = status ≡ failure_number f
-IsStatusOnlyBy None Needs status = (status ≡ 0) ⊎ ((status ≡ 20) × Needs)
+abbrev pub IsStatusOnlyByFailure : Option Failure → Type 0 → ℕ → Type 0
+IsStatusOnlyByFailure (Some f) Needs status = status ≡ failure_number f
+IsStatusOnlyByFailure None Needs status = (status ≡ 0) ⊎ ((status ≡ 20) × Needs)
 
 -- what a call answers that takes no memory, by what its tests find
-abbrev pub status_by : Option Failure → ℕ
-status_by (Some f) = failure_number f
-status_by None = 0
+abbrev pub status_by_failure : Option Failure → ℕ
+status_by_failure (Some f) = failure_number f
+status_by_failure None = 0

@@ -1,7 +1,6 @@
 -- The parts of a network as C has them, and the first of their faults.
-use Rattle.std.specs.Prelude.{◌≡◌, ◌⊎◌, ℕ, ◌+◌, nat_le, ◌&&◌, if◌then◌else◌, List, [], ◌∷◌, map, Option, None, Some, option_map}
+use Rattle.std.specs.Prelude.{◌≡◌, ◌⊎◌, ℕ, ◌+◌, if◌then◌else◌, List, [], ◌∷◌, map, Option, None, Some, option_map}
 use Rattle.std.specs.Option.{option_map_or}
-use Rattle.metric.specs.Distance.{greatest_cost}
 use Rattle.ipv4_prefix.specs.Prefix.{Prefix}
 use Rattle.network_model.specs.declared.network.Limits.{Limits}
 use Rattle.network_model.specs.declared.network.LinkSpec.{LinkSpec}
@@ -12,7 +11,8 @@ use Rattle.network_model.specs.Network.{network_fault, widest_limits, AreWithin}
 use Rattle.c_interface.specs.Faults.{first_of}
 use Rattle.c_interface.specs.Rows.{as_prefix, prefix_fault}
 use Rattle.c_interface.specs.declared.fault.CallFault.{CallFault}
-use Rattle.c_interface.specs.declared.fault.CallFault.TheVariants.{BadCost, NoMemory}
+use Rattle.c_interface.specs.declared.fault.CallFault.TheVariants.{NoMemory}
+use Rattle.single_router.specs.Inputs.{cost_fault}
 use Rattle.network_calls.specs.Failures.{failure_number}
 use Rattle.network_calls.specs.declared.failure.Failure.{Failure}
 use Rattle.network_calls.specs.declared.failure.Failure.TheVariants.{Given, BadLimits, Network as InNetwork}
@@ -20,10 +20,6 @@ use Rattle.network_calls.specs.declared.parts.LimitsParts.{LimitsParts}
 use Rattle.network_calls.specs.declared.parts.LinkParts.{LinkParts}
 use Rattle.network_calls.specs.declared.parts.AttachmentParts.{AttachmentParts}
 use Rattle.network_calls.specs.declared.parts.FaultPlace.{FaultPlace}
-
--- why a number is no cost
-abbrev pub cost_fault : ℕ → Option CallFault
-cost_fault n = if nat_le 1 n && nat_le n greatest_cost then None else Some BadCost
 
 -- ---- limits
 
@@ -44,18 +40,18 @@ link_spec l = record { a = l.a; b = l.b; from_a = l.from_a; from_b = l.from_b }
 -- ---- attachments
 
 -- the fault of an attachment's numbers: its prefix, and then its cost
-abbrev pub attachment_fault : AttachmentParts → Option CallFault
-attachment_fault a = first_of (prefix_fault a.addr a.len) (cost_fault a.cost)
+abbrev pub attachment_parts_fault : AttachmentParts → Option CallFault
+attachment_parts_fault a = first_of (prefix_fault a.addr a.len) (cost_fault a.cost)
 
 -- an attachment of these numbers
-abbrev pub attachment_row : AttachmentParts → Prefix × ℕ × ℕ
-attachment_row a = (as_prefix a.addr a.len, a.router, a.cost)
+abbrev pub attachment_of_parts : AttachmentParts → Prefix × ℕ × ℕ
+attachment_of_parts a = (as_prefix a.addr a.len, a.router, a.cost)
 
 -- ---- the whole
 
 -- the network of these parts
 abbrev pub parts_network : ℕ → List LinkParts → List AttachmentParts → Network
-parts_network routers links attachments = record { routers = routers; links = map link_spec links; attachments = map attachment_row attachments }
+parts_network routers links attachments = record { routers = routers; links = map link_spec links; attachments = map attachment_of_parts attachments }
 
 -- the first of these that has a fault, by its place, which begins here
 abbrev pub first_place : {X : Type 0} → (X → Option CallFault) → ℕ → List X → Option (CallFault × ℕ)
@@ -70,12 +66,12 @@ place_of (TooManyLinks l) = record { position = l; list = 1 }
 place_of (BadOwner p) = record { position = p; list = 2 }
 
 -- a fault of a list, with its place
-abbrev pub listed : ℕ → CallFault × ℕ → Failure × FaultPlace
-listed list f = (Given f.0, record { position = f.1; list = list })
+abbrev pub failure_in_list : ℕ → CallFault × ℕ → Failure × FaultPlace
+failure_in_list list f = (Given f.0, record { position = f.1; list = list })
 
 -- the first fault of the lists of which a network is made, with its place: a link's costs, or else an attachment's prefix or cost
 abbrev pub list_fault : List LinkParts → List AttachmentParts → Option (Failure × FaultPlace)
-list_fault links attachments = option_map_or (λ f. Some (listed 1 f)) (first_place link_fault 0 links) (option_map (listed 2) (first_place attachment_fault 0 attachments))
+list_fault links attachments = option_map_or (λ f. Some (failure_in_list 1 f)) (first_place link_fault 0 links) (option_map (failure_in_list 2) (first_place attachment_parts_fault 0 attachments))
 
 -- the first fault within these limits of the network that these make, with its place
 abbrev pub network_failure : Limits → ℕ → List LinkParts → List AttachmentParts → Option (Failure × FaultPlace)

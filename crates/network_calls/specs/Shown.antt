@@ -35,8 +35,8 @@ abbrev pub machine_shown : Router → Prefix → Machine → MachineShown
 machine_shown r p m = record { state = state_of r.table p m; neighbours = map (neighbour_shown m) (range_with_len 0 32); successor = successor_shown m }
 
 -- a router's machine for a prefix, where the router has heard of it
-abbrev pub machine_at : Prefix → Router → Option MachineShown
-machine_at p r = option_map (machine_shown r p) (row_of prefix_cmp p r.machines)
+abbrev pub machine_heard : Prefix → Router → Option MachineShown
+machine_heard p r = option_map (machine_shown r p) (row_of prefix_cmp p r.machines)
 
 -- ---- links and queues
 

@@ -7,7 +7,7 @@ use Rattle.c_interface.specs.Faults.{first_of}
 use Rattle.c_interface.specs.Rows.{as_prefix, prefix_fault}
 use Rattle.c_interface.specs.declared.fault.CallFault.{CallFault}
 use Rattle.c_interface.specs.declared.fault.CallFault.TheVariants.{BadKind}
-use Rattle.network_calls.specs.Parts.{cost_fault}
+use Rattle.single_router.specs.Inputs.{cost_fault}
 use Rattle.network_calls.specs.declared.step.StepParts.{StepParts}
 
 -- the prefix, where it is one

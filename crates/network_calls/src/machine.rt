@@ -3,7 +3,7 @@
 ghost use Rattle.std.specs.Prelude.{◌≡◌, None, Some, map, IfErr, IfOk, OnOk};
 ghost use Rattle.std.specs.List.{range_with_len};
 ghost use Rattle.network_calls.specs.Calls.{machine_refusal, shown_machine};
-ghost use Rattle.network_calls.specs.Shown.{machine_at, neighbour_shown, successor_shown};
+ghost use Rattle.network_calls.specs.Shown.{machine_heard, neighbour_shown, successor_shown};
 
 use dual_machine::Machine;
 use network_model::{Prefix, Refusal};
@@ -42,7 +42,7 @@ const NOBODY: NeighbourShown = NeighbourShown {
 impl MachineShown {
     /// That of a router's machine for a prefix; none where the router has not heard of the prefix.
     pub fn at(router: &Router, prefix: Prefix) -> Option<MachineShown>
-        ensures { result ≡ machine_at prefix router.now }
+        ensures { result ≡ machine_heard prefix router.now }
     {
         let machine = router.machine(prefix)?;
         Some(MachineShown {

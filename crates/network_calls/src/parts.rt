@@ -2,7 +2,8 @@
 
 ghost use Rattle.std.specs.Prelude.{◌≡◌, None, Some, IfOk, IfErr, OnOk, IsOkUnless, map};
 ghost use Rattle.single_router.specs.Openings.{first_fault_in};
-ghost use Rattle.network_calls.specs.Parts.{attachment_fault, attachment_row, cost_fault, first_place, limits_of, link_fault, link_spec, place_of};
+ghost use Rattle.single_router.specs.Inputs.{cost_fault};
+ghost use Rattle.network_calls.specs.Parts.{attachment_parts_fault, attachment_of_parts, first_place, limits_of, link_fault, link_spec, place_of};
 
 use c_interface::{CallFault, read_prefix};
 use network_model::{Cost, Limits, LinkSpec, NetworkFault, Prefix};
@@ -112,9 +113,9 @@ impl LinkParts {
 
 impl AttachmentParts {
     fn read(&self) -> Result<(Prefix, u16, Cost), CallFault>
-        ensures ok { IfOk result (λ a. (attachment_fault self.now ≡ None)
-            × (a ≡ attachment_row self.now)) }
-        ensures err { IfErr result (λ f. attachment_fault self.now ≡ Some f) }
+        ensures ok { IfOk result (λ a. (attachment_parts_fault self.now ≡ None)
+            × (a ≡ attachment_of_parts self.now)) }
+        ensures err { IfErr result (λ f. attachment_parts_fault self.now ≡ Some f) }
     {
         let prefix = read_prefix(self.addr, self.len)?;
         let cost = read_cost(self.cost)?;
@@ -138,8 +139,8 @@ pub fn check_links(links: &[LinkParts]) -> Result<(), (CallFault, usize)>
 
 /// Tests attachments: the first that has a fault, with its position.
 pub fn check_attachments(attachments: &[AttachmentParts]) -> Result<(), (CallFault, usize)>
-    ensures ok { OnOk result (first_place attachment_fault 0 attachments.now ≡ None) }
-    ensures err { IfErr result (λ f. first_place attachment_fault 0 attachments.now ≡ Some f) }
+    ensures ok { OnOk result (first_place attachment_parts_fault 0 attachments.now ≡ None) }
+    ensures err { IfErr result (λ f. first_place attachment_parts_fault 0 attachments.now ≡ Some f) }
 {
     for (place, &attachment) in attachments.iter().enumerate() {
         match attachment.read() {
@@ -168,8 +169,8 @@ pub fn read_attachments(
     alloc: Global,
     attachments: &[AttachmentParts],
 ) -> Result<Vec<(Prefix, u16, Cost)>, CallFault>
-    requires { first_fault_in attachment_fault attachments.now ≡ None }
-    ensures ok { IfOk result (λ read. read.items ≡ map attachment_row attachments.now) }
+    requires { first_fault_in attachment_parts_fault attachments.now ≡ None }
+    ensures ok { IfOk result (λ read. read.items ≡ map attachment_of_parts attachments.now) }
     ensures err { IsOkUnless result CallFault.NoMemory }
 {
     let mut read = Vec::with_capacity(alloc, attachments.len())?;

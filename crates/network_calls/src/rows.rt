@@ -2,7 +2,7 @@
 
 ghost use Rattle.std.specs.Prelude.{◌≡◌, None, Some, IfErr, IfOk, IfSome, OnErr, OnOk, length, slice_get, take, nat_lt};
 ghost use Rattle.network_model.specs.World.{Router};
-ghost use Rattle.network_calls.specs.Calls.{answer_rows, lookup_fault, router_fault, IsAnswered, IsListed};
+ghost use Rattle.network_calls.specs.Calls.{image_answer_rows, lookup_fault, router_fault, IsAnswered, AreRowsListed};
 ghost use Rattle.network_calls.specs.declared.failure.Failure.TheVariants.{Refused};
 ghost use Rattle.single_router.specs.Publishing.{IsWrittenOver};
 ghost use Rattle.single_router.specs.States.{flag};
@@ -16,7 +16,7 @@ use simulation::{Image, Simulation, World};
 // Writes what an image answers for each of the addresses.
 fn answer_all(image: &Image, addrs: &[u32], answers: &mut [Row])
     requires { length answers.old ≡ length addrs.now }
-    ensures { answers.new ≡ answer_rows image.now addrs.now }
+    ensures { answers.new ≡ image_answer_rows image.now addrs.now }
 {
     for place in 0..addrs.len() {
         answers[place] = Row::answer(image.lookup(addrs[place]));
@@ -70,7 +70,7 @@ fn write_published(published: PublishedRows<'_>, rows: &mut [Row]) -> (usize, bo
 /// prefixes and as many as fit: how many these are, and whether there are more. Refused with `UnknownRouter`.
 pub fn rows_of(world: &World, router: u16, rows: &mut [Row]) -> Result<(usize, bool), Refusal>
     ensures ok { IfOk result (λ t. IfSome (slice_get (world.now).routers router)
-        (λ r. IsListed r rows.old rows.new t.0 (flag t.1))) }
+        (λ r. AreRowsListed r rows.old rows.new t.0 (flag t.1))) }
     ensures known { OnOk result (router_fault (λ (r : Router). None) (world.now).routers router ≡ None) }
     ensures unchanged { OnErr result (rows.new ≡ rows.old) }
     ensures err { IfErr result (λ e.

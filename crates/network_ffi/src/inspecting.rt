@@ -2,8 +2,8 @@
 
 ghost use Rattle.std.specs.Prelude.{◌≡◌, ◌≢◌, Some, IfSome, option_map, slice_get};
 ghost use Rattle.c_interface.specs.Rows.{as_prefix};
-ghost use Rattle.network_calls.specs.Calls.{at_link, at_machine, at_port, at_router, shown_machine};
-ghost use Rattle.network_calls.specs.Failures.{status_by};
+ghost use Rattle.network_calls.specs.Calls.{at_link, at_machine, at_router_port, at_router, shown_machine};
+ghost use Rattle.network_calls.specs.Failures.{status_by_failure};
 ghost use Rattle.network_ffi.specs.Handles.{handle_network};
 ghost use Rattle.network_calls.specs.Shown.{gate_at, link_shown, AreHeldShown, AreNoticesShown, IsQueueShown};
 
@@ -27,7 +27,7 @@ pub extern "C" fn tuhvondi_network_machine(
     len: u8,
     machine: &mut MachineShown,
 ) -> u32
-    ensures status { result ≡ status_by (at_machine router addr len (handle_network network.old)) }
+    ensures status { result ≡ status_by_failure (at_machine router addr len (handle_network network.old)) }
     ensures done { result ≡ 0 → IfSome (handle_network network.old) (λ s.
         shown_machine s.world router (as_prefix addr len) ≡ Some machine.new) }
     ensures refused { result ≢ 0 → machine.new ≡ machine.old }
@@ -59,7 +59,7 @@ pub extern "C" fn tuhvondi_network_link(
     link: u16,
     shown: &mut LinkShown,
 ) -> u32
-    ensures status { result ≡ status_by (at_link link (handle_network network.old)) }
+    ensures status { result ≡ status_by_failure (at_link link (handle_network network.old)) }
     ensures done { result ≡ 0 → IfSome (handle_network network.old) (λ s.
         option_map link_shown (slice_get s.world.links link) ≡ Some shown.new) }
     ensures refused { result ≢ 0 → shown.new ≡ shown.old }
@@ -89,7 +89,7 @@ pub extern "C" fn tuhvondi_network_queue(
     written: &mut usize,
     more: &mut u8,
 ) -> u32
-    ensures status { result ≡ status_by (at_port router port (handle_network network.old)) }
+    ensures status { result ≡ status_by_failure (at_router_port router port (handle_network network.old)) }
     ensures done { result ≡ 0 → IfSome (handle_network network.old) (λ s. IsQueueShown
         s.world router port items.old items.new written.new more.new) }
     ensures refused { result ≢ 0 →
@@ -119,7 +119,7 @@ pub extern "C" fn tuhvondi_network_gate(
     router: u16,
     gate: &mut GateShown,
 ) -> u32
-    ensures status { result ≡ status_by (at_router router (handle_network network.old)) }
+    ensures status { result ≡ status_by_failure (at_router router (handle_network network.old)) }
     ensures done { result ≡ 0 → IfSome (handle_network network.old) (λ s.
         gate_at router s.world ≡ Some gate.new) }
     ensures refused { result ≢ 0 → gate.new ≡ gate.old }
@@ -148,7 +148,7 @@ pub extern "C" fn tuhvondi_network_held(
     written: &mut usize,
     more: &mut u8,
 ) -> u32
-    ensures status { result ≡ status_by (at_router router (handle_network network.old)) }
+    ensures status { result ≡ status_by_failure (at_router router (handle_network network.old)) }
     ensures done { result ≡ 0 → IfSome (handle_network network.old) (λ s. AreHeldShown
         s.world router messages.old messages.new written.new more.new) }
     ensures refused { result ≢ 0 →
@@ -182,7 +182,7 @@ pub extern "C" fn tuhvondi_network_notices(
     written: &mut usize,
     more: &mut u8,
 ) -> u32
-    ensures status { result ≡ status_by (at_router router (handle_network network.old)) }
+    ensures status { result ≡ status_by_failure (at_router router (handle_network network.old)) }
     ensures done { result ≡ 0 → IfSome (handle_network network.old) (λ s. AreNoticesShown
         s.world router notices.old notices.new written.new more.new) }
     ensures refused { result ≢ 0 →

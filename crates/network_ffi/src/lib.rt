@@ -39,12 +39,12 @@ ghost use Rattle.c_interface.specs.Faults.{fault_number};
 ghost use Rattle.single_router.specs.States.{flag};
 ghost use Rattle.simulation.specs.Simulation.{after_step, opening_simulation};
 ghost use Rattle.network_ffi.specs.Handles.{handle_network};
-ghost use Rattle.network_calls.specs.Failures.{failure_number, status_by, IsStatusBy, IsStatusOnlyBy};
+ghost use Rattle.network_calls.specs.Failures.{failure_number, status_by_failure, IsStatusByFailure, IsStatusOnlyByFailure};
 ghost use Rattle.network_model.specs.Network.{program_limits, widest_limits, AreWithin};
 ghost use Rattle.network_calls.specs.Headline.{HasHeadline};
 ghost use Rattle.network_calls.specs.Parts.{limits_of, list_fault, network_failure, parts_network, IsNotOpened};
 ghost use Rattle.network_calls.specs.Steps.{parts_of_step, step_of};
-ghost use Rattle.network_calls.specs.Calls.{at_all, at_router, counts_of, lookup_fault, step_fault, HeldNeedsMemory, IsAnswered, IsFollowed, IsListed, IsRun, IsSettling};
+ghost use Rattle.network_calls.specs.Calls.{at_all, at_router, counts_of, lookup_fault, step_fault, HeldNeedsMemory, IsAnswered, IsFollowed, AreRowsListed, IsRun, IsSettling};
 
 use c_interface::{CallFault, Row};
 use network_calls::{
@@ -142,7 +142,7 @@ pub extern "C" fn tuhvondi_network_copy(
     network: &mut NetworkHandle,
     other: &mut NetworkHandle,
 ) -> u32
-    ensures status { IsStatusBy (at_all (handle_network network.old)) result }
+    ensures status { IsStatusByFailure (at_all (handle_network network.old)) result }
     ensures done { result ≡ 0 → handle_network other.new ≡ handle_network network.old }
     ensures headline { result ≡ 0 → IfSome (handle_network other.new) HasHeadline }
     ensures refused { result ≢ 0 → handle_network other.new ≡ handle_network other.old }
@@ -164,13 +164,13 @@ pub extern "C" fn tuhvondi_network_copy(
 
 // Does a step of a handle's network.
 fn do_step(alloc: Global, network: &mut NetworkHandle, parts: StepParts) -> Result<(), Failure>
-    ensures ok { OnOk result (IsStatusOnlyBy (step_fault parts (handle_network network.old))
+    ensures ok { OnOk result (IsStatusOnlyByFailure (step_fault parts (handle_network network.old))
         (HeldNeedsMemory (step_of parts) (handle_network network.old)) 0) }
     ensures stepped { OnOk result (handle_network network.new
         ≡ option_map (λ s. after_step s (step_of parts)) (handle_network network.old)) }
     ensures headline { OnOk result (IfSome (handle_network network.new) HasHeadline) }
     ensures unchanged { OnErr result (handle_network network.new ≡ handle_network network.old) }
-    ensures err { IfErr result (λ f. IsStatusOnlyBy (step_fault parts (handle_network network.old))
+    ensures err { IfErr result (λ f. IsStatusOnlyByFailure (step_fault parts (handle_network network.old))
         (HeldNeedsMemory (step_of parts) (handle_network network.old)) (failure_number f)) }
 {
     if let Err(fault) = parts.read() {
@@ -191,7 +191,7 @@ pub extern "C" fn tuhvondi_network_step(
     network: &mut NetworkHandle,
     parts: &StepParts,
 ) -> u32
-    ensures status { IsStatusOnlyBy (step_fault parts.now (handle_network network.old))
+    ensures status { IsStatusOnlyByFailure (step_fault parts.now (handle_network network.old))
         (HeldNeedsMemory (step_of parts.now) (handle_network network.old)) result }
     ensures done { result ≡ 0 → handle_network network.new
         ≡ option_map (λ s. after_step s (step_of parts.now)) (handle_network network.old) }
@@ -233,7 +233,7 @@ pub extern "C" fn tuhvondi_network_next_step(
     router: u16,
     step: &mut StepParts,
 ) -> u32
-    ensures status { result ≡ status_by (at_router router (handle_network network.old)) }
+    ensures status { result ≡ status_by_failure (at_router router (handle_network network.old)) }
     ensures done { result ≡ 0 → IfSome (handle_network network.old) (λ s. step.new
         ≡ parts_of_step (turns.next_step s.world router)) }
     ensures refused { result ≢ 0 → step.new ≡ step.old }
@@ -317,7 +317,7 @@ pub extern "C" fn tuhvondi_network_lookup(
     addrs: &[u32],
     answers: &mut [Row],
 ) -> u32
-    ensures status { result ≡ status_by (lookup_fault
+    ensures status { result ≡ status_by_failure (lookup_fault
         router (length addrs.now) (length answers.old) (handle_network network.old)) }
     ensures done { result ≡ 0 →
         IfSome (handle_network network.old) (IsAnswered router addrs.now answers.new) }
@@ -345,7 +345,7 @@ pub extern "C" fn tuhvondi_network_trace(
     count: &mut usize,
     end: &mut u8,
 ) -> u32
-    ensures status { result ≡ status_by (at_router router (handle_network network.old)) }
+    ensures status { result ≡ status_by_failure (at_router router (handle_network network.old)) }
     ensures done { result ≡ 0 → IfSome (handle_network network.old) (λ s. IsFollowed
         s addr router hops.old hops.new count.new end.new) }
     ensures refused { result ≢ 0 →
@@ -378,10 +378,10 @@ pub extern "C" fn tuhvondi_network_rows(
     written: &mut usize,
     more: &mut u8,
 ) -> u32
-    ensures status { result ≡ status_by (at_router router (handle_network network.old)) }
+    ensures status { result ≡ status_by_failure (at_router router (handle_network network.old)) }
     ensures done { result ≡ 0 → IfSome (handle_network network.old) (λ s.
         IfSome (slice_get s.world.routers router)
-        (λ r. IsListed r rows.old rows.new written.new more.new)) }
+        (λ r. AreRowsListed r rows.old rows.new written.new more.new)) }
     ensures refused { result ≢ 0 →
         (rows.new ≡ rows.old) × (written.new ≡ written.old) × (more.new ≡ more.old) }
     ensures network { handle_network network.new ≡ handle_network network.old }

@@ -17,7 +17,7 @@ front_of item [] e = absurd (None_not_Some e)
 front_of item (x ∷ xs) e = ap (λ (y : Item). y ∷ xs) (Some_injective e)
 
 -- a port at which a neighbour is up is one of the ports
-port_within : (ns : List Neighbour) (q : ℕ) → test_at (λ (x : Neighbour). x.up) (slice_get ns q) ≡ true → q < length ns
+pub port_within : (ns : List Neighbour) (q : ℕ) → test_at (λ (x : Neighbour). x.up) (slice_get ns q) ≡ true → q < length ns
 port_within ns q up = by_port (slice_get ns q) refl up
   where
     by_port : (o : Option Neighbour) → slice_get ns q ≡ o → test_at (λ (x : Neighbour). x.up) o ≡ true → q < length ns

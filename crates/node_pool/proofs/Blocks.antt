@@ -7,13 +7,13 @@ use Rattle.std.specs.Vec.{with_items}
 use Rattle.std.specs.declared.vec.Vec.{Vec}
 use Rattle.std.proofs.lemmas.List.{get_or_past, get_or_default, get_or-replicate, length-replicate, length-set, with_items_is}
 use Rattle.std.proofs.lemmas.Bool.{cases_lt, false≢true}
-use Rattle.node_pool.specs.Cell.{value_of, link_of, entry, at, IsFilled, IsShifted}
-use Rattle.node_pool.specs.FreeLists.{list_at, count_at, IsLinked}
+use Rattle.node_pool.specs.Cell.{value_of, next_free, cell_at, at, IsFilled, IsShifted}
+use Rattle.node_pool.specs.FreeLists.{free_list, count_at, IsLinked}
 use Rattle.node_pool.specs.Pool.{IsTaken, IsGrown, IsUsedBlock}
 use Rattle.node_pool.specs.declared.cells.Cell.{Cell}
 use Rattle.node_pool.specs.declared.cells.FreeList.{FreeList}
 use Rattle.node_pool.specs.declared.cells.Cell.TheVariants.{Free, Used}
-use Rattle.node_pool.proofs.Writes.{entry-set_other}
+use Rattle.node_pool.proofs.Writes.{cell_at-set_other}
 use Rattle.node_pool.proofs.Links.{linked_none, linked_stays, linked_pop, linked_push, few_blocks, first_within, first_free}
 
 -- outside a filled block all stays
@@ -115,17 +115,17 @@ module _ {T : Type 0} where
 
   -- a block of a pool's cells was filled
   pub filled_put : {Z : Type 0} (v : Vec (Cell T) Z) (xs ws : List (Cell T)) (base size : ℕ) (c : Cell T) → xs ≡ v.items → length ws ≡ length xs → length xs ≡ v.len
-      → IsFilled (entry xs) (entry ws) base size c → IsFilled (at v.items) (at (with_items v ws).items) base size (value_of c)
+      → IsFilled (cell_at xs) (cell_at ws) base size c → IsFilled (at v.items) (at (with_items v ws).items) base size (value_of c)
   filled_put v xs ws base size c e l m h =
       written_back (λ y. IsFilled (at v.items) (at y) base size (value_of c)) v xs ws l m
-      (subst (λ y. IsFilled (at y) (at ws) base size (value_of c)) e (filled_values (entry xs) (entry ws) base size c h))
+      (subst (λ y. IsFilled (at y) (at ws) base size (value_of c)) e (filled_values (cell_at xs) (cell_at ws) base size c h))
 
   -- a block of a pool's cells was copied with a gap
   pub shifted_put : {Z : Type 0} (v : Vec (Cell T) Z) (xs ws : List (Cell T)) (from size gap : ℕ) (value : T) (to : ℕ) → xs ≡ v.items → length ws ≡ length xs → length xs ≡ v.len
-      → IsShifted (entry xs) (entry ws) from size gap (Used value) to → IsShifted (at v.items) (at (with_items v ws).items) from size gap (Some value) to
+      → IsShifted (cell_at xs) (cell_at ws) from size gap (Used value) to → IsShifted (at v.items) (at (with_items v ws).items) from size gap (Some value) to
   shifted_put v xs ws from size gap value to e l m h =
       written_back (λ y. IsShifted (at v.items) (at y) from size gap (Some value) to) v xs ws l m
-      (subst (λ y. IsShifted (at y) (at ws) from size gap (Some value) to) e (shifted_values (entry xs) (entry ws) from size gap value to h))
+      (subst (λ y. IsShifted (at y) (at ws) from size gap (Some value) to) e (shifted_values (cell_at xs) (cell_at ws) from size gap value to h))
 
   -- a block in use stays in use when another is taken
   pub used_stays : (f g : ℕ → Option T) (base size to count : ℕ) (value : T) → IsUsedBlock f base size → IsTaken f g to count value → IsUsedBlock g base size
@@ -145,7 +145,7 @@ module _ {T : Type 0} where
   -- a cell in use is written
   pub set_linked : (xs : List (Cell T)) (lists : List FreeList) (i : ℕ) (value : T) → is_some (at xs i) ≡ true → ∥ IsLinked xs lists ∥₁ → ∥ IsLinked (set xs i (Used value)) lists ∥₁
   set_linked xs lists i value used h = ∥∥₁_map h (λ w. linked_stays xs (set xs i (Used value)) lists (omega (arith, length-set xs i (Used value)))
-      (λ k l free. entry-set_other xs i k (Used value) (λ e. false≢true (sym free ∙ ap (λ x. is_some (at xs x)) e ∙ used))) w)
+      (λ k l free. cell_at-set_other xs i k (Used value) (λ e. false≢true (sym free ∙ ap (λ x. is_some (at xs x)) e ∙ used))) w)
 
   -- cells are put behind those that are there
   pub more_linked : (xs ys : List (Cell T)) (lists : List FreeList) → length xs ≤ length ys → ((k : ℕ) (d : Cell T) → k < length xs → get_or ys k d ≡ get_or xs k d)
@@ -157,49 +157,49 @@ module _ {T : Type 0} where
   few_spare xs lists i h = ∥∥₁_elim h le_prop (λ w. few_blocks xs lists i w)
 
   -- the first block of a list lies within the cells
-  pub head_within : (xs : List (Cell T)) (lists : List FreeList) (size : ℕ) → 0 < size → 0 < count_at lists (size - 1) → ∥ IsLinked xs lists ∥₁ → (list_at lists (size - 1)).first + size ≤ length xs
+  pub head_within : (xs : List (Cell T)) (lists : List FreeList) (size : ℕ) → 0 < size → 0 < count_at lists (size - 1) → ∥ IsLinked xs lists ∥₁ → (free_list lists (size - 1)).first + size ≤ length xs
   head_within xs lists size s p h = ∥∥₁_elim h le_prop (λ w. let l = first_within xs lists (size - 1) p w in omega (arith, l))
 
   -- every cell of it is free
-  pub head_free : (xs : List (Cell T)) (lists : List FreeList) (size k : ℕ) → 0 < size → 0 < count_at lists (size - 1) → (list_at lists (size - 1)).first ≤ k → k < (list_at lists (size - 1)).first + size
+  pub head_free : (xs : List (Cell T)) (lists : List FreeList) (size k : ℕ) → 0 < size → 0 < count_at lists (size - 1) → (free_list lists (size - 1)).first ≤ k → k < (free_list lists (size - 1)).first + size
       → ∥ IsLinked xs lists ∥₁ → is_some (at xs k) ≡ false
   head_free xs lists size k s p l u h = ∥∥₁_elim h (Bool-set _ _) (λ w. first_free xs lists (size - 1) k p (l, omega arith) w)
 
   -- so it has no value
-  pub head_fresh : (xs : List (Cell T)) (lists : List FreeList) (size k : ℕ) → 0 < size → 0 < count_at lists (size - 1) → (list_at lists (size - 1)).first ≤ k → k < (list_at lists (size - 1)).first + size
+  pub head_fresh : (xs : List (Cell T)) (lists : List FreeList) (size k : ℕ) → 0 < size → 0 < count_at lists (size - 1) → (free_list lists (size - 1)).first ≤ k → k < (free_list lists (size - 1)).first + size
       → ∥ IsLinked xs lists ∥₁ → at xs k ≡ None
   head_fresh xs lists size k s p l u h = none_from (at xs k) (head_free xs lists size k s p l u h)
 
   -- the cell that was read at its place is the one that is there
-  pub head_read : (xs : List (Cell T)) (lists : List FreeList) (size : ℕ) (x : Cell T) → 0 < size → 0 < count_at lists (size - 1) → x ≡ get_or xs (list_at lists (size - 1)).first x
-      → ∥ IsLinked xs lists ∥₁ → x ≡ entry xs (list_at lists (size - 1)).first
+  pub head_read : (xs : List (Cell T)) (lists : List FreeList) (size : ℕ) (x : Cell T) → 0 < size → 0 < count_at lists (size - 1) → x ≡ get_or xs (free_list lists (size - 1)).first x
+      → ∥ IsLinked xs lists ∥₁ → x ≡ cell_at xs (free_list lists (size - 1)).first
   head_read xs lists size x s p e h = let l = head_within xs lists size s p h in
-      e ∙ get_or_default xs (list_at lists (size - 1)).first x (Free 0) (omega (arith, l))
+      e ∙ get_or_default xs (free_list lists (size - 1)).first x (Free 0) (omega (arith, l))
 
   -- the first block of a list is taken
   pub take_linked : {Z : Type 0} (v : Vec (Cell T) Z) (xs ws : List (Cell T)) (lists : List FreeList) (size next : ℕ) (value : T)
       → 0 < size → size ≤ length lists → 0 < count_at lists (size - 1)
-      → xs ≡ v.items → length ws ≡ length xs → length xs ≡ v.len → next ≡ link_of (entry v.items (list_at lists (size - 1)).first)
-      → IsFilled (entry xs) (entry ws) (list_at lists (size - 1)).first size (Used value) → ∥ IsLinked v.items lists ∥₁
+      → xs ≡ v.items → length ws ≡ length xs → length xs ≡ v.len → next ≡ next_free (cell_at v.items (free_list lists (size - 1)).first)
+      → IsFilled (cell_at xs) (cell_at ws) (free_list lists (size - 1)).first size (Used value) → ∥ IsLinked v.items lists ∥₁
       → ∥ IsLinked (with_items v ws).items (set lists (size - 1) (record { first = next; count = count_at lists (size - 1) - 1 })) ∥₁
   take_linked v xs ws lists size next value s few p e l m n filled h =
-      let filled' : IsFilled (entry v.items) (entry ws) (list_at lists (size - 1)).first size (Used value)
-      = subst (λ y. IsFilled (entry y) (entry ws) (list_at lists (size - 1)).first size (Used value)) e filled in
+      let filled' : IsFilled (cell_at v.items) (cell_at ws) (free_list lists (size - 1)).first size (Used value)
+      = subst (λ y. IsFilled (cell_at y) (cell_at ws) (free_list lists (size - 1)).first size (Used value)) e filled in
       written_back (λ y. ∥ IsLinked y (set lists (size - 1) (record { first = next; count = count_at lists (size - 1) - 1 })) ∥₁) v xs ws l m
       (∥∥₁_map h (λ w. linked_pop v.items ws lists (size - 1) (omega arith) (record { first = next; count = count_at lists (size - 1) - 1 }) p n refl (l ∙ ap length e)
-      (λ k out. filled_out (entry v.items) (entry ws) (list_at lists (size - 1)).first size (Used value) filled' k (λ a b. out (a, omega arith))) w))
+      (λ k out. filled_out (cell_at v.items) (cell_at ws) (free_list lists (size - 1)).first size (Used value) filled' k (λ a b. out (a, omega arith))) w))
 
   -- a block is put in front of a list
   pub give_linked : {Z : Type 0} (v : Vec (Cell T) Z) (xs ws : List (Cell T)) (lists : List FreeList) (base size : ℕ)
       → 0 < size → size ≤ length lists → xs ≡ v.items → length ws ≡ length xs → length xs ≡ v.len → IsUsedBlock (at v.items) base size
-      → IsFilled (entry xs) (entry ws) base size (Free (list_at lists (size - 1)).first) → ∥ IsLinked v.items lists ∥₁
+      → IsFilled (cell_at xs) (cell_at ws) base size (Free (free_list lists (size - 1)).first) → ∥ IsLinked v.items lists ∥₁
       → ∥ IsLinked (with_items v ws).items (set lists (size - 1) (record { first = base; count = count_at lists (size - 1) + 1 })) ∥₁
   give_linked v xs ws lists base size s few e l m used filled h =
       let n : size - 1 + 1 ≡ size = omega arith in
-      let free = (list_at lists (size - 1)).first in
-      let filled' : IsFilled (entry v.items) (entry ws) base (size - 1 + 1) (Free free)
-      = subst (λ z. IsFilled (entry v.items) (entry ws) base z (Free free)) (sym n)
-      (subst (λ y. IsFilled (entry y) (entry ws) base size (Free free)) e filled) in
+      let free = (free_list lists (size - 1)).first in
+      let filled' : IsFilled (cell_at v.items) (cell_at ws) base (size - 1 + 1) (Free free)
+      = subst (λ z. IsFilled (cell_at v.items) (cell_at ws) base z (Free free)) (sym n)
+      (subst (λ y. IsFilled (cell_at y) (cell_at ws) base size (Free free)) e filled) in
       let within = used_within v.items base size s used in
       written_back (λ y. ∥ IsLinked y (set lists (size - 1) (record { first = base; count = count_at lists (size - 1) + 1 })) ∥₁) v xs ws l m
       (∥∥₁_map h (λ w. linked_push v.items ws lists (size - 1) (omega arith) (record { first = base; count = count_at lists (size - 1) + 1 }) base refl refl (l ∙ ap length e) (omega (arith, within))
@@ -208,10 +208,10 @@ module _ {T : Type 0} where
   -- a write to a block in use leaves the lists
   pub shift_linked : {Z : Type 0} (v : Vec (Cell T) Z) (xs ws : List (Cell T)) (lists : List FreeList) (from size gap : ℕ) (value : T) (to : ℕ)
       → xs ≡ v.items → length ws ≡ length xs → length xs ≡ v.len → IsUsedBlock (at v.items) to (size + 1)
-      → IsShifted (entry xs) (entry ws) from size gap (Used value) to → ∥ IsLinked v.items lists ∥₁ → ∥ IsLinked (with_items v ws).items lists ∥₁
+      → IsShifted (cell_at xs) (cell_at ws) from size gap (Used value) to → ∥ IsLinked v.items lists ∥₁ → ∥ IsLinked (with_items v ws).items lists ∥₁
   shift_linked v xs ws lists from size gap value to e l m used shifted h =
-      let shifted' : IsShifted (entry v.items) (entry ws) from size gap (Used value) to
-      = subst (λ y. IsShifted (entry y) (entry ws) from size gap (Used value) to) e shifted in
+      let shifted' : IsShifted (cell_at v.items) (cell_at ws) from size gap (Used value) to
+      = subst (λ y. IsShifted (cell_at y) (cell_at ws) from size gap (Used value) to) e shifted in
       let len : length ws ≡ length v.items = l ∙ ap length e in
       written_back (λ y. ∥ IsLinked y lists ∥₁) v xs ws l m
       (∥∥₁_map h (λ w. linked_stays v.items ws lists (omega (arith, len))

@@ -1,8 +1,8 @@
 -- What the lists of free blocks keep when a block is taken or given back.
 use Rattle.std.proofs.Common.{ℕ, zero, suc, ◌≡◌, ◌≢◌, ◌⊎◌, inl, inr, ⊎_elim, ◌+◌, ◌-◌, ◌<◌, ◌≤◌, List, length, set, is_some, true, false, cond, eqb, arith, sym, ap, subst, ◌∙◌, get_or-set_same, get_or-set_other}
 use Rattle.std.proofs.lemmas.Bool.{cases_eq, cases_lt, false≢true, eq-eqb, ne_eqb}
-use Rattle.node_pool.specs.Cell.{entry, at, link_of, value_of, IsFilled}
-use Rattle.node_pool.specs.FreeLists.{list_at, count_at, InBlock, IsLinked}
+use Rattle.node_pool.specs.Cell.{cell_at, at, next_free, value_of, IsFilled}
+use Rattle.node_pool.specs.FreeLists.{free_list, count_at, InBlock, IsLinked}
 use Rattle.node_pool.specs.declared.cells.Cell.{Cell}
 use Rattle.node_pool.specs.declared.cells.FreeList.{FreeList}
 use Rattle.node_pool.specs.declared.cells.Cell.TheVariants.{Free}
@@ -39,15 +39,15 @@ few_below (suc n) (suc m) f below same =
 module _ {T : Type 0} where
   -- cells that are free keep what they have, so the lists stay
   pub linked_stays : (xs ys : List (Cell T)) (lists : List FreeList) → length xs ≤ length ys
-      → ((k : ℕ) → k < length xs → is_some (at xs k) ≡ false → entry ys k ≡ entry xs k)
+      → ((k : ℕ) → k < length xs → is_some (at xs k) ≡ false → cell_at ys k ≡ cell_at xs k)
       → IsLinked xs lists → IsLinked ys lists
   linked_stays xs ys lists len same w =
-      let keeps : (i h k : ℕ) → h < count_at lists i → InBlock (w.base_of i h) i k → entry ys k ≡ entry xs k
+      let keeps : (i h k : ℕ) → h < count_at lists i → InBlock (w.base_of i h) i k → cell_at ys k ≡ cell_at xs k
       = λ i h k l b. let e = w.within i h l in same k (omega (arith, e, b.1)) (w.free i h k l b) in
       record {
         base_of = w.base_of;
         first = w.first;
-        next = λ i h l. ap link_of (keeps i (h + 1) (w.base_of i (h + 1)) l (omega arith, omega arith)) ∙ w.next i h l;
+        next = λ i h l. ap next_free (keeps i (h + 1) (w.base_of i (h + 1)) l (omega arith, omega arith)) ∙ w.next i h l;
         within = λ i h l. let e = w.within i h l in omega (arith, e);
         free = λ i h k l b. ap (λ c. is_some (value_of c)) (keeps i h k l b) ∙ w.free i h k l b;
         apart = w.apart;
@@ -71,25 +71,25 @@ module _ {T : Type 0} where
       (λ g h l m e. (w.apart i i g h (w.base_of i g) l m (omega arith, omega arith) (omega (arith, e), omega (arith, e))).1)
 
   -- where the list counts a block, the first lies within the cells
-  pub first_within : (xs : List (Cell T)) (lists : List FreeList) (i : ℕ) → 0 < count_at lists i → IsLinked xs lists → (list_at lists i).first + (i + 1) ≤ length xs
+  pub first_within : (xs : List (Cell T)) (lists : List FreeList) (i : ℕ) → 0 < count_at lists i → IsLinked xs lists → (free_list lists i).first + (i + 1) ≤ length xs
   first_within xs lists i p w = let e = w.first i p in let l = w.within i (count_at lists i - 1) (omega arith) in omega (arith, e, l)
 
   -- where the list counts a block, every cell of the first is free
-  pub first_free : (xs : List (Cell T)) (lists : List FreeList) (i k : ℕ) → 0 < count_at lists i → InBlock (list_at lists i).first i k → IsLinked xs lists → is_some (at xs k) ≡ false
+  pub first_free : (xs : List (Cell T)) (lists : List FreeList) (i k : ℕ) → 0 < count_at lists i → InBlock (free_list lists i).first i k → IsLinked xs lists → is_some (at xs k) ≡ false
   first_free xs lists i k p b w = let e = w.first i p in w.free i (count_at lists i - 1) k (omega arith) (omega (arith, e, b.0), omega (arith, e, b.1))
 
 module _ {T : Type 0} (xs ys : List (Cell T)) (lists : List FreeList) (i : ℕ) (within : i < length lists) where
   -- the list that was set
-  same_list : (l : FreeList) → list_at (set lists i l) i ≡ l
+  same_list : (l : FreeList) → free_list (set lists i l) i ≡ l
   same_list l = get_or-set_same lists i l (record { first = 0; count = 0 }) within
 
   -- the others stay
-  other_list : (l : FreeList) (j : ℕ) → j ≢ i → list_at (set lists i l) j ≡ list_at lists j
+  other_list : (l : FreeList) (j : ℕ) → j ≢ i → free_list (set lists i l) j ≡ free_list lists j
   other_list l j n = get_or-set_other lists i j l (record { first = 0; count = 0 }) n
 
   -- the first block of a list is taken off, and used
-  module _ (l : FreeList) (p : 0 < count_at lists i) (first : l.first ≡ link_of (entry xs (list_at lists i).first)) (count : l.count ≡ count_at lists i - 1) (len : length ys ≡ length xs)
-      (same : (k : ℕ) → (InBlock (list_at lists i).first i k → ⊥) → entry ys k ≡ entry xs k) (w : IsLinked xs lists) where
+  module _ (l : FreeList) (p : 0 < count_at lists i) (first : l.first ≡ next_free (cell_at xs (free_list lists i).first)) (count : l.count ≡ count_at lists i - 1) (len : length ys ≡ length xs)
+      (same : (k : ℕ) → (InBlock (free_list lists i).first i k → ⊥) → cell_at ys k ≡ cell_at xs k) (w : IsLinked xs lists) where
     -- every block that is left was there before
     fewer : (j h : ℕ) → h < count_at (set lists i l) j → h < count_at lists j
     fewer j h b = ⊎_elim
@@ -106,7 +106,7 @@ module _ {T : Type 0} (xs ys : List (Cell T)) (lists : List FreeList) (i : ℕ) 
         omega (arith, b', c, count, f)
 
     -- every block that is left keeps its cells
-    keeps : (j h k : ℕ) → h < count_at (set lists i l) j → InBlock (w.base_of j h) j k → entry ys k ≡ entry xs k
+    keeps : (j h k : ℕ) → h < count_at (set lists i l) j → InBlock (w.base_of j h) j k → cell_at ys k ≡ cell_at xs k
     keeps j h k b in' = same k (λ out. let e = w.first i p in
         let a = w.apart j i h (count_at lists i - 1) k (fewer j h b) (omega arith) in' (omega (arith, e, out.0), omega (arith, e, out.1)) in
         rest j h b a.0 a.1)
@@ -121,16 +121,16 @@ module _ {T : Type 0} (xs ys : List (Cell T)) (lists : List FreeList) (i : ℕ) 
           let c : count_at (set lists i l) i ≡ l.count = ap (λ x. x.count) s in
           let n : 1 < count_at lists i = omega (arith, q', c, count) in
           let k = w.next i (count_at lists i - 2) (omega arith) in
-          let top : w.base_of i (count_at lists i - 2 + 1) ≡ (list_at lists i).first
+          let top : w.base_of i (count_at lists i - 2 + 1) ≡ (free_list lists i).first
           = ap (w.base_of i) (let t : count_at lists i - 2 + 1 ≡ count_at lists i - 1 = omega arith in t) ∙ sym (w.first i p) in
           let down : count_at lists i - 2 ≡ count_at (set lists i l) i - 1 = omega (arith, c, count) in
-          subst (λ x. (list_at (set lists i l) x).first ≡ w.base_of x (count_at (set lists i l) x - 1)) (sym e)
-          (ap (λ x. x.first) s ∙ first ∙ ap (λ x. link_of (entry xs x)) (sym top) ∙ k ∙ ap (w.base_of i) down))
+          subst (λ x. (free_list (set lists i l) x).first ≡ w.base_of x (count_at (set lists i l) x - 1)) (sym e)
+          (ap (λ x. x.first) s ∙ first ∙ ap (λ x. next_free (cell_at xs x)) (sym top) ∙ k ∙ ap (w.base_of i) down))
           (λ n. let s = other_list l j n in
           let c : count_at (set lists i l) j ≡ count_at lists j = ap (λ x. x.count) s in
           ap (λ x. x.first) s ∙ w.first j (subst (λ x. 0 < x) c q) ∙ ap (λ x. w.base_of j (x - 1)) (sym c))
           (cases_eq j i);
-      next = λ j h q. ap link_of (keeps j (h + 1) (w.base_of j (h + 1)) q (omega arith, omega arith)) ∙ w.next j h (fewer j (h + 1) q);
+      next = λ j h q. ap next_free (keeps j (h + 1) (w.base_of j (h + 1)) q (omega arith, omega arith)) ∙ w.next j h (fewer j (h + 1) q);
       within = λ j h q. let e = w.within j h (fewer j h q) in omega (arith, e, len);
       free = λ j h k q b. ap (λ c. is_some (value_of c)) (keeps j h k q b) ∙ w.free j h k (fewer j h q) b;
       apart = λ j j' g h k q q' b b'. w.apart j j' g h k (fewer j g q) (fewer j' h q') b b';
@@ -139,7 +139,7 @@ module _ {T : Type 0} (xs ys : List (Cell T)) (lists : List FreeList) (i : ℕ) 
   -- a block in use is put in front of a list
   module _ (l : FreeList) (base : ℕ) (first : l.first ≡ base) (count : l.count ≡ count_at lists i + 1) (len : length ys ≡ length xs) (inside : base + (i + 1) ≤ length xs)
       (used : (k : ℕ) → InBlock base i k → is_some (at xs k) ≡ true)
-      (filled : IsFilled (entry xs) (entry ys) base (i + 1) (Free (list_at lists i).first)) (w : IsLinked xs lists) where
+      (filled : IsFilled (cell_at xs) (cell_at ys) base (i + 1) (Free (free_list lists i).first)) (w : IsLinked xs lists) where
     -- where the blocks are now
     bases : ℕ → ℕ → ℕ
     bases j h = cond (eqb j i) (cond (eqb h (count_at lists i)) base (w.base_of j h)) (w.base_of j h)
@@ -176,7 +176,7 @@ module _ {T : Type 0} (xs ys : List (Cell T)) (lists : List FreeList) (i : ℕ) 
         (cases_eq j i)
 
     -- an old block keeps its cells, as they were free
-    old_keeps : (j h k : ℕ) → h < count_at lists j → InBlock (w.base_of j h) j k → entry ys k ≡ entry xs k
+    old_keeps : (j h k : ℕ) → h < count_at lists j → InBlock (w.base_of j h) j k → cell_at ys k ≡ cell_at xs k
     old_keeps j h k b in' = ⊎_elim (λ p. filled.below k p)
         (λ p. ⊎_elim (λ q. absurd (false≢true (sym (w.free j h k b in') ∙ used k (p, q)))) (λ q. filled.above k q) (cases_lt k (base + (i + 1))))
         (cases_lt k base)
@@ -186,7 +186,7 @@ module _ {T : Type 0} (xs ys : List (Cell T)) (lists : List FreeList) (i : ℕ) 
     linked_push = record {
       base_of = bases;
       first = λ j q. ⊎_elim
-          (λ n. ap (λ x. (list_at (set lists i l) x).first) n.0 ∙ ap (λ x. x.first) (same_list l) ∙ first ∙ sym n.2)
+          (λ n. ap (λ x. (free_list (set lists i l) x).first) n.0 ∙ ap (λ x. x.first) (same_list l) ∙ first ∙ sym n.2)
           (λ o. let other : j ≢ i = λ e. let c : count_at (set lists i l) i ≡ l.count = ap (λ x. x.count) (same_list l) in
           let o' : count_at (set lists i l) i - 1 < count_at lists i = subst (λ x. count_at (set lists i l) x - 1 < count_at lists x) e o.0 in
           omega (arith, c, count, o') in
@@ -197,11 +197,11 @@ module _ {T : Type 0} (xs ys : List (Cell T)) (lists : List FreeList) (i : ℕ) 
       next = λ j h q. ⊎_elim
           (λ n. ⊎_elim (λ m. absurd (omega (arith, n.1, m.1)))
           (λ o. let c : count_at lists i - 1 ≡ h = omega (arith, n.1) in let p : 0 < count_at lists i = omega (arith, n.1) in
-          ap (λ x. link_of (entry ys x)) n.2 ∙ ap link_of (filled.inside base (omega arith) (omega arith)) ∙ w.first i p
+          ap (λ x. next_free (cell_at ys x)) n.2 ∙ ap next_free (filled.inside base (omega arith) (omega arith)) ∙ w.first i p
           ∙ ap (w.base_of i) c ∙ ap (λ x. w.base_of x h) (sym n.0) ∙ sym o.1)
           (kind j h (omega arith)))
           (λ o. ⊎_elim (λ m. let o' : h + 1 < count_at lists i = subst (λ x. h + 1 < count_at lists x) m.0 o.0 in absurd (omega (arith, o', m.1)))
-          (λ o'. ap (λ x. link_of (entry ys x)) o.1 ∙ ap link_of (old_keeps j (h + 1) (w.base_of j (h + 1)) o.0 (omega arith, omega arith)) ∙ w.next j h o.0 ∙ sym o'.1)
+          (λ o'. ap (λ x. next_free (cell_at ys x)) o.1 ∙ ap next_free (old_keeps j (h + 1) (w.base_of j (h + 1)) o.0 (omega arith, omega arith)) ∙ w.next j h o.0 ∙ sym o'.1)
           (kind j h (omega arith)))
           (kind j (h + 1) q);
       within = λ j h q. ⊎_elim (λ n. omega (arith, n.0, n.2, len, inside)) (λ o. let e = w.within j h o.0 in omega (arith, e, o.1, len)) (kind j h q);

@@ -1,7 +1,7 @@
 -- What the calls of a pool of nodes and results do to each of its two pools.
 use Rattle.std.specs.Prelude.{ℕ, ◌≡◌, ◌≢◌, ◌+◌, ◌-◌, ◌<◌, ◌≤◌, None, Result, IsOk, IfOk, OnOk, OnErr}
 use Rattle.node_pool.specs.Cell.{IsFilled}
-use Rattle.node_pool.specs.Pool.{cell, cell_count, room, spare, KeepsBlocks, IsNoLarger, IsBehind, IsTaken, IsUsedBlock}
+use Rattle.node_pool.specs.Pool.{cell, cell_count, room, free_blocks, KeepsCells, IsNoLarger, IsBehind, IsTaken, IsUsedBlock}
 use Rattle.node_pool.specs.declared.pool.Pool.{Pool}
 use Rattle.node_pool.specs.declared.pools.NodePool.{NodePool}
 use Rattle.node_pool.specs.declared.pools.Block.{Block}
@@ -11,11 +11,11 @@ module _ {T A : Type 0} where
   -- A block of `size` cells is taken, which were free, or the call is refused, as there was less room. A free block of the size is taken before there are more cells.
   pub record TakesBlock {E : Type 0} (old new : Pool T A) (size : ℕ) (value : T) (result : Result ℕ E) : Type 0 where
     pub ok : IfOk result (λ base. IsTaken (cell old) (cell new) base size value)
-    pub err : OnErr result (KeepsBlocks old new)
-    pub again : 0 < spare old size → IsOk result × IsNoLarger old new
-    pub more : spare old size ≡ 0 → IfOk result (λ base. IsBehind old new base size)
-    pub fewer : OnOk result (spare new size ≡ spare old size - 1)
-    pub others : (s : ℕ) → 0 < s → s ≢ size → spare new s ≡ spare old s
+    pub err : OnErr result (KeepsCells old new)
+    pub again : 0 < free_blocks old size → IsOk result × IsNoLarger old new
+    pub more : free_blocks old size ≡ 0 → IfOk result (λ base. IsBehind old new base size)
+    pub fewer : OnOk result (free_blocks new size ≡ free_blocks old size - 1)
+    pub others : (s : ℕ) → 0 < s → s ≢ size → free_blocks new s ≡ free_blocks old s
     pub cost : room old ≤ room new + size
     pub full : OnErr result (room old < size)
 
@@ -24,8 +24,8 @@ module _ {T A : Type 0} where
     pub freed : IsFilled (cell old) (cell new) base size None
     pub count : cell_count new ≡ cell_count old
     pub no_cost : room new ≡ room old
-    pub one_more : spare new size ≡ spare old size + 1
-    pub others : (s : ℕ) → 0 < s → s ≢ size → spare new s ≡ spare old s
+    pub one_more : free_blocks new size ≡ free_blocks old size + 1
+    pub others : (s : ℕ) → 0 < s → s ≢ size → free_blocks new s ≡ free_blocks old s
 
 module _ {N R A : Type 0} where
   -- every cell of a block is in use
@@ -34,6 +34,6 @@ module _ {N R A : Type 0} where
   IsOut pool (Results base size) = (0 < size) × (size ≤ 15) × IsUsedBlock (cell pool.results) base size
 
   -- the block is free now, and nothing else has changed
-  abbrev pub IsGiven : NodePool N R A → NodePool N R A → Block → Type 0
-  IsGiven old new (Nodes base size) = GivesBlock old.nodes new.nodes base size × (new.results ≡ old.results)
-  IsGiven old new (Results base size) = GivesBlock old.results new.results base size × (new.nodes ≡ old.nodes)
+  abbrev pub IsGivenBack : NodePool N R A → NodePool N R A → Block → Type 0
+  IsGivenBack old new (Nodes base size) = GivesBlock old.nodes new.nodes base size × (new.results ≡ old.results)
+  IsGivenBack old new (Results base size) = GivesBlock old.results new.results base size × (new.nodes ≡ old.nodes)

@@ -10,17 +10,17 @@ module _ {T : Type 0} where
   value_of (Used value) = Some value
 
   -- the block that a free cell names
-  abbrev pub link_of : Cell T → ℕ
-  link_of (Free next) = next
-  link_of (Used _) = 0
+  abbrev pub next_free : Cell T → ℕ
+  next_free (Free next) = next
+  next_free (Used _) = 0
 
   -- the cell at a place; a free one where there is none
-  abbrev pub entry : List (Cell T) → ℕ → Cell T
-  entry cells k = slice_index_or cells k (Free 0)
+  abbrev pub cell_at : List (Cell T) → ℕ → Cell T
+  cell_at cells k = slice_index_or cells k (Free 0)
 
   -- the value at a place, or none where the cell is free or there is none
   abbrev pub at : List (Cell T) → ℕ → Option T
-  at cells k = value_of (entry cells k)
+  at cells k = value_of (cell_at cells k)
 
 module _ {A : Type 0} where
   -- every place of a block has the same now; the others stay

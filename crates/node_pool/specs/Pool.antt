@@ -18,27 +18,27 @@ module _ {T A : Type 0} where
   room pool = min (vec_capacity pool.cells) (2 ^ 32) - vec_len pool.cells
 
   -- how many free blocks of a size there are
-  abbrev pub spare : Pool T A → ℕ → ℕ
-  spare pool size = count_at pool.free (size - 1)
+  abbrev pub free_blocks : Pool T A → ℕ → ℕ
+  free_blocks pool size = count_at pool.free (size - 1)
 
   -- a pool has no cells
   pub record HasNoCells (pool : Pool T A) : Type 0 where
     pub no_value : (k : ℕ) → cell pool k ≡ None
     pub no_cell : cell_count pool ≡ 0
-    pub no_block : (size : ℕ) → spare pool size ≡ 0
+    pub no_block : (size : ℕ) → free_blocks pool size ≡ 0
 
   -- cells and free blocks stay, and there is no less room
-  pub record KeepsBlocks (old new : Pool T A) : Type 0 where
+  pub record KeepsCells (old new : Pool T A) : Type 0 where
     pub values : (k : ℕ) → cell new k ≡ cell old k
     pub count : cell_count new ≡ cell_count old
-    pub blocks : (size : ℕ) → spare new size ≡ spare old size
+    pub blocks : (size : ℕ) → free_blocks new size ≡ free_blocks old size
     pub no_less : room old ≤ room new
 
   -- another pool has the same cells and the same free blocks
   pub record HasSameCells (one other : Pool T A) : Type 0 where
     pub values : (k : ℕ) → cell other k ≡ cell one k
     pub count : cell_count other ≡ cell_count one
-    pub blocks : (size : ℕ) → spare other size ≡ spare one size
+    pub blocks : (size : ℕ) → free_blocks other size ≡ free_blocks one size
 
   -- no cell was added
   pub record IsNoLarger (old new : Pool T A) : Type 0 where
@@ -52,7 +52,7 @@ module _ {T A : Type 0} where
 
 module _ {T : Type 0} where
   -- one cell is written
-  pub record IsWritten (old new : ℕ → Option T) (index : ℕ) (value : T) : Type 0 where
+  pub record IsCellWritten (old new : ℕ → Option T) (index : ℕ) (value : T) : Type 0 where
     pub here : new index ≡ Some value
     pub other : (k : ℕ) → k ≢ index → new k ≡ old k
 

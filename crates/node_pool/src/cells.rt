@@ -1,7 +1,7 @@
 //! Plain work on slices of cells.
 
 ghost use Rattle.std.specs.Prelude.{◌≡◌, ◌+◌, ◌<◌, ◌≤◌, ◌⊎◌, length, is_some, false};
-ghost use Rattle.node_pool.specs.Cell.{value_of, link_of, entry, IsFilled, IsShifted};
+ghost use Rattle.node_pool.specs.Cell.{value_of, next_free, cell_at, IsFilled, IsShifted};
 
 /// A cell in use, or a free one. The first cell of a free block names the next block of its list.
 #[derive(Clone, Copy)]
@@ -20,7 +20,7 @@ pub struct FreeList {
 /// The next free block that a free cell names.
 pub fn next_of<T: Copy>(cell: Cell<T>) -> u32
     requires { is_some (value_of cell) ≡ false }
-    ensures { result ≡ link_of cell }
+    ensures { result ≡ next_free cell }
 {
     match cell {
         Cell::Free(next) => next,
@@ -31,7 +31,7 @@ pub fn next_of<T: Copy>(cell: Cell<T>) -> u32
 /// Writes one cell over a block of `size` cells.
 pub fn fill<T: Copy>(cells: &mut [Cell<T>], base: usize, size: usize, cell: Cell<T>)
     requires { base + size ≤ length cells.old }
-    ensures { IsFilled (entry cells.old) (entry cells.new) base size cell }
+    ensures { IsFilled (cell_at cells.old) (cell_at cells.new) base size cell }
 {
     for i in 0..size {
         cells[base + i] = cell;
@@ -51,7 +51,7 @@ pub fn shift<T: Copy>(
     requires to_in { to + (size + 1) ≤ length cells.old }
     requires gap_in { gap ≤ size }
     requires apart { (from + size ≤ to) ⊎ (to + (size + 1) ≤ from) }
-    ensures { IsShifted (entry cells.old) (entry cells.new) from size gap (Cell.Used value) to }
+    ensures { IsShifted (cell_at cells.old) (cell_at cells.new) from size gap (Cell.Used value) to }
 {
     for i in 0..gap {
         cells[to + i] = cells[from + i];

@@ -26,9 +26,9 @@ pub struct Pool<T, A: Allocator = Global> {
 }
 
 impl<T: Copy, A: Allocator> Pool<T, A> {
-    ghost use Rattle.node_pool.specs.Pool.{cell, cell_count, room, spare, HasNoCells, KeepsBlocks};
+    ghost use Rattle.node_pool.specs.Pool.{cell, cell_count, room, free_blocks, HasNoCells, KeepsCells};
     ghost use Rattle.node_pool.specs.Pool.{IsNoLarger, IsBehind, IsTaken, IsGrown};
-    ghost use Rattle.node_pool.specs.Pool.{IsWritten, IsUsedBlock, HasSameCells};
+    ghost use Rattle.node_pool.specs.Pool.{IsCellWritten, IsUsedBlock, HasSameCells};
     ghost use Rattle.node_pool.specs.Cell.{IsFilled};
 
     /// A pool with no cells.
@@ -70,7 +70,7 @@ impl<T: Copy, A: Allocator> Pool<T, A> {
     pub fn spare(&self, size: usize) -> usize
         requires some { 0 < size }
         requires few { size ≤ 16 }
-        ensures { result ≡ spare self.now size }
+        ensures { result ≡ free_blocks self.now size }
     {
         self.free[size - 1].count
     }
@@ -97,10 +97,10 @@ impl<T: Copy, A: Allocator> Pool<T, A> {
     /// Writes a cell that is in use.
     pub fn set(&mut self, place: u32, value: T)
         requires { is_some (cell self.old place) ≡ true }
-        ensures written { IsWritten (cell self.old) (cell self.new) place value }
+        ensures written { IsCellWritten (cell self.old) (cell self.new) place value }
         ensures count { cell_count self.new ≡ cell_count self.old }
         ensures room { room self.new ≡ room self.old }
-        ensures spare { (size : ℕ) → spare self.new size ≡ spare self.old size }
+        ensures spare { (size : ℕ) → free_blocks self.new size ≡ free_blocks self.old size }
     {
         self.cells[place as usize] = Cell::Used(value);
     }
@@ -108,7 +108,7 @@ impl<T: Copy, A: Allocator> Pool<T, A> {
     /// Makes room for `count` more cells: after it, takes and growths that together ask for at most
     /// `count` cells succeed.
     pub fn reserve(&mut self, count: usize) -> Result<(), NoMemory>
-        ensures same { KeepsBlocks self.old self.new }
+        ensures same { KeepsCells self.old self.new }
         ensures ok { OnOk result (count ≤ room self.new) }
         ensures full { OnErr result (room self.old < count) }
     {
@@ -125,14 +125,14 @@ impl<T: Copy, A: Allocator> Pool<T, A> {
         requires some { 0 < size }
         requires few { size ≤ 16 }
         ensures ok { IfOk result (λ base. IsTaken (cell self.old) (cell self.new) base size value) }
-        ensures err { OnErr result (KeepsBlocks self.old self.new) }
+        ensures err { OnErr result (KeepsCells self.old self.new) }
 
         // A free block of the size is taken, where there is one; else there are more cells.
-        ensures again { 0 < spare self.old size → IsOk result × IsNoLarger self.old self.new }
-        ensures more { spare self.old size ≡ 0
+        ensures again { 0 < free_blocks self.old size → IsOk result × IsNoLarger self.old self.new }
+        ensures more { free_blocks self.old size ≡ 0
             → IfOk result (λ base. IsBehind self.old self.new base size) }
-        ensures fewer { OnOk result (spare self.new size ≡ spare self.old size - 1) }
-        ensures others { (s : ℕ) → 0 < s → s ≢ size → spare self.new s ≡ spare self.old s }
+        ensures fewer { OnOk result (free_blocks self.new size ≡ free_blocks self.old size - 1) }
+        ensures others { (s : ℕ) → 0 < s → s ≢ size → free_blocks self.new s ≡ free_blocks self.old s }
 
         ensures room { room self.old ≤ room self.new + size }
         ensures full { OnErr result (room self.old < size) }
@@ -164,8 +164,8 @@ impl<T: Copy, A: Allocator> Pool<T, A> {
         ensures freed { IsFilled (cell self.old) (cell self.new) base size None }
         ensures count { cell_count self.new ≡ cell_count self.old }
         ensures room { room self.new ≡ room self.old }
-        ensures one_more { spare self.new size ≡ spare self.old size + 1 }
-        ensures others { (s : ℕ) → 0 < s → s ≢ size → spare self.new s ≡ spare self.old s }
+        ensures one_more { free_blocks self.new size ≡ free_blocks self.old size + 1 }
+        ensures others { (s : ℕ) → 0 < s → s ≢ size → free_blocks self.new s ≡ free_blocks self.old s }
     {
         let list = self.free[size - 1];
         let link = Cell::Free(list.first);
@@ -184,16 +184,16 @@ impl<T: Copy, A: Allocator> Pool<T, A> {
         requires used { IsUsedBlock (cell self.old) base size }
         ensures ok { IfOk result
             (λ to. IsGrown (cell self.old) (cell self.new) base size gap value to) }
-        ensures err { OnErr result (KeepsBlocks self.old self.new) }
+        ensures err { OnErr result (KeepsCells self.old self.new) }
 
         // As a take of the larger block, and then the old one is free.
-        ensures again { 0 < spare self.old (size + 1) → IsOk result × IsNoLarger self.old self.new }
-        ensures more { spare self.old (size + 1) ≡ 0
+        ensures again { 0 < free_blocks self.old (size + 1) → IsOk result × IsNoLarger self.old self.new }
+        ensures more { free_blocks self.old (size + 1) ≡ 0
             → IfOk result (λ to. IsBehind self.old self.new to (size + 1)) }
-        ensures fewer { OnOk result (spare self.new (size + 1) ≡ spare self.old (size + 1) - 1) }
-        ensures one_more { OnOk result (0 < size → spare self.new size ≡ spare self.old size + 1) }
+        ensures fewer { OnOk result (free_blocks self.new (size + 1) ≡ free_blocks self.old (size + 1) - 1) }
+        ensures one_more { OnOk result (0 < size → free_blocks self.new size ≡ free_blocks self.old size + 1) }
         ensures others { (s : ℕ) → 0 < s → s ≢ size → s ≢ size + 1
-            → spare self.new s ≡ spare self.old s }
+            → free_blocks self.new s ≡ free_blocks self.old s }
 
         ensures room { room self.old ≤ room self.new + (size + 1) }
         ensures full { OnErr result (room self.old < size + 1) }

@@ -54,14 +54,14 @@ impl<N: Copy, R: Copy, A: Allocator + Copy> NodePool<N, R, A> {
 }
 
 impl<N: Copy, R: Copy, A: Allocator> NodePool<N, R, A> {
-    ghost use Rattle.node_pool.specs.Pool.{room, KeepsBlocks};
-    ghost use Rattle.node_pool.specs.Blocks.{TakesBlock, IsOut, IsGiven};
+    ghost use Rattle.node_pool.specs.Pool.{room, KeepsCells};
+    ghost use Rattle.node_pool.specs.Blocks.{TakesBlock, IsOut, IsGivenBack};
 
     /// Makes room: after it, takes that together ask for at most `nodes` node cells and `results`
     /// result cells succeed.
     pub fn reserve(&mut self, nodes: usize, results: usize) -> Result<(), NoMemory>
-        ensures nodes { KeepsBlocks self.old.nodes self.new.nodes }
-        ensures results { KeepsBlocks self.old.results self.new.results }
+        ensures nodes { KeepsCells self.old.nodes self.new.nodes }
+        ensures results { KeepsCells self.old.results self.new.results }
         ensures node_room { OnOk result (nodes ≤ room self.new.nodes) }
         ensures result_room { OnOk result (results ≤ room self.new.results) }
         ensures full { OnErr result
@@ -96,7 +96,7 @@ impl<N: Copy, R: Copy, A: Allocator> NodePool<N, R, A> {
     /// Gives a block back. This needs no memory.
     pub fn give(&mut self, block: Block)
         requires { IsOut self.old block }
-        ensures { IsGiven self.old self.new block }
+        ensures { IsGivenBack self.old self.new block }
     {
         match block {
             Block::Nodes { base, size } => self.nodes.give(base, size),

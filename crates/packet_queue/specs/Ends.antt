@@ -18,17 +18,17 @@ QueueName B = TableId × Badge (Key (Taken B))
 
 module _ {B : Type 0} where
   -- the name of a channel's queue
-  abbrev pub named : {D Q M L A : Type 0} → Rows (Badge (Key (Taken B))) D Q M (Key (Taken B)) L A → QueueName B
-  named c = (c.stamps.shared.table_id, c.stamps.shared.key)
+  abbrev pub queue_name : {D Q M L A : Type 0} → Rows (Badge (Key (Taken B))) D Q M (Key (Taken B)) L A → QueueName B
+  queue_name c = (c.stamps.shared.table_id, c.stamps.shared.key)
 
 module _ {B A : Type 0} where
   -- the queue that an injector puts into
   abbrev pub puts_into : Injector B A → QueueName B
-  puts_into i = named (sends_on i.sender)
+  puts_into i = queue_name (sends_on i.sender)
 
   -- the queue that a taker takes from
   abbrev pub takes_from : Taker B A → QueueName B
-  takes_from t = named (receives_on t.receiver)
+  takes_from t = queue_name (receives_on t.receiver)
 
   -- the messages that an injector has put, oldest first
   abbrev pub put_by : Injector B A → List (Taken B)

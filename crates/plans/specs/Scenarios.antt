@@ -15,7 +15,7 @@ use Rattle.script.specs.declared.place.Located.{Located}
 use Rattle.network_model.specs.declared.network.NetworkFault.{NetworkFault}
 use Rattle.network_model.specs.World.{Network}
 use Rattle.network_model.specs.Network.{network_fault, program_limits}
-use Rattle.world.specs.Parts.{network_of}
+use Rattle.world.specs.Parts.{network_of_parts}
 use Rattle.plans.specs.declared.fault.Fault.{Fault}
 use Rattle.plans.specs.declared.plan.Plan.{Plan}
 use Rattle.plans.specs.Faults.{unplaced, line_fault, opening_fault, most_bytes, IsUnread, IsWantOfMemory}
@@ -24,7 +24,7 @@ use Rattle.plans.specs.Faults.{unplaced, line_fault, opening_fault, most_bytes, 
 
 -- the network of what was read
 abbrev pub network_read : Parts → Network
-network_read parts = network_of (min no_router (length parts.names)) parts.links parts.attachments
+network_read parts = network_of_parts (min no_router (length parts.names)) parts.links parts.attachments
 
 -- what was read of a text, up to the first fault of a line
 pub record IsRead (text : Text) (parts : Parts) (stop : Option Located) : Type 0 where

@@ -1,5 +1,4 @@
 pub mod Beginnings
-pub mod Announcing
 pub mod Ruling
 pub mod RowsAgain
 pub mod Tables

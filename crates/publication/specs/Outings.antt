@@ -16,7 +16,7 @@ abbrev pub new_outing : Writing → Patch → Outing
 new_outing w patch = record { before = w.published; patch = patch; is_published = false; writing = w }
 
 -- the list has as many publications as its generation says, and the patch has the next number
-pub record IsNext (before : Known) (patch : Patch) : Type 0 where
+pub record IsNextPatch (before : Known) (patch : Patch) : Type 0 where
   pub count : length before.publications ≡ generation_of before
   pub number : patch.generation ≡ generation_of before + 1
 
@@ -27,7 +27,7 @@ HasPublished true o = (waited : List Patch) × Covers o.patch waited × ((o.writ
 
 -- what every writer that is out keeps
 pub record IsOuting (o : Outing) : Type 0 where
-  pub next : IsNext o.before o.patch
+  pub next : IsNextPatch o.before o.patch
   pub published : HasPublished o.is_published o
 
 -- what stays of a writer that is out: what it had published, and the patch that it is to publish

@@ -13,7 +13,7 @@
 //! sets it too.
 //!
 //! Who saw what is said by *lists*. A writer's list has every publication that it made; it exists in the
-//! proofs alone (a [`logbook`]), and a [`Told`] is a token that its holder knows of a beginning of it.
+//! proofs alone ([`receipts`]), and a [`Told`] is a token that its holder knows of a beginning of it.
 //! Each copy has the `Told` of the list whose image it is; a reader keeps the longest that it met, so that
 //! what it sees never gets older; and a [`Job`] has one, by which a worker answers from an image no older
 //! than the asker knew of ([`ImageReader::learn`]).

@@ -4,11 +4,11 @@ ghost use Rattle.std.specs.Prelude.{◌≡◌, ◌<◌, length, IfOk, vec_len};
 ghost use Rattle.publication.specs.Lists.{no_patches};
 ghost use Rattle.publication.specs.Names.{book_of};
 
-use crate::book::{Head, Law};
+use crate::book::Head;
 use crate::known::Bundle;
 use crate::told::Told;
-use logbook::{Seen, Start, Word};
 use network_model::NoMemory;
+use receipts::Receipt;
 use std::alloc::Allocator;
 use std::marker::{Brand, Model, PhantomData};
 
@@ -37,30 +37,27 @@ impl FabricName for Brand {
 /// What a writer is made of before its fabric has a name. Contracts see it as its book.
 #[derive(Drop)]
 pub struct Unnamed {
-    head: Word<Bundle, u64, Law>,
-    seen: Seen<Bundle, u64, Law>,
+    head: receipts::Head<Bundle>,
+    known: Receipt<Bundle>,
 }
 
 impl Model for Unnamed {
     ghost use Rattle.std.specs.Prelude.{◌≡◌, []};
     ghost use Rattle.logbook.specs.Pages.{Book};
-    ghost use Rattle.publication.specs.Names.{head_of};
+    ghost use Rattle.receipts.specs.Logs.{head_of};
 
     ghost Value = { Book };
 
-    ghost view = { λ u. u.seen.book };
+    ghost view = { λ u. u.known.book };
 
-    ghost invariant = { λ u. (u.head ≡ head_of u.seen.book) × (u.seen.log ≡ []) };
+    ghost invariant = { λ u. (u.head ≡ head_of u.known.book) × (u.known.elements ≡ []) };
 }
 
 impl Unnamed {
     /// The part of one writer.
     pub fn new() -> Unnamed {
-        let (seen, mut first, _second) = Seen::open(Start::alone(), 0, 0);
-        Unnamed {
-            head: Word::tracked(0, &mut first),
-            seen,
-        }
+        let (head, known) = Receipt::open();
+        Unnamed { head, known }
     }
 
     /// The parts of so many writers.
@@ -81,7 +78,7 @@ impl Unnamed {
         ensures ledger { result.0.router ≡ router }
         ensures told { result.1 ≡ no_patches router }
     {
-        let Unnamed { head, seen } = self;
+        let Unnamed { head, known } = self;
         let ledger = Head {
             router,
             head,
@@ -89,9 +86,8 @@ impl Unnamed {
         };
         let told = Told {
             router,
-            count: 0,
             generation: 0,
-            seen,
+            known,
             of: PhantomData,
         };
         (ledger, told)

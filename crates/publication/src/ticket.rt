@@ -53,13 +53,13 @@ pub struct Stub<B: FabricName, A: Allocator = Global> {
 
 impl<B: FabricName, A: Allocator> Model for Stub<B, A> {
     ghost use Rattle.publication.specs.Lists.{patch_of};
-    ghost use Rattle.publication.specs.Outings.{IsNext, Stub as StubState};
+    ghost use Rattle.publication.specs.Outings.{IsNextPatch, Stub as StubState};
 
     ghost Value = { StubState };
 
     ghost view = { λ s. record { before = s.before; patch = patch_of s.patch } };
 
-    ghost invariant = { λ s. IsNext s.before (patch_of s.patch) };
+    ghost invariant = { λ s. IsNextPatch s.before (patch_of s.patch) };
 }
 
 impl<B: FabricName, A: Allocator> Stub<B, A> {

@@ -3,10 +3,10 @@
 ghost use Rattle.std.specs.Prelude.{◌≡◌, ◌⊎◌, ◌<◌, ◌↔◌, length, IfSome, IsTrue};
 ghost use Rattle.publication.specs.Lists.{Begins, bundle_of, generation_of, with_publication};
 
-use crate::book::{Add, Coming, Head, Law, Nothing};
+use crate::book::{Coming, Head};
 use crate::known::Bundle;
 use crate::name::FabricName;
-use logbook::{Offer, Seen};
+use receipts::Receipt;
 use std::alloc::Allocator;
 use std::marker::{Model, PhantomData};
 
@@ -15,9 +15,8 @@ use std::marker::{Model, PhantomData};
 #[derive(Drop)]
 pub struct Told<B: FabricName> {
     pub(crate) router: u16,
-    pub(crate) count: u64,
     pub(crate) generation: u64,
-    pub(crate) seen: Seen<Bundle, u64, Law>,
+    pub(crate) known: Receipt<Bundle>,
     pub(crate) of: PhantomData<B>,
 }
 
@@ -30,11 +29,10 @@ impl<B: FabricName> Model for Told<B> {
 
     ghost Value = { Known };
 
-    ghost view = { λ t. record { router = t.router; publications = t.seen.log } };
+    ghost view = { λ t. record { router = t.router; publications = t.known.elements } };
 
-    ghost invariant = { λ t. (t.count ≡ length t.seen.log)
-        × (t.generation ≡ published_generation 0 (patches_of t.seen.log))
-        × (t.seen.book ≡ book_of B.books t.router)
+    ghost invariant = { λ t. (t.generation ≡ published_generation 0 (patches_of t.known.elements))
+        × (t.known.book ≡ book_of B.books t.router)
         × (t.router < length B.books) };
 }
 
@@ -60,9 +58,8 @@ impl<B: FabricName> Told<B> {
     {
         Told {
             router: self.router,
-            count: self.count,
             generation: self.generation,
-            seen: self.seen.again(),
+            known: self.known.again(),
             of: PhantomData,
         }
     }
@@ -74,9 +71,10 @@ impl<B: FabricName> Told<B> {
         ensures this { Begins self.now result }
         ensures that { Begins other.now result }
     {
-        let mut both = self.seen.again();
-        both.learn(&other.seen);
-        if self.count < other.count {
+        self.known.meet(&other.known);
+        let ours = self.known.count();
+        let theirs = other.known.count();
+        if ours < theirs {
             other.again()
         } else {
             self.again()
@@ -87,19 +85,17 @@ impl<B: FabricName> Told<B> {
     pub(crate) fn begins(&self, other: &Told<B>) -> bool
         ensures { IsTrue result ↔ Begins self.now other.now }
     {
-        if self.router != other.router || self.count > other.count {
+        if self.router != other.router {
             return false;
         }
-        let mut both = self.seen.again();
-        both.learn(&other.seen);
-        true
+        self.known.begins(&other.known)
     }
 
     /// Whether both are one list.
     pub(crate) fn is(&self, other: &Told<B>) -> bool
         ensures { IsTrue result ↔ (self.now ≡ other.now) }
     {
-        if self.router != other.router || self.count != other.count {
+        if self.router != other.router || self.known.count() != other.known.count() {
             return false;
         }
         self.meet(other);
@@ -112,8 +108,7 @@ impl<B: FabricName> Told<B> {
         requires count { length self.now.publications ≡ length other.now.publications }
         ensures { self.now ≡ other.now }
     {
-        let mut both = self.seen.again();
-        both.learn(&other.seen);
+        self.known.meet(&other.known);
     }
 
     /// The list with one more publication. None where the list is longer than this.
@@ -123,29 +118,11 @@ impl<B: FabricName> Told<B> {
             (λ t. t ≡ with_publication self.now
             (bundle_of coming.now.waiting.items coming.now.patch)) }
     {
-        if self.count == u64::MAX {
-            return None;
-        }
-        let mut seen = self.seen.again();
-        let mut offer: Offer<Bundle, u64, Law, Nothing> = seen.plain::<Nothing, Coming<A>, Add>(
-            coming,
-        );
-        let mut pen = seen.no_pen();
-        let found = ledger.head.compare_exchange::<Add, Nothing>(
-            self.count,
-            self.count + 1,
-            &mut seen,
-            &mut offer,
-            &mut pen,
-        );
-        if found != self.count {
-            return None;
-        }
+        let known = self.known.add(&ledger.head, coming)?;
         Some(Told {
             router: self.router,
-            count: self.count + 1,
             generation: coming.patch.generation,
-            seen,
+            known,
             of: PhantomData,
         })
     }

@@ -64,6 +64,6 @@ pub record IsPublished (r : Router) (old new : List Row) (written : ℕ) (more :
   pub number : generation ≡ (router_given (length old) r).generation
 
 -- the rows that a router has chosen, as a program is given them, and how many these are
-pub record IsListed (r : Router) (old new : List Row) (written : ℕ) : Type 0 where
+pub record AreChosenListed (r : Router) (old new : List Row) (written : ℕ) : Type 0 where
   pub rows : IsWrittenOver (r.table).control old new
   pub count : written ≡ length (r.table).control

@@ -40,9 +40,9 @@ ghost use Rattle.single_router.specs.Inputs as inputs;
 ghost use Rattle.router_core.specs.Alone.{router_forgetting};
 ghost use Rattle.single_router.specs.Bounded.{bounded_make_fault, bounded_router, with_router};
 ghost use Rattle.single_router.specs.Publishing.{publish_fault, router_given, room_fault};
-ghost use Rattle.single_router.specs.States.{counts_of, flag, shown_state};
+ghost use Rattle.single_router.specs.States.{router_counts, flag, shown_state};
 ghost use Rattle.router_ffi.specs.Handles.{handle_router};
-ghost use Rattle.router_ffi.specs.Calls.{IsStatusOnlyBy, ReadNeedsMemory, held_fault, tell_fault, told, release_fault, state_fault, forget_call_fault, IsTold, IsPublished, IsListed};
+ghost use Rattle.router_ffi.specs.Calls.{IsStatusOnlyBy, ReadNeedsMemory, held_fault, tell_fault, told, release_fault, state_fault, forget_call_fault, IsTold, IsPublished, AreChosenListed};
 
 use c_interface::{CallFault, Row, read_prefix, status};
 use single_router::{Attachment, Counts, Frame, Input, Published, SingleRouter, State};
@@ -213,7 +213,7 @@ pub extern "C" fn tuhvondi_router_counts(
 ) -> u32
     ensures status { result ≡ status_by (held_fault (λ _. None) (handle_router router.old)) }
     ensures done { result ≡ 0 →
-        option_map (λ b. counts_of b.router) (handle_router router.old) ≡ Some counts.new }
+        option_map (λ b. router_counts b.router) (handle_router router.old) ≡ Some counts.new }
     ensures refused { result ≢ 0 → counts.new ≡ counts.old }
     ensures router { handle_router router.new ≡ handle_router router.old }
 {
@@ -359,7 +359,7 @@ pub extern "C" fn tuhvondi_router_rows(
     ensures status { result ≡ status_by (held_fault (λ b.
         room_fault (length ((b.router).table).control) (length rows.old)) (handle_router router.old)) }
     ensures done { result ≡ 0 → IfSome (handle_router router.old) (λ b.
-        IsListed b.router rows.old rows.new written.new) }
+        AreChosenListed b.router rows.old rows.new written.new) }
     ensures refused { result ≢ 0 → (rows.new ≡ rows.old) × (written.new ≡ written.old) }
     ensures router { handle_router router.new ≡ handle_router router.old }
 {

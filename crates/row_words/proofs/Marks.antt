@@ -16,12 +16,12 @@ use Rattle.ipv4_prefix.proofs.SortedRows.{to_T, from_T}
 use Rattle.network_model.specs.Publication.{with_rows}
 use Rattle.network_model.specs.declared.route.Entry.{Entry}
 use Rattle.network_model.proofs.RowLaws.{map-put, sorted-put, with_rows-sorted}
-use Rattle.array_bitmap.specs.Words.{nothing, word_of, answer_word}
+use Rattle.array_bitmap.specs.Words.{nothing, row_word, answer_word}
 use Rattle.array_bitmap.specs.Removal.{without_row}
 use Rattle.array_bitmap.specs.Cursor.{is_before, rows_from, rows_onward, first_row_from, IsHeadFrom}
 use Rattle.array_bitmap.proofs.RowsFrom.{all_from}
 use Rattle.std.proofs.lemmas.Option.{none-some}
-use Rattle.row_words.specs.Rows.{slot_entry, slot_of, slot_word, no_mark, mark_in, marked, numbered, with_marked, without_marked, word_or_none, IsSlot, AreSlots, AreKept}
+use Rattle.row_words.specs.Rows.{slot_entry, slot_of, slot_word, no_mark, mark_in, marked, with_slots, with_marked, without_marked, word_or_none, IsSlot, AreSlots, AreKept}
 use Rattle.row_words.specs.declared.cells.Marked.{Marked}
 
 -- ---- rows whose values are changed
@@ -80,7 +80,7 @@ pub slot_number : (k : ℕ) → slot_of (slot_entry k) ≡ k
 slot_number k = omega arith
 
 -- numbers from one on are those of cells, if there are as many
-pub slots_numbered : (n k : ℕ) (rows : List (Prefix × Marked)) → 0 < k → k + length rows ≤ n → AreSlots n (numbered k rows)
+pub slots_numbered : (n k : ℕ) (rows : List (Prefix × Marked)) → 0 < k → k + length rows ≤ n → AreSlots n (with_slots k rows)
 slots_numbered n k [] real room = tt
 slots_numbered n k (r ∷ rs) real room =
     let at = slot_number k in (
@@ -141,16 +141,16 @@ marked_more cells more (r ∷ rs) all =
     λ i. (r.0, get_or-append cells more no_mark (slot_of r.1) slot.within i) ∷ marked_more cells more rs all.1 i
 
 -- the numbers of cells that are put behind the others stand for their rows
-pub marked_numbered : (cells : List Marked) (rows : List (Prefix × Marked)) → marked (cells ++ map (λ r. r.1) rows) (numbered (length cells) rows) ≡ rows
+pub marked_numbered : (cells : List Marked) (rows : List (Prefix × Marked)) → marked (cells ++ map (λ r. r.1) rows) (with_slots (length cells) rows) ≡ rows
 marked_numbered cells [] = refl
 marked_numbered cells (r ∷ rs) =
     let more : List Marked = map (λ s. s.1) rs in
     let here : mark_in (cells ++ r.1 ∷ more) (slot_entry (length cells)) ≡ r.1 =
     ap (λ k. get_or (cells ++ r.1 ∷ more) k no_mark) (slot_number (length cells)) ∙ get_or-append_seam cells r.1 more no_mark in
     let many : length (cells ++ r.1 ∷ []) ≡ length cells + 1 = omega (arith, length-append cells (r.1 ∷ [])) in
-    let rest : marked (cells ++ r.1 ∷ more) (numbered (length cells + 1) rs) ≡ rs =
-    ap (λ xs. marked xs (numbered (length cells + 1) rs)) (sym (append_assoc cells (r.1 ∷ []) more))
-    ∙ ap (λ n. marked ((cells ++ r.1 ∷ []) ++ more) (numbered n rs)) (sym many)
+    let rest : marked (cells ++ r.1 ∷ more) (with_slots (length cells + 1) rs) ≡ rs =
+    ap (λ xs. marked xs (with_slots (length cells + 1) rs)) (sym (append_assoc cells (r.1 ∷ []) more))
+    ∙ ap (λ n. marked ((cells ++ r.1 ∷ []) ++ more) (with_slots n rs)) (sym many)
     ∙ marked_numbered (cells ++ r.1 ∷ []) rs in
     λ i. (r.0, here i) ∷ rest i
 
@@ -182,8 +182,8 @@ module _ (cells : List Marked) where
   word_named (Some r) few none slot =
       let within = slot.within in
       let s = slot_of r.1 in
-      let last : word_of (r.0).len (slot_entry s) % 2 ^ 24 ≡ s = last_bits s (r.0).len (omega (arith, within, few)) in
-      ap (λ k. (get_or cells k no_mark).word) (ap (λ e. word_of (r.0).len e % 2 ^ 24) slot.is ∙ last)
+      let last : row_word (r.0).len (slot_entry s) % 2 ^ 24 ≡ s = last_bits s (r.0).len (omega (arith, within, few)) in
+      ap (λ k. (get_or cells k no_mark).word) (ap (λ e. row_word (r.0).len e % 2 ^ 24) slot.is ∙ last)
     where
       last_bits : (s len : ℕ) → s < 2 ^ 24 → (s % 2 ^ 16 + 2 ^ 16 * (s / 2 ^ 16) + 2 ^ 24 + 2 ^ 26 * len) % 2 ^ 24 ≡ s
       last_bits s len small = omega (arith, small)
@@ -233,23 +233,23 @@ module _ (cells : List Marked) (rows : List (Prefix × Marked)) (table : List (P
   many_cells = length-append cells (map (λ r. r.1) rows) ∙ ap (λ n. length cells + n) (length-map rows (λ r. r.1))
 
   -- where rows are set by the numbers of new cells
-  pub kept_set : length cells + length rows < 2 ^ 24 → AreKept (with_rows (numbered (length cells) rows) table) (cells ++ map (λ r. r.1) rows)
+  pub kept_set : length cells + length rows < 2 ^ 24 → AreKept (with_rows (with_slots (length cells) rows) table) (cells ++ map (λ r. r.1) rows)
   kept_set room =
       let some = kept.some in
       let n = length (cells ++ map (λ r. r.1) rows) in record {
-        slots = slots_with n (numbered (length cells) rows) table (slots_numbered n (length cells) rows some (omega (arith, many_cells)))
+        slots = slots_with n (with_slots (length cells) rows) table (slots_numbered n (length cells) rows some (omega (arith, many_cells)))
             (slots_more (length cells) n table (omega (arith, many_cells)) kept.slots);
         some = omega (arith, many_cells, some);
         few = omega (arith, many_cells, room);
         none = get_or-append cells (map (λ r. r.1) rows) no_mark 0 some ∙ kept.none;
-        sorted = sorted_with (numbered (length cells) rows) table kept.sorted;
+        sorted = sorted_with (with_slots (length cells) rows) table kept.sorted;
       }
 
   -- they stand for the rows, set over those from before
-  pub marked_set : marked (cells ++ map (λ r. r.1) rows) (with_rows (numbered (length cells) rows) table) ≡ with_marked rows (marked cells table)
+  pub marked_set : marked (cells ++ map (λ r. r.1) rows) (with_rows (with_slots (length cells) rows) table) ≡ with_marked rows (marked cells table)
   marked_set =
       let all = cells ++ map (λ r. r.1) rows in
-      marked_with all (numbered (length cells) rows) table
+      marked_with all (with_slots (length cells) rows) table
       ∙ ap (λ rs. with_marked rs (marked all table)) (marked_numbered cells rows)
       ∙ ap (with_marked rows) (marked_more cells (map (λ r. r.1) rows) table kept.slots)
 

@@ -26,16 +26,16 @@ word_or_none None = 2 ^ 32 - 1
 word_or_none (Some row) = row.1.word
 
 -- the caller's word of the longest match, or 2^32 - 1 if no row covers the address
-abbrev pub word_answer : WordTable → ℕ → ℕ
-word_answer table addr = word_or_none (marked_answer table addr)
+abbrev pub caller_word : WordTable → ℕ → ℕ
+caller_word table addr = word_or_none (marked_answer table addr)
 
 -- rows without their words
 abbrev pub entries_of : List (Prefix × Marked) → List (Prefix × Entry)
 entries_of rows = map (λ r. (r.0, r.1.entry)) rows
 
 -- the image that a table is to those who look at no word
-abbrev pub image_of : WordTable → Image
-image_of table = record { generation = table.generation; rows = entries_of table.rows }
+abbrev pub plain_image : WordTable → Image
+plain_image table = record { generation = table.generation; rows = entries_of table.rows }
 
 -- rows set over others, in order
 abbrev pub with_marked : List (Prefix × Marked) → List (Prefix × Marked) → List (Prefix × Marked)
@@ -75,9 +75,9 @@ abbrev pub marked : List Marked → List (Prefix × Entry) → List (Prefix × M
 marked cells rows = map (λ r. (r.0, mark_in cells r.1)) rows
 
 -- rows with the numbers of new cells, from a number on
-abbrev pub numbered : ℕ → List (Prefix × Marked) → List (Prefix × Entry)
-numbered slot [] = []
-numbered slot (r ∷ rs) = (r.0, slot_entry slot) ∷ numbered (slot + 1) rs
+abbrev pub with_slots : ℕ → List (Prefix × Marked) → List (Prefix × Entry)
+with_slots slot [] = []
+with_slots slot (r ∷ rs) = (r.0, slot_entry slot) ∷ with_slots (slot + 1) rs
 
 -- an entry says the number of a cell, of which there are n, and not 0
 pub record IsSlot (n : ℕ) (entry : Entry) : Type 0 where

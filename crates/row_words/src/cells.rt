@@ -1,7 +1,7 @@
 //! Cells, and the numbers by which rows name them.
 
 ghost use Rattle.std.specs.Prelude.{◌≡◌, ◌+◌, ◌^◌, ◌<◌, ◌++◌, IfOk, OnErr, OnOk, length, map};
-ghost use Rattle.row_words.specs.Rows.{mark_in, numbered, slot_entry, slot_of, slot_word};
+ghost use Rattle.row_words.specs.Rows.{mark_in, with_slots, slot_entry, slot_of, slot_word};
 
 use network_model::{Entry, NoMemory, Prefix};
 use std::alloc::Allocator;
@@ -70,7 +70,7 @@ pub(crate) fn number_rows<A: Allocator>(
     rows: &[(Prefix, Marked)],
 ) -> Result<Vec<(Prefix, Entry), A>, NoMemory>
     requires { from + length rows.now < 2 ^ 24 }
-    ensures { IfOk result (λ v. v.items ≡ numbered from rows.now) }
+    ensures { IfOk result (λ v. v.items ≡ with_slots from rows.now) }
 {
     let mut slots = Vec::with_capacity(alloc, rows.len())?;
     let mut slot = from;

@@ -2,7 +2,7 @@
 
 ghost use Rattle.std.specs.Prelude.{◌≡◌, ◌<◌, [], IfOk, IfSome, OnErr, OnOk, length, map};
 ghost use Rattle.array_bitmap.specs.Cursor.{first_row_from, IsHeadFrom};
-ghost use Rattle.row_words.specs.Rows.{marked, marked_answer, with_marked, without_marked, word_answer, AreKept};
+ghost use Rattle.row_words.specs.Rows.{marked, marked_answer, with_marked, without_marked, caller_word, AreKept};
 
 use crate::cells::Marked;
 use crate::parts::{
@@ -160,7 +160,7 @@ impl<A: Allocator> WordImage<A> {
 
     /// The word of what `lookup` answers; [`crate::NO_WORD`] if no row covers the address.
     pub fn lookup_word(&self, addr: u32) -> u32
-        ensures { result ≡ word_answer self.now addr }
+        ensures { result ≡ caller_word self.now addr }
     {
         answer_word(&self.image, &self.cells, addr)
     }
@@ -169,7 +169,7 @@ impl<A: Allocator> WordImage<A> {
     /// memory.
     pub fn lookup_words(&self, addrs: &[u32], words: &mut [u32])
         requires { length words.old ≡ length addrs.now }
-        ensures { words.new ≡ map (word_answer self.now) addrs.now }
+        ensures { words.new ≡ map (caller_word self.now) addrs.now }
     {
         answer_words(&self.image, &self.cells, addrs, words);
     }

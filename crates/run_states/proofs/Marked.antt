@@ -1,4 +1,4 @@
--- Marks, one after another, and that what is current stays so by a step whose link, router and machines are marked.
+-- MarksTouched, one after another, and that what is current stays so by a step whose link, router and machines are marked.
 use Rattle.std.proofs.Common.{refl, sym, ap, subst, ◌∙◌, ◌≡◌, ◌≢◌, ◌⊎◌, inl, inr, ℕ, ◌<◌, ◌≤◌, ◌||◌, Bool, false, true, List, All, length, get_or, set, Option, Some, None, slice_get, vec_len, Ok, Err, Result, arith}
 use Rattle.std.specs.Prelude.{OnErr, OnOk, map}
 use Rattle.std.specs.FinMap.{find as row_of}
@@ -23,7 +23,7 @@ use Rattle.run_states.specs.declared.shown.MachineShown.{MachineShown}
 use Rattle.run_states.specs.declared.recorder.Recorder.{Recorder}
 use Rattle.run_states.specs.Books.{HasPlaces, MachinesMarked, ShowsPlace, link_shows, router_shows}
 use Rattle.run_states.specs.Recorders.{IsCurrent, IsRecorderOf, IsRouterCurrent}
-use Rattle.run_states.specs.Marks.{AreCut, LinkMarked, Marks, RouterMarked, StepMarked, cuts, either_of, touched_link, touched_router, touches}
+use Rattle.run_states.specs.Marks.{AreCut, LinkMarked, MarksTouched, RouterMarked, StepMarked, cuts, either_of, touched_link, touched_router, may_touch}
 use Rattle.run_states.proofs.Lists.{all_at, all_from, slice_get-set_other, slice_get-set_same, written_alike}
 use Rattle.run_states.proofs.Unmet.{Remembers, SameMachine, machine_untouched, remembered, stays, stays_heard}
 use Rattle.world.proofs.Untouched.{untouched}
@@ -200,7 +200,7 @@ no_link r goes_down = record {
 }
 
 -- a step that touches no router
-link_marks : (w : World) (s : Step) (before after : Recorder) → touched_router w s ≡ None → LinkMarked (touched_link w s) (cuts s) before after → Marks w s before after
+link_marks : (w : World) (s : Step) (before after : Recorder) → touched_router w s ≡ None → LinkMarked (touched_link w s) (cuts s) before after → MarksTouched w s before after
 link_marks w s before after none marked = record {
   prefixes = marked.prefixes;
   shows = record { prefixes = marked.prefixes; links = marked.shows; routers = ap (λ rs. map router_shows rs.items) marked.routers };
@@ -212,8 +212,8 @@ link_marks w s before after none marked = record {
 }
 
 -- a step that touches a router, and a link or none
-router_marks : (w : World) (s : Step) (router : ℕ) (Spared : Prefix → Type 0) (before mid after : Recorder) → touched_router w s ≡ Some router → ((p : Prefix) → Spared p → touches w s p ≡ false)
-    → RouterMarked router Spared before mid → LinkMarked (touched_link w s) (cuts s) mid after → Marks w s before after
+router_marks : (w : World) (s : Step) (router : ℕ) (Spared : Prefix → Type 0) (before mid after : Recorder) → touched_router w s ≡ Some router → ((p : Prefix) → Spared p → may_touch w s p ≡ false)
+    → RouterMarked router Spared before mid → LinkMarked (touched_link w s) (cuts s) mid after → MarksTouched w s before after
 router_marks w s router Spared before mid after is spares routers links = record {
   prefixes = links.prefixes ∙ routers.prefixes;
   shows = record {
@@ -226,17 +226,17 @@ router_marks w s router Spared before mid after is spares routers links = record
   others = λ i d. ap (λ rs. slice_get rs.items i) links.routers ∙ routers.others i (λ e. d (is ∙ ap Some (sym e)));
   book = λ i b touched at.
       let here : router ≡ i = same_Some router i (sym is ∙ touched) in
-      subst (λ k. (old : RouterBook) × (slice_get (before.routers).items k ≡ Some old) × MachinesMarked (λ p. touches w s p ≡ false) (before.prefixes).items old b) here
+      subst (λ k. (old : RouterBook) × (slice_get (before.routers).items k ≡ Some old) × MachinesMarked (λ p. may_touch w s p ≡ false) (before.prefixes).items old b) here
       (let old = routers.book b (subst (λ rs. slice_get rs.items router ≡ Some b) links.routers (subst (λ k. slice_get (after.routers).items k ≡ Some b) (sym here) at)) in
       (old.0, old.1, record { shown = old.2.shown; machines = old.2.machines; places = old.2.places; is_marked = old.2.is_marked; spared = λ j p there unmarked. let was = old.2.spared j p there unmarked in (was.0, spares p was.1) }));
   of = λ v of. link_of (touched_link w s) (cuts s) mid after v links (router_of router Spared before mid v routers of);
 }
 
 -- of a step that touches a router
-pub one_marked : (w : World) (s : Step) (router : ℕ) (before after : Recorder) → touched_router w s ≡ Some router → RouterMarked router (λ p. touches w s p ≡ false) before after → StepMarked w s before after
+pub one_marked : (w : World) (s : Step) (router : ℕ) (before after : Recorder) → touched_router w s ≡ Some router → RouterMarked router (λ p. may_touch w s p ≡ false) before after → StepMarked w s before after
 one_marked w s router before after is marked = record {
   none = λ none. absurd (none-some router (sym none ∙ is));
-  one = λ i touched. subst (λ k. RouterMarked k (λ p. touches w s p ≡ false) before after) (same_Some router i (sym is ∙ touched)) marked;
+  one = λ i touched. subst (λ k. RouterMarked k (λ p. may_touch w s p ≡ false) before after) (same_Some router i (sym is ∙ touched)) marked;
 }
 
 -- of a step that touches none
@@ -244,12 +244,12 @@ pub none_marked : (w : World) (s : Step) (r : Recorder) → touched_router w s �
 none_marked w s r none = record { none = λ _. refl; one = λ i touched. absurd (none-some i (sym none ∙ touched)) }
 
 -- the router of a step is marked, and then its link
-pub step_marks : (w : World) (s : Step) (before mid after : Recorder) → StepMarked w s before mid → LinkMarked (touched_link w s) (cuts s) mid after → Marks w s before after
+pub step_marks : (w : World) (s : Step) (before mid after : Recorder) → StepMarked w s before mid → LinkMarked (touched_link w s) (cuts s) mid after → MarksTouched w s before after
 step_marks w s before mid after routers links = by_router (touched_router w s) refl
   where
-    by_router : (o : Option ℕ) → touched_router w s ≡ o → Marks w s before after
-    by_router None is = subst (λ r. Marks w s r after) (routers.none is) (link_marks w s mid after is links)
-    by_router (Some i) is = router_marks w s i (λ p. touches w s p ≡ false) before mid after is (λ p so. so) (routers.one i is) links
+    by_router : (o : Option ℕ) → touched_router w s ≡ o → MarksTouched w s before after
+    by_router None is = subst (λ r. MarksTouched w s r after) (routers.none is) (link_marks w s mid after is links)
+    by_router (Some i) is = router_marks w s i (λ p. may_touch w s p ≡ false) before mid after is (λ p so. so) (routers.one i is) links
 
 -- ---- what is current
 
@@ -308,7 +308,7 @@ pub record IsLedTo (w : World) (s : Step) (v : World) : Type 0 where
   pub attachments_len : length v.attachments ≡ length w.attachments
   pub links : (l : ℕ) → touched_link w s ≢ Some l → slice_get v.links l ≡ slice_get w.links l
   pub routers : (i : ℕ) → touched_router w s ≢ Some i → (slice_get v.routers i ≡ slice_get w.routers i) × (slice_get v.attachments i ≡ slice_get w.attachments i)
-  pub machines : (i : ℕ) (x y : Router) (p : Prefix) → touched_router w s ≡ Some i → slice_get w.routers i ≡ Some x → slice_get v.routers i ≡ Some y → touches w s p ≡ false → SameMachine p x y
+  pub machines : (i : ℕ) (x y : Router) (p : Prefix) → touched_router w s ≡ Some i → slice_get w.routers i ≡ Some x → slice_get v.routers i ≡ Some y → may_touch w s p ≡ false → SameMachine p x y
   pub heard : (i : ℕ) (x y : Router) (p : Prefix) → touched_router w s ≡ Some i → slice_get w.routers i ≡ Some x → slice_get v.routers i ≡ Some y → Remembers p x y
 
 pub led_to_next : (n : Network) (w : World) (s : Step) → IsReached n w → IsLedTo w s (next w s)
@@ -337,7 +337,7 @@ led_nowhere w s = record {
 }
 
 -- what is current stays so, where what the step may change is marked
-pub current_after : (w : World) (s : Step) (v : World) (before after : Recorder) → IsLedTo w s v → IsRecorderOf w before → Marks w s before after → IsCurrent w before → IsCurrent v after
+pub current_after : (w : World) (s : Step) (v : World) (before after : Recorder) → IsLedTo w s v → IsRecorderOf w before → MarksTouched w s before after → IsCurrent w before → IsCurrent v after
 current_after w s v before after led of marks current = record {
   links = λ l k b at book unmarked.
       let kept = marks.links l b book unmarked in

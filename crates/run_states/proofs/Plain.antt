@@ -27,7 +27,7 @@ use Rattle.run_states.specs.declared.recorder.Changes.{Changes}
 use Rattle.run_states.specs.declared.router_book.RouterChange.{RouterChange}
 use Rattle.run_states.specs.declared.shown.MachineShown.{MachineShown}
 use Rattle.run_states.specs.Queues.{is_nothing}
-use Rattle.run_states.specs.Values.{count, distance_data, entry_data, item_data, items_data, link_data, links_data, list, listed, machine_data, machine_members, machines_data, number_of_end, opening_data, port_data, ports_data, put_if, put_list, put_moment, put_step, queue_data, queue_listed, queues_data, router_data, routers_data, state_data, word}
+use Rattle.run_states.specs.Values.{count_value, distance_data, entry_data, item_data, items_data, link_data, links_data, list, listed, machine_data, machine_members, machines_data, number_of_end, opening_data, port_data, ports_data, put_if, put_list, put_moment, put_step, queue_data, queue_listed, queues_data, router_data, routers_data, state_data, word}
 
 -- ---- tests
 
@@ -88,12 +88,12 @@ put_step_plain (Some text) ms all = put_plain (codes "step") (word text) ms refl
 -- ---- parts of a state
 
 distance_plain : (d : ℕ) → has_float (distance_data d) ≡ false
-distance_plain d = if_plain (d == infinity) null (count d) refl refl
+distance_plain d = if_plain (d == infinity) null (count_value d) refl refl
 
 port_plain : (w : World) (i q : ℕ) → has_float (port_data w i q) ≡ false
 port_plain w i q = of_place (place_at w i q)
   where
-    of_place : (o : Option Place) → has_float (option_map_or (λ p. count p.link) o null) ≡ false
+    of_place : (o : Option Place) → has_float (option_map_or (λ p. count_value p.link) o null) ≡ false
     of_place None = refl
     of_place (Some p) = refl
 
@@ -109,7 +109,7 @@ machine_plain w i p m = by_origin (m.at).origin
     rest : members_have_float (machine_members w i p m) ≡ false
     rest = or_false (entry_plain w i m.chosen) (or_false (distance_plain (m.at).fd) (or_false (entry_plain w i m.published) (or_false (distance_plain (m.at).rd) refl)))
 
-    by_origin : (o : Option ℕ) → has_float (object (option_map_or (λ origin. member (codes "active") (count origin) (member (codes "awaits") (ports_data w i m.awaited) (machine_members w i p m))) o (machine_members w i p m))) ≡ false
+    by_origin : (o : Option ℕ) → has_float (object (option_map_or (λ origin. member (codes "active") (count_value origin) (member (codes "awaits") (ports_data w i m.awaited) (machine_members w i p m))) o (machine_members w i p m))) ≡ false
     by_origin None = rest
     by_origin (Some origin) = or_false (map_plain (port_data w i) (filter (set.contains m.awaited) (range_with_len 0 32)) (port_plain w i)) rest
 
@@ -121,13 +121,13 @@ item_plain ps (Item.Message m) = or_false (distance_plain m.value) refl
 
 queue_plain : (ps : List Prefix) (l : ℕ) (e : End) (c : QueueChange) → has_float (queue_data ps l e c) ≡ false
 queue_plain ps l e c =
-    let ends : Members = put (codes "end") (count (number_of_end e)) (put (codes "link") (count l) no_members) in
-    let taken : Members = put_if (nat_lt 0 c.take) (codes "take") (count c.take) ends in
+    let ends : Members = put (codes "end") (count_value (number_of_end e)) (put (codes "link") (count_value l) no_members) in
+    let taken : Members = put_if (nat_lt 0 c.take) (codes "take") (count_value c.take) ends in
     let lost : Members = put_if c.lose (codes "lose") (boolean true) taken in
     put_if_plain (nat_lt 0 (vec_len c.put)) (codes "put") (items_data ps (c.put).items) lost (map_plain (item_data ps) (c.put).items (item_plain ps))
     (put_if_plain c.lose (codes "lose") (boolean true) taken refl
-    (put_if_plain (nat_lt 0 c.take) (codes "take") (count c.take) ends refl
-    (put_plain (codes "end") (count (number_of_end e)) (put (codes "link") (count l) no_members) refl refl)))
+    (put_if_plain (nat_lt 0 c.take) (codes "take") (count_value c.take) ends refl
+    (put_plain (codes "end") (count_value (number_of_end e)) (put (codes "link") (count_value l) no_members) refl refl)))
 
 queue_listed_plain : (ps : List Prefix) (l : ℕ) (e : End) (c : QueueChange) → items_have_float (items_of (queue_listed ps l e c)) ≡ false
 queue_listed_plain ps l e c = by_test (is_nothing c)
@@ -140,11 +140,11 @@ queue_listed_plain ps l e c = by_test (is_nothing c)
 
 put_moment_plain : (moment : Option ℕ) (ms : Members) → members_have_float ms ≡ false → members_have_float (put_moment moment ms) ≡ false
 put_moment_plain None ms all = all
-put_moment_plain (Some moment) ms all = put_plain (codes "moment") (count moment) ms refl all
+put_moment_plain (Some moment) ms all = put_plain (codes "moment") (count_value moment) ms refl all
 
 pub state_plain : (w : World) (ps : List Prefix) (k : ℕ) (step : Option Text) (moment : Option ℕ) (c : Changes) → has_float (state_data w ps k step moment c) ≡ false
 state_plain w ps k step moment c =
-    let numbered : Members = put (codes "number") (count k) (put (codes "kind") (word (codes "state")) no_members) in
+    let numbered : Members = put (codes "number") (count_value k) (put (codes "kind") (word (codes "state")) no_members) in
     let said : Members = put_step step numbered in
     let stepped : Members = put_moment moment said in
     let linked : Members = put_list (codes "links") (links_data (c.links).items) stepped in
@@ -162,17 +162,17 @@ state_plain w ps k step moment c =
     (flat_map_plain (λ (x : ℕ × LinkChange). listed (link_data x.0) (x.1).shown) (c.links).items (λ x. listed_plain (link_data x.0) (x.1).shown (λ k. refl)))
     (put_moment_plain moment said
     (put_step_plain step numbered
-    (put_plain (codes "number") (count k) (put (codes "kind") (word (codes "state")) no_members) refl refl))))))
+    (put_plain (codes "number") (count_value k) (put (codes "kind") (word (codes "state")) no_members) refl refl))))))
 
 pub opening_plain : (n : Network) (d : Directory) (ps : List Prefix) (steps every : ℕ) → has_float (opening_data n d ps steps every) ≡ false
 opening_plain n d ps steps every =
-    let formed : Members = put (codes "format") (count 1) (put (codes "kind") (word (codes "opening")) no_members) in
-    let counted : Members = put (codes "steps") (count steps) formed in
-    let paced : Members = put (codes "every") (count every) counted in
+    let formed : Members = put (codes "format") (count_value 1) (put (codes "kind") (word (codes "opening")) no_members) in
+    let counted : Members = put (codes "steps") (count_value steps) formed in
+    let paced : Members = put (codes "every") (count_value every) counted in
     let named : Members = put (codes "routers") (list (map (λ (i : ℕ). word (name_text d (Some i))) (range_with_len 0 n.routers))) paced in
-    let linked : Members = put (codes "links") (list (map (λ (k : LinkSpec). list (count k.a ∷ count k.b ∷ [])) n.links)) named in
+    let linked : Members = put (codes "links") (list (map (λ (k : LinkSpec). list (count_value k.a ∷ count_value k.b ∷ [])) n.links)) named in
     put_plain (codes "prefixes") (list (map (λ (p : Prefix). word (prefix_text p)) ps)) linked (map_plain (λ (p : Prefix). word (prefix_text p)) ps (λ p. refl))
-    (put_plain (codes "links") (list (map (λ (k : LinkSpec). list (count k.a ∷ count k.b ∷ [])) n.links)) named (map_plain (λ (k : LinkSpec). list (count k.a ∷ count k.b ∷ [])) n.links (λ k. refl))
+    (put_plain (codes "links") (list (map (λ (k : LinkSpec). list (count_value k.a ∷ count_value k.b ∷ [])) n.links)) named (map_plain (λ (k : LinkSpec). list (count_value k.a ∷ count_value k.b ∷ [])) n.links (λ k. refl))
     (put_plain (codes "routers") (list (map (λ (i : ℕ). word (name_text d (Some i))) (range_with_len 0 n.routers))) paced (map_plain (λ (i : ℕ). word (name_text d (Some i))) (range_with_len 0 n.routers) (λ i. refl))
-    (put_plain (codes "every") (count every) counted refl
-    (put_plain (codes "steps") (count steps) formed refl refl))))
+    (put_plain (codes "every") (count_value every) counted refl
+    (put_plain (codes "steps") (count_value steps) formed refl refl))))

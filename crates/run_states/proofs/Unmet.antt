@@ -22,8 +22,8 @@ use Rattle.network_model.proofs.EntryLaws.{entry_from_eq}
 use Rattle.network_model.proofs.ListLaws.{slice_get-changed_at}
 use Rattle.network_model.proofs.WorldLaws.{routers-changed_link}
 use Rattle.no_packet_loops.proofs.Common.{find-map, find-put, prefix_cmp_total}
-use Rattle.run_states.specs.Books.{covers}
-use Rattle.run_states.specs.Marks.{message_prefix, touched_router, touches}
+use Rattle.run_states.specs.Books.{matches_prefix}
+use Rattle.run_states.specs.Marks.{message_prefix, touched_router, may_touch}
 
 -- what a router that has heard of a prefix has for it is what it had before
 abbrev pub SameMachine : Prefix → Router → Router → Type 0
@@ -128,7 +128,7 @@ module _ (w : World) (i : ℕ) (x y : Router) (p : Prefix) (at : slice_get w.rou
 
   -- a delivery
   delivered : (q : ℕ) (o : Option Item) → slice_get (option_map_or (with_delivered i q w) o (option_map_or (with_noticed i w) (notice_at w i q) w)).routers i ≡ Some y
-      → covers (message_prefix o) p ≡ false → SameMachine p x y
+      → matches_prefix (message_prefix o) p ≡ false → SameMachine p x y
   delivered q (Some (Item.Message m)) there apart =
       subst (SameMachine p x) (changed_is (router_accepting q (Item.Message m)) (changed_link i q with_front_taken w) (routers-changed_link i q with_front_taken w) there)
       (met_other x p m.prefix (Event.Message q m.kind m.value) chosen apart)
@@ -170,17 +170,17 @@ module _ (w : World) (i : ℕ) (x y : Router) (p : Prefix) (at : slice_get w.rou
   remembered (Detach j k) is there = stays_heard p x y (same_is w refl there)
 
   -- the router that a step touches has for each prefix that it does not touch what it had
-  pub machine_untouched : (s : Step) → touched_router w s ≡ Some i → slice_get (next w s).routers i ≡ Some y → touches w s p ≡ false → SameMachine p x y
+  pub machine_untouched : (s : Step) → touched_router w s ≡ Some i → slice_get (next w s).routers i ≡ Some y → may_touch w s p ≡ false → SameMachine p x y
   machine_untouched (LinkUp l) is there apart = stays p x y (same_is w refl there)
   machine_untouched (LinkDown l) is there apart = stays p x y (same_is w refl there)
   machine_untouched (SetCost j q cost) is there apart = stays p x y (same_is (changed_link j q (with_cost cost) w) (routers-changed_link j q (with_cost cost) w) there)
   machine_untouched (Deliver j q) is there apart =
       let here = same_Some j i is in
-      delivered q (front_at w i q) (subst (λ k. slice_get (next w (Deliver k q)).routers i ≡ Some y) here there) (subst (λ k. touches w (Deliver k q) p ≡ false) here apart)
+      delivered q (front_at w i q) (subst (λ k. slice_get (next w (Deliver k q)).routers i ≡ Some y) here there) (subst (λ k. may_touch w (Deliver k q) p ≡ false) here apart)
   machine_untouched (Publish j) is there apart =
       let here = same_Some j i is in
       let unchanged : is_some (row_of prefix_cmp p (changed_rows x.table)) ≡ false
-      = sym (ap (λ o. option_map_or (λ r. is_some (row_of prefix_cmp p (changed_rows r.table))) o false) at) ∙ subst (λ k. touches w (Publish k) p ≡ false) here apart in
+      = sym (ap (λ o. option_map_or (λ r. is_some (row_of prefix_cmp p (changed_rows r.table))) o false) at) ∙ subst (λ k. may_touch w (Publish k) p ≡ false) here apart in
       subst (SameMachine p x) (changed_is router_publishing w refl (subst (λ k. slice_get (next w (Publish k)).routers i ≡ Some y) here there)) (published_other x p chosen unchanged)
   machine_untouched (Release j) is there apart =
       let here = same_Some j i is in

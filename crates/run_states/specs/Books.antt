@@ -93,8 +93,8 @@ pub record HasPlaces (n : ℕ) (b : RouterBook) : Type 0 where
   pub marks : vec_len b.marks ≡ n
 
 -- whether a prefix is the one that is given, or none is
-abbrev pub covers : Option Prefix → Prefix → Bool
-covers which p = option_map_or (prefix_eq p) which true
+abbrev pub matches_prefix : Option Prefix → Prefix → Bool
+matches_prefix which p = option_map_or (prefix_eq p) which true
 
 -- the router's book is marked, and some of its machines: those that are not marked now were not before, and this is so of their prefixes
 pub record MachinesMarked (Spared : Prefix → Type 0) (prefixes : List Prefix) (before after : RouterBook) : Type 0 where

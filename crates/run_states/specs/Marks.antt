@@ -12,7 +12,7 @@ use Rattle.world.specs.Touched.{touched_by}
 use Rattle.run_states.specs.declared.link_book.LinkBook.{LinkBook}
 use Rattle.run_states.specs.declared.router_book.RouterBook.{RouterBook}
 use Rattle.run_states.specs.declared.recorder.Recorder.{Recorder}
-use Rattle.run_states.specs.Books.{MachinesMarked, covers, link_shows, router_shows}
+use Rattle.run_states.specs.Books.{MachinesMarked, matches_prefix, link_shows, router_shows}
 use Rattle.run_states.specs.Recorders.{IsRecorderOf, ShowSame}
 
 -- the link that a step may change
@@ -38,15 +38,15 @@ message_prefix None = None
 
 -- whether a step may change the machine of that router for a prefix, or one of its rows: a message is for one prefix, all else that is
 -- delivered may be for each, and a publication puts the rows in force that changed
-abbrev pub touches : World → Step → Prefix → Bool
-touches w (LinkUp l) p = false
-touches w (LinkDown l) p = false
-touches w (SetCost i q cost) p = false
-touches w (Deliver i q) p = covers (message_prefix (front_at w i q)) p
-touches w (Publish i) p = option_map_or (λ r. is_some (row_of prefix_cmp p (changed_rows r.table))) (slice_get w.routers i) false
-touches w (Release i) p = false
-touches w (Attach i p' cost) p = false
-touches w (Detach i p') p = false
+abbrev pub may_touch : World → Step → Prefix → Bool
+may_touch w (LinkUp l) p = false
+may_touch w (LinkDown l) p = false
+may_touch w (SetCost i q cost) p = false
+may_touch w (Deliver i q) p = matches_prefix (message_prefix (front_at w i q)) p
+may_touch w (Publish i) p = option_map_or (λ r. is_some (row_of prefix_cmp p (changed_rows r.table))) (slice_get w.routers i) false
+may_touch w (Release i) p = false
+may_touch w (Attach i p' cost) p = false
+may_touch w (Detach i p') p = false
 
 -- whether a step takes from a link the messages that stood on it: only one that brings the link down
 abbrev pub cuts : Step → Bool
@@ -89,11 +89,11 @@ pub record RouterMarked (router : ℕ) (Spared : Prefix → Type 0) (before afte
 -- of the routers that is marked which a step may change, with the machines that it may change
 pub record StepMarked (w : World) (s : Step) (before after : Recorder) : Type 0 where
   pub none : touched_router w s ≡ None → after ≡ before
-  pub one : (i : ℕ) → touched_router w s ≡ Some i → RouterMarked i (λ p. touches w s p ≡ false) before after
+  pub one : (i : ℕ) → touched_router w s ≡ Some i → RouterMarked i (λ p. may_touch w s p ≡ false) before after
 
 -- all that a step may change is marked, and all else of the recorder stays: what was shown is shown. The book of a link that the step brings
 -- down is cut
-pub record Marks (w : World) (s : Step) (before after : Recorder) : Type 0 where
+pub record MarksTouched (w : World) (s : Step) (before after : Recorder) : Type 0 where
   pub prefixes : after.prefixes ≡ before.prefixes
   pub shows : ShowSame before after
   pub links : (l : ℕ) (b : LinkBook) → slice_get (after.links).items l ≡ Some b → b.is_marked ≡ false
@@ -101,5 +101,5 @@ pub record Marks (w : World) (s : Step) (before after : Recorder) : Type 0 where
   pub cut : AreCut (touched_link w s) (cuts s) (before.links).items (after.links).items
   pub others : (i : ℕ) → touched_router w s ≢ Some i → slice_get (after.routers).items i ≡ slice_get (before.routers).items i
   pub book : (i : ℕ) (b : RouterBook) → touched_router w s ≡ Some i → slice_get (after.routers).items i ≡ Some b
-      → (old : RouterBook) × (slice_get (before.routers).items i ≡ Some old) × MachinesMarked (λ p. touches w s p ≡ false) (before.prefixes).items old b
+      → (old : RouterBook) × (slice_get (before.routers).items i ≡ Some old) × MachinesMarked (λ p. may_touch w s p ≡ false) (before.prefixes).items old b
   pub of : (v : World) → IsRecorderOf v before → IsRecorderOf v after

@@ -99,7 +99,7 @@ abbrev pub RoutersFollow : List (ℕ × RouterChange) → List RouterBook → Li
 RoutersFollow = BooksFollow RouterFollows
 
 -- one recorder follows from another by these changes
-pub record Follows (c : Changes) (before after : Recorder) : Type 0 where
+pub record RecorderFollows (c : Changes) (before after : Recorder) : Type 0 where
   pub prefixes : after.prefixes ≡ before.prefixes
   pub links : LinksFollow (c.links).items (before.links).items (after.links).items
   pub routers : RoutersFollow (c.routers).items (before.routers).items (after.routers).items

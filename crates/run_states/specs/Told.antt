@@ -12,7 +12,7 @@ use Rattle.script.specs.Directories.{Directory}
 use Rattle.journal.specs.Steps.{step_text}
 use Rattle.run_states.specs.declared.recorder.Changes.{Changes}
 use Rattle.run_states.specs.declared.recorder.Recorder.{Recorder}
-use Rattle.run_states.specs.Recorders.{ArePrefixesOf, Follows, IsBlank, IsRecorderOf, ShowSame, ShowsWorld}
+use Rattle.run_states.specs.Recorders.{ArePrefixesOf, RecorderFollows, IsBlank, IsRecorderOf, ShowSame, ShowsWorld}
 use Rattle.run_states.specs.Values.{opening_data, state_data}
 
 -- ---- which states are told
@@ -50,7 +50,7 @@ pub record IsStateLine (n : Network) (d : Directory) (steps : List Step) (moment
   pub world : World
   pub runs : Runs (opening n) (take k steps) world
   pub changes : Changes
-  pub follows : Follows changes before after
+  pub follows : RecorderFollows changes before after
   pub shows : ShowsWorld world after
   pub text : line ≡ compact_text (state_data world (after.prefixes).items k (step_told d n.links steps k) (moment_told moments k) changes)
 

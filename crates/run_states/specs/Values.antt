@@ -7,8 +7,6 @@ use Rattle.std.specs.Ordering.{nat_cmp}
 use Rattle.ipv4_prefix.specs.Prefix.{Prefix, prefix_eq}
 use Rattle.ipv4_prefix.specs.Texts.{prefix_text}
 use Rattle.metric.specs.Distance.{infinity}
-use Rattle.metric.specs.declared.kind.Kind.{Kind}
-use Rattle.metric.specs.declared.kind.Kind.TheVariants.{Update, Query, Reply}
 use Rattle.network_model.specs.World.{Network, World, place_at}
 use Rattle.network_model.specs.declared.route.Entry.{Entry}
 use Rattle.network_model.specs.declared.route.Entry.TheVariants.{Local, Via, Unreachable}
@@ -19,6 +17,7 @@ use Rattle.serde_json.specs.View.{items_of}
 use Rattle.serde_json.specs.Written.{compact_text}
 use Rattle.texts.specs.Words.{Text}
 use Rattle.script.specs.Directories.{Directory, name_text}
+use Rattle.lines.specs.Texts.{kind_text}
 use Rattle.lines.specs.declared.records.LinkState.{LinkState}
 use Rattle.lines.specs.declared.records.RouterState.{RouterState}
 use Rattle.run_states.specs.declared.shown.MachineShown.{MachineShown}
@@ -29,8 +28,8 @@ use Rattle.run_states.specs.declared.recorder.Changes.{Changes}
 use Rattle.run_states.specs.Queues.{is_nothing}
 
 -- a count, as a number
-abbrev pub count : ℕ → Data
-count n = number (unsigned n)
+abbrev pub count_value : ℕ → Data
+count_value n = number (unsigned n)
 
 -- a word, as a string
 abbrev pub word : Text → Data
@@ -43,34 +42,34 @@ list ds = array (items_of ds)
 -- what is shown of a link: the costs from its ends A and B
 abbrev pub link_data : ℕ → LinkState → Data
 link_data l k =
-    object (member (codes "costs") (list (count k.from_a ∷ count k.from_b ∷ []))
-    (member (codes "link") (count l)
-    (member (codes "session") (count k.session)
+    object (member (codes "costs") (list (count_value k.from_a ∷ count_value k.from_b ∷ []))
+    (member (codes "link") (count_value l)
+    (member (codes "session") (count_value k.session)
     (member (codes "up") (boolean k.up) no_members))))
 
 -- what is shown of a router, with its number
 abbrev pub router_data : ℕ → RouterState → Data
 router_data i r =
-    object (member (codes "generation") (count r.generation)
-    (member (codes "held") (count r.held)
-    (member (codes "notices") (count r.notices)
-    (member (codes "ripe") (count r.ripe)
-    (member (codes "router") (count i) no_members)))))
+    object (member (codes "generation") (count_value r.generation)
+    (member (codes "held") (count_value r.held)
+    (member (codes "notices") (count_value r.notices)
+    (member (codes "ripe") (count_value r.ripe)
+    (member (codes "router") (count_value i) no_members)))))
 
 -- a distance; null where it is infinite
 abbrev pub distance_data : ℕ → Data
-distance_data d = if d == infinity then null else count d
+distance_data d = if d == infinity then null else count_value d
 
 -- the link at a router's port; null where there is no such port
 abbrev pub port_data : World → ℕ → ℕ → Data
-port_data w i q = option_map_or (λ p. count p.link) (place_at w i q) null
+port_data w i q = option_map_or (λ p. count_value p.link) (place_at w i q) null
 
 -- an entry: a word, or the link and the session that it leads over; null where there is none
 abbrev pub entry_data : World → ℕ → Option Entry → Data
 entry_data w i None = null
 entry_data w i (Some Local) = word (codes "local")
 entry_data w i (Some Unreachable) = word (codes "unreachable")
-entry_data w i (Some (Via q session)) = list (port_data w i q ∷ count session ∷ [])
+entry_data w i (Some (Via q session)) = list (port_data w i q ∷ count_value session ∷ [])
 
 -- the links at these ports of a router
 abbrev pub ports_data : World → ℕ → set.FinSet nat_cmp → Data
@@ -81,25 +80,19 @@ abbrev pub machine_members : World → ℕ → ℕ → MachineShown → Members
 machine_members w i p m =
     member (codes "chosen") (entry_data w i m.chosen)
     (member (codes "fd") (distance_data (m.at).fd)
-    (member (codes "prefix") (count p)
+    (member (codes "prefix") (count_value p)
     (member (codes "published") (entry_data w i m.published)
     (member (codes "rd") (distance_data (m.at).rd)
-    (member (codes "router") (count i) no_members)))))
+    (member (codes "router") (count_value i) no_members)))))
 
 -- what is shown of a router's machine for a prefix: the state and who is awaited, where a computation is under way
 abbrev pub machine_data : World → ℕ → ℕ → MachineShown → Data
 machine_data w i p m =
     object (option_map_or (λ origin.
-    member (codes "active") (count origin)
+    member (codes "active") (count_value origin)
     (member (codes "awaits") (ports_data w i m.awaited) (machine_members w i p m))) (m.at).origin (machine_members w i p m))
 
 -- ---- queues
-
--- the kind of a message, in a word
-abbrev pub kind_text : Kind → Text
-kind_text Update = codes "update"
-kind_text Query = codes "query"
-kind_text Reply = codes "reply"
 
 -- the number of a prefix; of one that is not among them, how many they are
 abbrev pub number_of_prefix : Prefix → List Prefix → ℕ
@@ -112,10 +105,10 @@ number_of_end End.B = 1
 
 -- an item of a link: a word for its kind, and then a message's prefix and distance, or a cost
 abbrev pub item_data : List Prefix → Item → Data
-item_data ps (Item.Up session cost) = list (word (codes "up") ∷ count cost ∷ [])
+item_data ps (Item.Up session cost) = list (word (codes "up") ∷ count_value cost ∷ [])
 item_data ps (Item.Down session) = list (word (codes "down") ∷ [])
-item_data ps (Item.Cost session cost) = list (word (codes "cost") ∷ count cost ∷ [])
-item_data ps (Item.Message m) = list (word (kind_text m.kind) ∷ count (number_of_prefix m.prefix ps) ∷ distance_data m.value ∷ [])
+item_data ps (Item.Cost session cost) = list (word (codes "cost") ∷ count_value cost ∷ [])
+item_data ps (Item.Message m) = list (word (kind_text m.kind) ∷ count_value (number_of_prefix m.prefix ps) ∷ distance_data m.value ∷ [])
 
 -- the items on their way, oldest first
 abbrev pub items_data : List Prefix → List Item → Data
@@ -130,9 +123,9 @@ abbrev pub queue_data : List Prefix → ℕ → End → QueueChange → Data
 queue_data ps l e c =
     object (put_if (nat_lt 0 (vec_len c.put)) (codes "put") (items_data ps (c.put).items)
     (put_if c.lose (codes "lose") (boolean true)
-    (put_if (nat_lt 0 c.take) (codes "take") (count c.take)
-    (put (codes "end") (count (number_of_end e))
-    (put (codes "link") (count l) no_members)))))
+    (put_if (nat_lt 0 c.take) (codes "take") (count_value c.take)
+    (put (codes "end") (count_value (number_of_end e))
+    (put (codes "link") (count_value l) no_members)))))
 
 -- ---- states
 
@@ -173,7 +166,7 @@ put_step (Some text) ms = put (codes "step") (word text) ms
 -- the members, and the moment of a step where one is known
 abbrev pub put_moment : Option ℕ → Members → Members
 put_moment None ms = ms
-put_moment (Some moment) ms = put (codes "moment") (count moment) ms
+put_moment (Some moment) ms = put (codes "moment") (count_value moment) ms
 
 -- a state: after how many steps it is, the last of them and its moment, and what has changed
 abbrev pub state_data : World → List Prefix → ℕ → Option Text → Option ℕ → Changes → Data
@@ -184,7 +177,7 @@ state_data w ps k step moment c =
     (put_list (codes "links") (links_data (c.links).items)
     (put_moment moment
     (put_step step
-    (put (codes "number") (count k)
+    (put (codes "number") (count_value k)
     (put (codes "kind") (word (codes "state")) no_members))))))))
 
 -- what a network opens with: how many steps follow, and after how many of them there is a state each; the names of its routers, the routers
@@ -192,13 +185,13 @@ state_data w ps k step moment c =
 abbrev pub opening_data : Network → Directory → List Prefix → ℕ → ℕ → Data
 opening_data n d ps steps every =
     object (put (codes "prefixes") (list (map (λ p. word (prefix_text p)) ps))
-    (put (codes "links") (list (map (λ k. list (count k.a ∷ count k.b ∷ [])) n.links))
+    (put (codes "links") (list (map (λ k. list (count_value k.a ∷ count_value k.b ∷ [])) n.links))
     (put (codes "routers") (list (map (λ i. word (name_text d (Some i))) (range_with_len 0 n.routers)))
-    (put (codes "every") (count every)
-    (put (codes "steps") (count steps)
-    (put (codes "format") (count 1)
+    (put (codes "every") (count_value every)
+    (put (codes "steps") (count_value steps)
+    (put (codes "format") (count_value 1)
     (put (codes "kind") (word (codes "opening")) no_members)))))))
 
 -- a value on a line of its own
-abbrev pub line_text : Data → Text
-line_text d = compact_text d ++ 10 ∷ []
+abbrev pub value_line : Data → Text
+value_line d = compact_text d ++ 10 ∷ []

@@ -23,7 +23,7 @@
 //!
 //! [`write_states`] does lawful steps from the opening. [`run_from_opening`] says how many steps of a list are lawful.
 //! Before each step it marks what the step may change
-//! (`Marks` in `specs/Marks.antt`). When a state is told, it compares what is marked with the world, and
+//! (`MarksTouched` in `specs/Marks.antt`). When a state is told, it compares what is marked with the world, and
 //! writes what differs.
 //!
 //! What always holds (`IsCurrent` in `specs/Recorders.antt`): what is not marked is shown as it is. So after

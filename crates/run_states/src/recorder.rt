@@ -5,9 +5,9 @@ ghost use Rattle.network_model.specs.Step as steps;
 ghost use Rattle.network_model.specs.World as model;
 ghost use Rattle.world.specs.Headline.{IsReached};
 ghost use Rattle.world.specs.Steps.{HasRoomForSteps};
-ghost use Rattle.run_states.specs.Books.{covers};
-ghost use Rattle.run_states.specs.Marks.{AreCut, LinkMarked, Marks, RouterMarked, StepMarked, cuts, message_prefix, touched_link, touches};
-ghost use Rattle.run_states.specs.Recorders.{AreLinksCurrent, ArePrefixesOf, AreRoutersCurrent, Follows, IsBlank, IsCurrent, IsRecorderOf, LinksFollow, RoutersFollow, ShowSame, ShowsLinks, ShowsRouters, ShowsWorld};
+ghost use Rattle.run_states.specs.Books.{matches_prefix};
+ghost use Rattle.run_states.specs.Marks.{AreCut, LinkMarked, MarksTouched, RouterMarked, StepMarked, cuts, message_prefix, touched_link, may_touch};
+ghost use Rattle.run_states.specs.Recorders.{AreLinksCurrent, ArePrefixesOf, AreRoutersCurrent, RecorderFollows, IsBlank, IsCurrent, IsRecorderOf, LinksFollow, RoutersFollow, ShowSame, ShowsLinks, ShowsRouters, ShowsWorld};
 
 use crate::link_book::{LinkBook, LinkChange};
 use crate::router_book::{RouterBook, RouterChange};
@@ -78,7 +78,7 @@ impl Recorder {
 
     // Marks what a step that is about to be done may change.
     fn mark(&mut self, world: &World, step: &Step)
-        ensures { Marks world.now step.now self.old self.new }
+        ensures { MarksTouched world.now step.now self.old self.new }
     {
         self.mark_touched_router(world, step);
         if let Some(link) = Touched::by(step, world).link {
@@ -123,7 +123,7 @@ impl Recorder {
 
     // Marks a router and its machine for this prefix, or where none is given each of them.
     fn mark_machines(&mut self, router: u16, which: Option<Prefix>)
-        ensures { RouterMarked router (λ p. covers which p ≡ false) self.old self.new }
+        ensures { RouterMarked router (λ p. matches_prefix which p ≡ false) self.old self.new }
     {
         if let Some(book) = self.routers.get_mut(usize::from(router)) {
             book.mark_machines(&self.prefixes, which);
@@ -132,7 +132,7 @@ impl Recorder {
 
     // Marks a router that is about to publish, and its machines of which it chose another row.
     fn mark_publication(&mut self, world: &World, router: u16)
-        ensures { RouterMarked router (λ p. touches world.now (Step.Publish router) p ≡ false)
+        ensures { RouterMarked router (λ p. may_touch world.now (Step.Publish router) p ≡ false)
             self.old self.new }
     {
         self.mark_router(router);
@@ -147,7 +147,7 @@ impl Recorder {
     pub(crate) fn changes(&mut self, alloc: Global, world: &World) -> Result<Changes, NoMemory>
         requires of { IsRecorderOf world.now self.old }
         requires current { IsCurrent world.now self.old }
-        ensures follows { IfOk result (λ c. Follows c self.old self.new) }
+        ensures follows { IfOk result (λ c. RecorderFollows c self.old self.new) }
         ensures of { IsRecorderOf world.now self.new }
         ensures shows { OnOk result (ShowsWorld world.now self.new) }
     {

@@ -5,7 +5,7 @@ ghost use Rattle.ipv4_prefix.specs.Prefix.{Prefix};
 ghost use Rattle.network_model.specs.World as model;
 ghost use Rattle.run_states.specs.declared.shown.MachineShown.{MachineShown};
 ghost use Rattle.run_states.specs.Shown.{ShowsMachine};
-ghost use Rattle.run_states.specs.Books.{HasPlaces, IsBlankRouter, MachinesMarked, RouterFollows, ShowsMachines, ShowsRouter, ShowsUnmarked, covers, machines_after};
+ghost use Rattle.run_states.specs.Books.{HasPlaces, IsBlankRouter, MachinesMarked, RouterFollows, ShowsMachines, ShowsRouter, ShowsUnmarked, matches_prefix, machines_after};
 
 use crate::shown::{MachineShown, machine_shown, router_news};
 use ipv4_prefix::Prefix;
@@ -58,7 +58,7 @@ impl RouterBook {
 
     /// A step may have changed the machine for this prefix, or where none is given each of them.
     pub(crate) fn mark_machines(&mut self, prefixes: &[Prefix], which: Option<Prefix>)
-        ensures { MachinesMarked (λ p. covers which p ≡ false) prefixes.now self.old self.new }
+        ensures { MachinesMarked (λ p. matches_prefix which p ≡ false) prefixes.now self.old self.new }
     {
         self.is_marked = true;
         set_marks(prefixes, &which, &mut self.marks);
@@ -100,7 +100,7 @@ fn set_marks(prefixes: &[Prefix], which: &Option<Prefix>, marks: &mut [bool])
     ensures len { length marks.new ≡ length marks.old }
     ensures unmarked { (j : ℕ) (p : Prefix) → slice_get prefixes.now j ≡ Some p
         → slice_get marks.new j ≡ Some false
-        → (slice_get marks.old j ≡ Some false) × (covers which.now p ≡ false) }
+        → (slice_get marks.old j ≡ Some false) × (matches_prefix which.now p ≡ false) }
 {
     let places = prefixes.len().min(marks.len());
     for number in 0..places {
@@ -112,7 +112,7 @@ fn set_marks(prefixes: &[Prefix], which: &Option<Prefix>, marks: &mut [bool])
 
 // Whether a prefix is the one that is given, or none is.
 fn covers(which: &Option<Prefix>, prefix: Prefix) -> bool
-    ensures { result ≡ covers which.now prefix }
+    ensures { result ≡ matches_prefix which.now prefix }
 {
     match *which {
         Some(only) => prefix == only,

@@ -16,9 +16,9 @@ ghost use Rattle.journal.specs.Steps.{step_text};
 ghost use Rattle.texts.specs.Lines.{lines_text};
 ghost use Rattle.texts.specs.Words.{Text};
 ghost use Rattle.run_states.specs.declared.recorder.Changes.{Changes as ChangesTold};
-ghost use Rattle.run_states.specs.Recorders.{Follows, IsCurrent, IsRecorderOf, ShowsWorld};
+ghost use Rattle.run_states.specs.Recorders.{RecorderFollows, IsCurrent, IsRecorderOf, ShowsWorld};
 ghost use Rattle.run_states.specs.Told.{IsStatesText, Tell, is_told as told_of, moment_told, numbers_from, stride as stride_of};
-ghost use Rattle.run_states.specs.Values.{count as number_of, line_text, list, opening_data, put_moment as with_moment, put_step as with_step, state_data, word};
+ghost use Rattle.run_states.specs.Values.{count_value as number_of, value_line, list, opening_data, put_moment as with_moment, put_step as with_step, state_data, word};
 
 use crate::fault::StatesFault;
 use crate::recorder::{Changes, Recorder};
@@ -200,9 +200,9 @@ fn write_state<W: Write>(
     requires current { IsCurrent world.now recorder.old }
     ensures of { IsRecorderOf world.now recorder.new }
     ensures shows { OnOk result (ShowsWorld world.now recorder.new) }
-    ensures told { OnOk result ((c : ChangesTold) × Follows c recorder.old recorder.new
+    ensures told { OnOk result ((c : ChangesTold) × RecorderFollows c recorder.old recorder.new
         × Appends (W.contents out.old) (W.contents out.new)
-        (line_text (state_data world.now recorder.new.prefixes.items number (option_map string_bytes step) moment c))) }
+        (value_line (state_data world.now recorder.new.prefixes.items number (option_map string_bytes step) moment c))) }
 {
     let changes = recorder.changes(alloc, world)?;
     let state = state_value(
@@ -220,7 +220,7 @@ fn write_state<W: Write>(
 // Writes a value on a line of its own.
 fn write_value<W: Write>(alloc: Global, value: &Value, out: &mut W) -> Result<(), StatesFault>
     requires { has_float (view value.now) ≡ false }
-    ensures { OnOk result (Appends (W.contents out.old) (W.contents out.new) (line_text (view value.now))) }
+    ensures { OnOk result (Appends (W.contents out.old) (W.contents out.new) (value_line (view value.now))) }
 {
     let Ok(text) = value.to_string(alloc) else {
         return Err(StatesFault::NoMemory);

@@ -5,7 +5,7 @@ ghost use Rattle.std.specs.Prelude.{◌≡◌, ◌++◌, IfOk, OnOk, map, positi
 ghost use Rattle.serde_json.specs.Data.{put as with_member};
 ghost use Rattle.serde_json.specs.View.{view, members_view};
 ghost use Rattle.ipv4_prefix.specs.Prefix.{prefix_eq};
-ghost use Rattle.run_states.specs.Values.{link_data, router_data, machine_data, queue_data, item_data, entry_data, distance_data, ports_data, port_data, items_data, kind_text, list, listed, links_data, routers_data, machines_data, queue_listed, queues_data, number_of_end, number_of_prefix, put_if as if_put, put_list as with_list};
+ghost use Rattle.run_states.specs.Values.{link_data, router_data, machine_data, queue_data, item_data, entry_data, distance_data, ports_data, port_data, items_data, list, listed, links_data, routers_data, machines_data, queue_listed, queues_data, number_of_end, number_of_prefix, put_if as if_put, put_list as with_list};
 
 use crate::link_book::LinkChange;
 use crate::queue::QueueChange;
@@ -13,8 +13,8 @@ use crate::router_book::RouterChange;
 use crate::shown::MachineShown;
 use diffusing_replies::PortSet;
 use ipv4_prefix::Prefix;
-use lines::{LinkState, MachineState, RouterState};
-use metric::{Distance, Kind};
+use lines::{LinkState, MachineState, RouterState, kind_words};
+use metric::Distance;
 use network_model::{End, Entry, Item};
 use serde_json::{Map, Value, json, put};
 use std::alloc::{AllocError, Global};
@@ -205,21 +205,11 @@ fn item_value(alloc: Global, prefixes: &[Prefix], item: Item) -> Result<Value, A
         Item::Down { .. } => json!(in alloc; ["down"]),
         Item::Cost { cost, .. } => json!(in alloc; ["cost", cost.value()]),
         Item::Message(message) => {
-            let kind = kind_word(message.kind);
+            let kind = kind_words(message.kind);
             let prefix = prefix_number(prefixes, message.prefix);
             let value = distance_value(message.value);
             json!(in alloc; [kind, prefix, value])
         }
-    }
-}
-
-fn kind_word(kind: Kind) -> &'static str
-    ensures { result.now ≡ kind_text kind }
-{
-    match kind {
-        Kind::Update => "update",
-        Kind::Query => "query",
-        Kind::Reply => "reply",
     }
 }
 

@@ -32,7 +32,7 @@ pub use Rattle.network_model.specs.declared.network.Place.{Place}
 pub use Rattle.network_model.specs.declared.step.Step.{Step}
 pub use Rattle.network_model.specs.declared.step.Step.TheVariants.{Attach, Deliver, Detach, LinkDown, LinkUp, Publish, Release, SetCost}
 pub use Rattle.script.specs.Attachments.{AreWords, AttachmentLine, IsAttachment, IsAttachmentFault}
-pub use Rattle.script.specs.Commands.{Asks, AsksBadAttachment, AsksBadCost, AsksBadQuestion, AsksBadStep, AsksCost, AsksDelivery, AsksDrawn, AsksNoAttachment, AsksNoCost, AsksNoStep, AsksNoTrace, AsksNothing, AsksStep, AsksTrace, HasBadValue, IsCommand, IsCommandFault, IsKnownPrefix, IsPortOn, IsWay, NamesBadPrefix, NamesLink, NamesNoAddress, NamesNoPrefix, NamesNumber, NamesRouter, NamesText, NamesTextAndNumber, NamesThrough, NamesTwice, address_verbs, link_between, port_on}
+pub use Rattle.script.specs.Commands.{Asks, AsksBadAttachment, AsksBadCost, AsksBadQuestion, AsksBadStep, AsksCost, AsksDelivery, AsksDrawn, AsksNoAttachment, AsksNoCost, AsksNoStep, AsksNoTrace, AsksNothing, AsksStep, AsksTrace, HasBadValue, IsCommand, IsCommandFault, IsKnownPrefix, IsPortOn, NamesWay, NamesBadPrefix, NamesLink, NamesNoAddress, NamesNoPrefix, NamesNumber, NamesRouter, NamesText, NamesTextAndNumber, NamesThrough, NamesTwice, address_verbs, link_between, port_on}
 pub use Rattle.script.specs.Directories.{Directory, directory_of, neighbours_of, router_across, source_at}
 pub use Rattle.script.specs.Links.{IsLink, IsLinkFault, LinkWords, router_named}
 pub use Rattle.script.specs.Reading.{IsWhole, ReadsFirst, StopsHere}

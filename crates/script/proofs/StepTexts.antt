@@ -1,6 +1,6 @@
 -- What the words of a line ask for, by the first of them.
 use Rattle.std.proofs.Common.{◌≡◌, ◌≢◌, ℕ, inl, inr, subst, ◌<◌, ◌≤◌, false, List, [], ◌∷◌, Some, None, bytes_eq, codes, decimal, refl, sym, ap, ◌∙◌, arith, true≢false}
-use Rattle.script.proofs.Common.{Spells, LinkSpec, Step, LinkUp, LinkDown, SetCost, Deliver, Publish, Release, Attach, Detach, Prefix, SpellsPrefix, IsFirstFault, PrefixFault, IsCost, degree, join_with_byte, decimal_injective, bytes_eq-Decides, join_with_byte-slice_split, Text, words_of, IsName, router_number, NamesRouter, NamesText, NamesTextAndNumber, NamesTwice, IsWay, NamesLink, NamesNumber, IsKnownPrefix, NamesNoPrefix, AsksCost, AsksNoCost, AsksDelivery, AsksBadAttachment, AsksNoAttachment, AsksStep, AsksBadStep, AsksNoStep, IsPortOn, port_on, link_between}
+use Rattle.script.proofs.Common.{Spells, LinkSpec, Step, LinkUp, LinkDown, SetCost, Deliver, Publish, Release, Attach, Detach, Prefix, SpellsPrefix, IsFirstFault, PrefixFault, IsCost, degree, join_with_byte, decimal_injective, bytes_eq-Decides, join_with_byte-slice_split, Text, words_of, IsName, router_number, NamesRouter, NamesText, NamesTextAndNumber, NamesTwice, NamesWay, NamesLink, NamesNumber, IsKnownPrefix, NamesNoPrefix, AsksCost, AsksNoCost, AsksDelivery, AsksBadAttachment, AsksNoAttachment, AsksStep, AsksBadStep, AsksNoStep, IsPortOn, port_on, link_between}
 use Rattle.script.specs.declared.fault.LineFault.{LineFault}
 use Rattle.script.specs.declared.fault.LineFault.TheVariants.{BadName, BadLine, BadCost, BadCommand, TooLarge, NoMemory, Prefix as OfPrefix}
 use Rattle.script.proofs.NameTexts.{words-name}
@@ -34,7 +34,7 @@ names_no_router names verb operands router unknown h =
 
 -- one pair of names has one way
 pub way_unique : (names : List Text) (links : List LinkSpec) (name neighbour : Text) (i l j m : ℕ)
-    → IsWay names links name neighbour i l → IsWay names links name neighbour j m → (i ≡ j) × (l ≡ m)
+    → NamesWay names links name neighbour i l → NamesWay names links name neighbour j m → (i ≡ j) × (l ≡ m)
 way_unique names links name neighbour i l j m h k =
     let routers : Some i ≡ Some j = sym h.known ∙ k.known in
     let others : Some h.far ≡ Some k.far = sym h.far_known ∙ k.far_known in
@@ -63,7 +63,7 @@ text_unique names verb words i j s t h k =
 
 -- the router's link, of two words after a verb
 pub link_way : (names : List Text) (links : List LinkSpec) (verb name neighbour : Text) (ops : List Text) (router link : ℕ)
-    → ops ≡ name ∷ neighbour ∷ [] → NamesLink names links verb (verb ∷ ops) router link → IsWay names links name neighbour router link
+    → ops ≡ name ∷ neighbour ∷ [] → NamesLink names links verb (verb ∷ ops) router link → NamesWay names links name neighbour router link
 link_way names links verb name neighbour ops router link is h =
     let words : verb ∷ h.name ∷ h.neighbour ∷ [] ≡ verb ∷ name ∷ neighbour ∷ [] = sym h.spelled ∙ ap (λ ws. verb ∷ ws) is in
     let near : h.name ≡ name = cc in
@@ -72,7 +72,7 @@ link_way names links verb name neighbour ops router link is h =
 
 -- the same of three words
 pub number_way : (names : List Text) (links : List LinkSpec) (verb name neighbour text : Text) (ops : List Text) (router link number : ℕ)
-    → ops ≡ name ∷ neighbour ∷ text ∷ [] → NamesNumber names links verb (verb ∷ ops) router link number → IsWay names links name neighbour router link
+    → ops ≡ name ∷ neighbour ∷ text ∷ [] → NamesNumber names links verb (verb ∷ ops) router link number → NamesWay names links name neighbour router link
 number_way names links verb name neighbour text ops router link number is h =
     let words : verb ∷ h.name ∷ h.neighbour ∷ decimal number ∷ [] ≡ verb ∷ name ∷ neighbour ∷ text ∷ [] = sym h.spelled ∙ ap (λ ws. verb ∷ ws) is in
     let near : h.name ≡ name = cc in
@@ -87,7 +87,7 @@ no_small_port links router link i l port same large is small =
 
 -- three words after `cost`: two routers, and a number
 pub asks_cost : (names : List Text) (links : List LinkSpec) (name neighbour text : Text) (ops : List Text) (router link number port : ℕ)
-    → ops ≡ name ∷ neighbour ∷ text ∷ [] → IsWay names links name neighbour router link → Spells text number
+    → ops ≡ name ∷ neighbour ∷ text ∷ [] → NamesWay names links name neighbour router link → Spells text number
     → port ≡ port_on router link links → port < 256 → AsksCost names links (codes "cost" ∷ ops) router port number
 asks_cost names links name neighbour text ops router link number port is way spells at small = (
   link,
@@ -126,7 +126,7 @@ module _ (names : List Text) (links : List LinkSpec) (name neighbour : Text) (op
   no_home same none router port (inr h, small) = none router (twice_same router h.0).1 (subst (λ n. n < 256) h.1 small)
 
   -- two routers without a link, or with one at too high a port
-  pub no_far : name ≢ neighbour → ((router link port : ℕ) → IsWay names links name neighbour router link → IsPortOn links router link port → port < 256 → ⊥)
+  pub no_far : name ≢ neighbour → ((router link port : ℕ) → NamesWay names links name neighbour router link → IsPortOn links router link port → port < 256 → ⊥)
       → (router port : ℕ) → ¬ (AsksDelivery names links (codes "deliver" ∷ ops) router port)
   no_far apart none router port (inl h, small) = none router h.0 port (link_way names links (codes "deliver") name neighbour ops router h.0 two h.1) h.3 small
   no_far apart none router port (inr h, small) = apart (twice_same router h.0).0

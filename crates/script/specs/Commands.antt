@@ -39,7 +39,7 @@ pub record NamesRouter (names : List Text) (verb : Text) (words : List Text) (ro
   pub known : router_number names name ≡ Some router
 
 -- the two names are those of a router and of another, and the link is theirs
-pub record IsWay (names : List Text) (links : List LinkSpec) (name neighbour : Text) (router link : ℕ) : Type 0 where
+pub record NamesWay (names : List Text) (links : List LinkSpec) (name neighbour : Text) (router link : ℕ) : Type 0 where
   pub far : ℕ
   pub known : router_number names name ≡ Some router
   pub far_known : router_number names neighbour ≡ Some far
@@ -50,14 +50,14 @@ pub record NamesLink (names : List Text) (links : List LinkSpec) (verb : Text) (
   pub name : Text
   pub neighbour : Text
   pub spelled : words ≡ verb ∷ name ∷ neighbour ∷ []
-  pub way : IsWay names links name neighbour router link
+  pub way : NamesWay names links name neighbour router link
 
 -- the words name two routers after the verb, the link is theirs, and then comes the decimal text of a number of 32 bits
 pub record NamesNumber (names : List Text) (links : List LinkSpec) (verb : Text) (words : List Text) (router link number : ℕ) : Type 0 where
   pub name : Text
   pub neighbour : Text
   pub spelled : words ≡ verb ∷ name ∷ neighbour ∷ decimal number ∷ []
-  pub way : IsWay names links name neighbour router link
+  pub way : NamesWay names links name neighbour router link
   pub small : number < 2 ^ 32
 
 -- the words name a router, and then a text that is not empty, after the verb

@@ -49,7 +49,7 @@ abbrev pub IsWhole : {X : Type 0} → List Text → List X → Type 0
 IsWhole lines items = length items ≡ length lines
 
 -- the first line past the items has the fault, and its position
-pub record IsStopped {X : Type 0} (IsFault : Text → LineFault → Type 0) (lines : List Text) (items : List X) (position : ℕ) (fault : LineFault) : Type 0 where
+pub record StopsAtLine {X : Type 0} (IsFault : Text → LineFault → Type 0) (lines : List Text) (items : List X) (position : ℕ) (fault : LineFault) : Type 0 where
   pub line : Text
   pub is_line : slice_get lines position ≡ Some line
   pub has_fault : IsFault line fault
@@ -59,7 +59,7 @@ pub record IsStopped {X : Type 0} (IsFault : Text → LineFault → Type 0) (lin
 pub record StopsHere {X : Type 0} (IsFault : Text → LineFault → Type 0) (key : Key) (lines : List Text) (items : List X) (at : Located) : Type 0 where
   pub position : ℕ
   pub place : at.place ≡ Some (record { key = key; position = position })
-  pub stopped : IsStopped IsFault lines items position at.fault
+  pub stopped : StopsAtLine IsFault lines items position at.fault
 
 -- why a line says no further name
 abbrev pub IsNameFault : List Text → Text → LineFault → Type 0
@@ -68,20 +68,20 @@ IsNameFault names line fault = (fault ≡ BadName) × IsBadName names line
 -- reading stopped in the list of the key: what stands before was read whole, and nothing after
 abbrev pub ReadingStopsIn : Lists → Parts → Key → ℕ → LineFault → Type 0
 ReadingStopsIn lists parts Routers position fault =
-    IsStopped (IsNameFault parts.names) lists.routers parts.names position fault
+    StopsAtLine (IsNameFault parts.names) lists.routers parts.names position fault
     × (parts.links ≡ []) × (parts.attachments ≡ []) × (parts.commands ≡ [])
 ReadingStopsIn lists parts Links position fault =
     IsWhole lists.routers parts.names
-    × IsStopped IsLinkFault lists.links parts.links position fault
+    × StopsAtLine IsLinkFault lists.links parts.links position fault
     × (parts.attachments ≡ []) × (parts.commands ≡ [])
 ReadingStopsIn lists parts Prefixes position fault =
     IsWhole lists.routers parts.names × IsWhole lists.links parts.links
-    × IsStopped (IsAttachmentFault parts.names) lists.prefixes parts.attachments position fault
+    × StopsAtLine (IsAttachmentFault parts.names) lists.prefixes parts.attachments position fault
     × (parts.commands ≡ [])
 ReadingStopsIn lists parts Script position fault =
     IsWhole lists.routers parts.names × IsWhole lists.links parts.links × IsWhole lists.prefixes parts.attachments
     × (length lists.script ≤ most_commands)
-    × IsStopped (IsCommandFault parts.names parts.links parts.attachments) lists.script parts.commands position fault
+    × StopsAtLine (IsCommandFault parts.names parts.links parts.attachments) lists.script parts.commands position fault
 
 -- reading stopped at the place, or, without one, before the script, which is too long
 abbrev pub ReadingStopsAt : Lists → Parts → LineFault → Option Place → Type 0

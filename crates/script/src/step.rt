@@ -4,7 +4,7 @@ ghost use Rattle.std.specs.Prelude.{◌≡◌, ◌≤◌, ℕ, ◌∷◌, IfOk, 
 ghost use Rattle.metric.specs.Distance.{IsCost};
 ghost use Rattle.texts.specs.Words.{Text, words_of};
 ghost use Rattle.network_model.specs.Network.{joins};
-ghost use Rattle.script.specs.Commands.{link_between as first_between, port_on as number_on, AsksStep, AsksNoStep, AsksCost, AsksNoCost, AsksDelivery, AsksAttachment, AsksNoAttachment, IsWay, NamesLink};
+ghost use Rattle.script.specs.Commands.{link_between as first_between, port_on as number_on, AsksStep, AsksNoStep, AsksCost, AsksNoCost, AsksDelivery, AsksAttachment, AsksNoAttachment, NamesWay, NamesLink};
 
 use crate::fault::LineFault;
 use crate::names::Names;
@@ -182,9 +182,9 @@ fn way_between(
     name: &str,
     neighbour: &str,
 ) -> Result<Way, LineFault>
-    ensures ok { IfOk result (λ w. IsWay names.now links.now name.now neighbour.now w.router w.link) }
+    ensures ok { IfOk result (λ w. NamesWay names.now links.now name.now neighbour.now w.router w.link) }
     ensures err { IfErr result (λ e. (e ≡ LineFault.BadCommand)
-        × ((router link : ℕ) → ¬ (IsWay names.now links.now name.now neighbour.now router link))) }
+        × ((router link : ℕ) → ¬ (NamesWay names.now links.now name.now neighbour.now router link))) }
 {
     let router = read_router(names, name)?;
     let neighbour = read_router(names, neighbour)?;

@@ -3,7 +3,7 @@ use Rattle.std.proofs.Common.{refl, ◌≡◌, List, [], ◌∷◌, Some, None}
 use Rattle.no_packet_loops.proofs.Example.{pair}
 use Rattle.network_model.specs.declared.step.Step.{Step}
 use Rattle.network_model.specs.declared.step.Step.TheVariants.{LinkUp, LinkDown, Deliver, Publish, Release}
-use Rattle.simulation.specs.Headline.{image_hop}
+use Rattle.simulation.specs.Headline.{hop_by_image}
 use Rattle.simulation.specs.Simulation.{Simulation, after_steps, opening_simulation}
 
 -- the link comes up, both routers hear of that, and router 0 publishes
@@ -14,12 +14,12 @@ abbrev after : List Step → Simulation
 after steps = after_steps (after_steps (opening_simulation pair) told) steps
 
 -- router 1 forwards by the row once it has published it, and not before
-not_yet : image_hop (after (Release 0 ∷ Deliver 1 0 ∷ [])) 3221225985 1 ≡ None
+not_yet : hop_by_image (after (Release 0 ∷ Deliver 1 0 ∷ [])) 3221225985 1 ≡ None
 not_yet = refl
 
-forwards : image_hop (after (Release 0 ∷ Deliver 1 0 ∷ Publish 1 ∷ [])) 3221225985 1 ≡ Some 0
+forwards : hop_by_image (after (Release 0 ∷ Deliver 1 0 ∷ Publish 1 ∷ [])) 3221225985 1 ≡ Some 0
 forwards = refl
 
 -- over a link that is down no packet goes, whatever the image says
-dead : image_hop (after (Release 0 ∷ Deliver 1 0 ∷ Publish 1 ∷ LinkDown 0 ∷ [])) 3221225985 1 ≡ None
+dead : hop_by_image (after (Release 0 ∷ Deliver 1 0 ∷ Publish 1 ∷ LinkDown 0 ∷ [])) 3221225985 1 ≡ None
 dead = refl

@@ -6,10 +6,10 @@ use Rattle.all_packets.specs.Packets.{IsWay, NoPacketCircles}
 use Rattle.all_packets.proofs.Improving.{way_by}
 use Rattle.course.specs.Images.{image_in_force}
 use Rattle.simulation.specs.Simulation.{Simulation, IsSimulation}
-use Rattle.simulation.specs.Headline.{image_hop, IsImageWay, NeverMeetsTwice}
+use Rattle.simulation.specs.Headline.{hop_by_image, IsWayByImages, NeverMeetsTwice}
 
 -- along an image in force a packet goes where it goes by what its router published
-pub hop_is : (s : Simulation) → IsSimulation s → (addr i : ℕ) → image_hop s addr i ≡ hop s.world addr i
+pub hop_is : (s : Simulation) → IsSimulation s → (addr i : ℕ) → hop_by_image s addr i ≡ hop s.world addr i
 hop_is s kept addr i =
     ap (λ o. option_and_then (λ r. entry_leads s.world i r.1) (option_and_then (λ image. image_answer image addr) o)) (ap (λ xs. slice_get xs i) kept ∙ slice_get-map image_in_force s.world.routers i)
     ∙ by_router (slice_get s.world.routers i)
@@ -20,12 +20,12 @@ hop_is s kept addr i =
     by_router (Some r) = refl
 
 -- so a way along images is one along tables
-along_tables : (s : Simulation) → IsSimulation s → (addr : ℕ) (way : List ℕ) → IsImageWay s addr way → IsWay s.world addr way
-along_tables s kept addr = way_by (λ i k. image_hop s addr i ≡ Some k) (λ i k. hop s.world addr i ≡ Some k) (λ i k h. sym (hop_is s kept addr i) ∙ h)
+along_tables : (s : Simulation) → IsSimulation s → (addr : ℕ) (way : List ℕ) → IsWayByImages s addr way → IsWay s.world addr way
+along_tables s kept addr = way_by (λ i k. hop_by_image s addr i ≡ Some k) (λ i k. hop s.world addr i ≡ Some k) (λ i k h. sym (hop_is s kept addr i) ∙ h)
 
 -- and the other way round
-pub along_images : (s : Simulation) → IsSimulation s → (addr : ℕ) (way : List ℕ) → IsWay s.world addr way → IsImageWay s addr way
-along_images s kept addr = way_by (λ i k. hop s.world addr i ≡ Some k) (λ i k. image_hop s addr i ≡ Some k) (λ i k h. hop_is s kept addr i ∙ h)
+pub along_images : (s : Simulation) → IsSimulation s → (addr : ℕ) (way : List ℕ) → IsWay s.world addr way → IsWayByImages s addr way
+along_images s kept addr = way_by (λ i k. hop s.world addr i ≡ Some k) (λ i k. hop_by_image s addr i ≡ Some k) (λ i k h. hop_is s kept addr i ∙ h)
 
 -- no packet circles
 pub never_twice : (s : Simulation) → IsSimulation s → NoPacketCircles s.world → NeverMeetsTwice s

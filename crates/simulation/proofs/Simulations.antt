@@ -2,7 +2,7 @@
 use Rattle.std.proofs.Common.{refl, sym, ap, ◌∙◌, ◌≡◌, ℕ, List, [], ◌∷◌, ◌++◌, map, length, Some, slice_get}
 use Rattle.no_packet_loops.proofs.Common.{length-map, range_with_len, Router, World, Network, opening, Image, image_answer, Some_injective}
 use Rattle.network_model.specs.declared.step.Step.{Step}
-use Rattle.course.specs.Course.{Course, opening_course, after_steps as course_after}
+use Rattle.course.specs.Course.{Course, opening_course, course_after_all}
 use Rattle.course.specs.Images.{image_in_force, images_in_force, chosen_image}
 use Rattle.simulation.specs.Simulation.{Simulation, after_step, after_steps, course_part, opening_simulation, with_images, ForwardsAsPublished, IsSimulation}
 use Rattle.course.proofs.Images.{chosen_published, image_at}
@@ -38,13 +38,13 @@ after_push s (y ∷ ys) x = after_push (after_step s y) ys x
 
 -- the course after these steps, with the images in force there
 abbrev shown_after : Simulation → List Step → Simulation
-shown_after s ss = with_images (course_after (course_part s) ss) (images_in_force (course_after (course_part s) ss).world)
+shown_after s ss = with_images (course_after_all (course_part s) ss) (images_in_force (course_after_all (course_part s) ss).world)
 
 after_shown : (s : Simulation) (ss : List Step) → IsSimulation s → after_steps s ss ≡ shown_after s ss
 after_shown s [] kept = ap (with_images (course_part s)) kept
 after_shown s (x ∷ xs) kept = after_shown (after_step s x) xs refl
 
 -- where the course did these steps, so did the simulation
-pub after_course : (old new : Simulation) (ss : List Step) → IsSimulation old → IsSimulation new → course_part new ≡ course_after (course_part old) ss → new ≡ after_steps old ss
+pub after_course : (old new : Simulation) (ss : List Step) → IsSimulation old → IsSimulation new → course_part new ≡ course_after_all (course_part old) ss → new ≡ after_steps old ss
 after_course old new ss was kept is =
     ap (with_images (course_part new)) kept ∙ ap (λ (c : Course). with_images c (images_in_force c.world)) is ∙ sym (after_shown old ss was)

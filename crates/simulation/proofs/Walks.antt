@@ -1,15 +1,16 @@
 -- Packets that are followed along the images in force.
 use Rattle.std.proofs.Common.{refl, sym, ap, subst, ◌∙◌, arith, ◌≡◌, ◌≢◌, ℕ, zero, suc, ◌<◌, ◌≤◌, List, [], ◌∷◌, ◌++◌, append_assoc, length, take, drop, Option, Some, None, option_map, option_and_then, slice_get}
-use Rattle.no_packet_loops.proofs.Common.{slice_get-map, Prefix, Entry, Local, Via, Unreachable, Ending, Router, World, Image, image_answer, longest_match, row_for, entry_leads, Onward, Ends, Goes, over_link, by_entry, by_row, onward, Trace, traced_by, None_not_Some, Some_injective}
+use Rattle.no_packet_loops.proofs.Common.{slice_get-map, Prefix, Entry, Ending, Router, World, Image, image_answer, longest_match, row_for, entry_leads, Onward, Ends, Goes, by_row, onward, Trace, None_not_Some, Some_injective}
 use Rattle.no_packet_loops.proofs.Traces.{by_entry-goes}
 use Rattle.network_model.specs.Forwarding.{hop}
 use Rattle.all_packets.specs.Packets.{IsWay, NoPacketCircles}
 use Rattle.all_packets.specs.Through.{through_from}
 use Rattle.course.specs.Images.{image_in_force, images_in_force}
-use Rattle.course.specs.Links.{HasShortWays as HasShortWaysThere, LeadsToRouters}
+use Rattle.course.specs.Links.{HasShortWays, LeadsToRouters}
+use Rattle.all_packets.proofs.Through.{onwards, row_ends}
 use Rattle.simulation.specs.Simulation.{Simulation, IsSimulation}
 use Rattle.simulation.proofs.Headline.{along_images}
-use Rattle.simulation.specs.Tracing.{HasShortWays, IsTraced, passed}
+use Rattle.simulation.specs.Tracing.{HasImageWays, IsTraced, passed}
 
 -- what the image in force at a router answers is the row that the router published
 pub row_is : (w : World) (i addr : ℕ) (images : List Image) (image : Image) → images ≡ images_in_force w → slice_get images i ≡ Some image → image_answer image addr ≡ row_for w i addr
@@ -30,28 +31,11 @@ row_leads w i (Some r) q k h = let leads = (by_entry-goes w i r.0 r.1 q k h).1 i
 pub goes_known : (w : World) → LeadsToRouters w → (addr i : ℕ) (q : Prefix) (k : ℕ) → onward w addr None i ≡ Goes q k → k < length w.routers
 goes_known w known addr i q k is = let G = (row_leads w i (row_for w i addr) q k is).1 in known i G.0 k G.1
 
-entry_ends : (w : World) (i : ℕ) (p : Prefix) (e : Entry) (end : Ending) → by_entry w i p e ≡ Ends end → end ≢ Ending.Crossed
-entry_ends w i p Local end h = λ crossed. (let none : ⊥ = cc in none)
-entry_ends w i p Unreachable end h = λ crossed. (let none : ⊥ = cc in none)
-entry_ends w i p (Via q session) end h = by_far (entry_leads w i (Via q session)) h
-  where
-    by_far : (o : Option ℕ) → over_link p o ≡ Ends end → end ≢ Ending.Crossed
-    by_far None is = λ crossed. (let none : ⊥ = cc in none)
-    by_far (Some k) is = absurd (let none : ⊥ = cc in none)
-
-row_ends : (w : World) (i : ℕ) (row : Option (Prefix × Entry)) (end : Ending) → by_row w i None row ≡ Ends end → end ≢ Ending.Crossed
-row_ends w i None end h = λ crossed. (let none : ⊥ = cc in none)
-row_ends w i (Some r) end h = entry_ends w i r.0 r.1 end h
-
 -- a packet that ends at a router does not end because another prefix matches
 pub real_end : (w : World) (addr i : ℕ) (end : Ending) → onward w addr None i ≡ Ends end → end ≢ Ending.Crossed
 real_end w addr i end is = row_ends w i (row_for w i addr) end is
 
 -- ---- traces of at most so many routers
-
--- the trace that does this at router i, and then may pass n routers more
-abbrev onwards : ℕ → World → ℕ → ℕ → Onward → Trace
-onwards n w addr i o = traced_by (λ p k. through_from n w addr k) i o
 
 -- a trace with these routers passed before it
 abbrev pub behind : List ℕ → Trace → Trace
@@ -102,7 +86,7 @@ module _ (w : World) (addr : ℕ) where
 -- ---- what is told of a packet that was followed
 
 -- a trace that was written
-pub traced : (s : Simulation) → HasShortWays s → (addr i : ℕ) (old new : List ℕ) (count : ℕ) (end : Option Ending) → count ≤ length old → drop count new ≡ drop count old
+pub traced : (s : Simulation) → HasImageWays s → (addr i : ℕ) (old new : List ℕ) (count : ℕ) (end : Option Ending) → count ≤ length old → drop count new ≡ drop count old
     → passed (take count new) end ≡ through_from (length old) s.world addr i → IsTraced s addr i old new count end
 traced s ways addr i old new count end room rest is =
     let way : IsWay s.world addr (take count new) = subst (λ (t : Trace). IsWay s.world addr t.path) (sym is) (is_way s.world addr (length old) i) in
@@ -115,7 +99,7 @@ traced s ways addr i old new count end room rest is =
     }
 
 -- where there is room for all routers it does not end before the packet
-pub unfinished : (s : Simulation) → HasShortWays s → (addr i : ℕ) (old new : List ℕ) → i < length s.world.routers → length s.world.routers ≤ length old → passed new None ≡ through_from (length old) s.world addr i → ⊥
+pub unfinished : (s : Simulation) → HasImageWays s → (addr i : ℕ) (old new : List ℕ) → i < length s.world.routers → length s.world.routers ≤ length old → passed new None ≡ through_from (length old) s.world addr i → ⊥
 unfinished s ways addr i old new known room is =
     let (ks, count, way) = long s.world addr (length old) i (sym (ap (λ (t : Trace). t.end) is)) in
     let short = ways.short addr i ks known way in
@@ -123,5 +107,5 @@ unfinished s ways addr i old new known room is =
 
 -- ---- what holds of the ways of every simulation
 
-pub short_ways : (s : Simulation) → IsSimulation s → NoPacketCircles s.world → HasShortWaysThere s.world → HasShortWays s
+pub short_ways : (s : Simulation) → IsSimulation s → NoPacketCircles s.world → HasShortWays s.world → HasImageWays s
 short_ways s kept none short = record { in_force = along_images s kept; none_twice = none; short = short }

@@ -10,16 +10,16 @@ use Rattle.convergence.specs.Converges.{Converges}
 use Rattle.simulation.specs.Simulation.{Simulation}
 
 -- the router that a packet for the address goes to from router i, by the row that the image in force there gives for it: its link is up in the row's session
-abbrev pub image_hop : Simulation → ℕ → ℕ → Option ℕ
-image_hop s addr i = option_and_then (λ r. entry_leads s.world i r.1) (option_and_then (λ image. image_answer image addr) (slice_get s.images i))
+abbrev pub hop_by_image : Simulation → ℕ → ℕ → Option ℕ
+hop_by_image s addr i = option_and_then (λ r. entry_leads s.world i r.1) (option_and_then (λ image. image_answer image addr) (slice_get s.images i))
 
 -- a way of a packet along the images in force, whichever prefixes match its address
-abbrev pub IsImageWay : Simulation → ℕ → List ℕ → Type 0
-IsImageWay s addr way = IsWayBy (λ i k. image_hop s addr i ≡ Some k) way
+abbrev pub IsWayByImages : Simulation → ℕ → List ℕ → Type 0
+IsWayByImages s addr way = IsWayBy (λ i k. hop_by_image s addr i ≡ Some k) way
 
 -- no packet meets a router twice, whichever prefixes match it on its way
 abbrev pub NeverMeetsTwice : Simulation → Type 0
-NeverMeetsTwice s = (addr : ℕ) (way : List ℕ) → IsImageWay s addr way → meets_twice way ≡ false
+NeverMeetsTwice s = (addr : ℕ) (way : List ℕ) → IsWayByImages s addr way → meets_twice way ≡ false
 
 -- each router's row for each prefix is the best: it begins a least-cost walk to an attached router, the cost of its attachment included; where there is none, it says so, or the prefix is unheard
 abbrev pub HasBestRows : Simulation → Type 0

@@ -3,14 +3,14 @@ use Rattle.std.specs.Prelude.{◌≡◌, ℕ, List, length}
 use Rattle.network_model.specs.declared.step.Step.{Step}
 use Rattle.network_model.specs.declared.step.Refusal.{Refusal}
 use Rattle.network_model.specs.Run.{Runs}
-use Rattle.course.specs.Turns.{AreTurns, IsStopped as IsCourseStopped}
+use Rattle.course.specs.Turns.{AreNextSteps, IsCourseStopped}
 use Rattle.simulation.specs.Simulation.{Simulation, after_steps, course_part}
 
 -- the one simulation is the other with so many steps more, each lawful, and what some router had to do next
 pub record HasTurned (old new : Simulation) (done : ℕ) : Type 0 where
   pub steps : List Step
   pub count : length steps ≡ done
-  pub turns : AreTurns old.world steps
+  pub turns : AreNextSteps old.world steps
   pub runs : Runs old.world steps new.world
   pub after : new ≡ after_steps old steps
 

@@ -7,7 +7,7 @@ use Rattle.loop_freedom.specs.Network.{meets_twice}
 use Rattle.all_packets.specs.Packets.{IsWay}
 use Rattle.all_packets.specs.Through.{through_from}
 use Rattle.simulation.specs.Simulation.{Simulation}
-use Rattle.simulation.specs.Headline.{IsImageWay}
+use Rattle.simulation.specs.Headline.{IsWayByImages}
 use Rattle.simulation.specs.declared.tracing.Onward.{Onward}
 
 -- what a packet does at a router, as code has it
@@ -25,7 +25,7 @@ pub record IsTraced (s : Simulation) (addr i : ℕ) (old new : List ℕ) (count 
   pub room : count ≤ length old
   pub rest : drop count new ≡ drop count old
   -- it is a way along the images in force, and meets no router twice
-  pub way : IsImageWay s addr (take count new)
+  pub way : IsWayByImages s addr (take count new)
   pub no_loop : meets_twice (take count new) ≡ false
 
 -- the packet was followed to its end, delivered or lost
@@ -35,7 +35,7 @@ pub record HasEnded (end : Option Ending) : Type 0 where
   pub real : ending ≢ Crossed
 
 -- a way of a packet is one along the images in force, it meets no router twice, and passes no more routers than there are
-pub record HasShortWays (s : Simulation) : Type 0 where
-  pub in_force : (addr : ℕ) (way : List ℕ) → IsWay s.world addr way → IsImageWay s addr way
+pub record HasImageWays (s : Simulation) : Type 0 where
+  pub in_force : (addr : ℕ) (way : List ℕ) → IsWay s.world addr way → IsWayByImages s addr way
   pub none_twice : (addr : ℕ) (way : List ℕ) → IsWay s.world addr way → meets_twice way ≡ false
   pub short : (addr i : ℕ) (ks : List ℕ) → i < length s.world.routers → IsWay s.world addr (i ∷ ks) → length (i ∷ ks) ≤ length s.world.routers

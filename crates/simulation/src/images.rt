@@ -4,9 +4,9 @@ ghost use Rattle.std.specs.Prelude.{ℕ, None, Err, ◌≡◌, ◌+◌, ◌^◌,
 ghost use Rattle.network_model.specs.Step as steps;
 ghost use Rattle.network_model.specs.Step.{router_publishing};
 ghost use Rattle.world.specs.Steps.{DeliversWithRoom, DiscardsStale, HasRoomForSteps, IsDoneOr};
-ghost use Rattle.course.specs.Course.{after_step, course_refusal};
+ghost use Rattle.course.specs.Course.{course_after, course_refusal};
 ghost use Rattle.course.specs.Images.{chosen_image, due_at, image_in_force, images_in_force};
-ghost use Rattle.simulation.specs.Patches.{IsPatchDue};
+ghost use Rattle.simulation.specs.Patches.{IsImagePatchDue};
 ghost use Rattle.image_patch.specs.Patches.{patched};
 
 use course::Course;
@@ -38,7 +38,7 @@ fn patch_due<A: SmallAllocator>(
     router: u16,
 ) -> Result<Option<Patch<A>>, NoMemory>
     requires { HasRoomForSteps 1 world.now }
-    ensures due { IfOk result (IsPatchDue world.now router) }
+    ensures due { IfOk result (IsImagePatchDue world.now router) }
     ensures err { IfErr result (λ e. IsSome (due_at world.now router)) }
 {
     let Some(publisher) = world.routers().get(usize::from(router)) else {
@@ -60,7 +60,7 @@ pub fn forward<A: SmallAllocator>(
 ) -> Result<(), Refusal>
     requires in_force { images.old.items ≡ images_in_force (course.old).world }
     ensures ok { OnOk result (steps.Lawful (course.old).world step
-        × (course.new ≡ after_step course.old step)) }
+        × (course.new ≡ course_after course.old step)) }
     ensures err { OnErr result (course.new ≡ course.old) }
     ensures in_force { images.new.items ≡ images_in_force (course.new).world }
     ensures cause { IsDoneOr (course_refusal course.old step) result }
@@ -87,7 +87,7 @@ fn publish<A: SmallAllocator>(
 ) -> Result<(), Refusal>
     requires in_force { images.old.items ≡ images_in_force (course.old).world }
     ensures ok { OnOk result (steps.Lawful (course.old).world (Step.Publish router)
-        × (course.new ≡ after_step course.old (Step.Publish router))) }
+        × (course.new ≡ course_after course.old (Step.Publish router))) }
     ensures err { OnErr result (course.new ≡ course.old) }
     ensures in_force { images.new.items ≡ images_in_force (course.new).world }
     ensures cause { IsDoneOr (course_refusal course.old (Step.Publish router)) result }

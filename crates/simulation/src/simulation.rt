@@ -11,7 +11,7 @@ ghost use Rattle.simulation.specs.Simulation.{after_step, after_steps, answer_at
 ghost use Rattle.simulation.specs.Headline.{ConvergesLeftAlone, HasBestRows, LeadsAtLeastCost, NeverMeetsTwice};
 ghost use Rattle.simulation.specs.Settling.{HasTurned, IsStopped};
 ghost use Rattle.course.specs.Links.{LeadsToRouters};
-ghost use Rattle.simulation.specs.Tracing.{HasEnded, HasShortWays, IsTraced, onward_of};
+ghost use Rattle.simulation.specs.Tracing.{HasEnded, HasImageWays, IsTraced, onward_of};
 
 use crate::images::{copy_images, forward, opening_images};
 use crate::tracing::{Onward, Traced, by_row};
@@ -290,7 +290,7 @@ impl<A: SmallAllocator> Simulation<A> {
     fn router_count(&self) -> usize
         ensures count { result ≡ length (self.now).world.routers }
         ensures routers { LeadsToRouters (self.now).world }
-        ensures ways { HasShortWays self.now }
+        ensures ways { HasImageWays self.now }
     {
         self.course.holds();
         self.course.network().routers()

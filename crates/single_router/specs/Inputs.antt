@@ -45,8 +45,8 @@ abbrev pub prefix_of : ℕ → ℕ → Result Prefix CallFault
 prefix_of addr len = unless (prefix_fault addr len) (record { addr = addr; len = len })
 
 -- the kind of a number
-abbrev pub kind_of : ℕ → Result Kind CallFault
-kind_of n = if n == 0 then Ok Update else if n == 1 then Ok Query else if n == 2 then Ok Reply else Err BadKind
+abbrev pub kind_by_number : ℕ → Result Kind CallFault
+kind_by_number n = if n == 0 then Ok Update else if n == 1 then Ok Query else if n == 2 then Ok Reply else Err BadKind
 
 -- a link that comes up, if its cost is one
 abbrev pub up_input : ℕ → ℕ → ℕ → Result Input CallFault
@@ -58,7 +58,7 @@ cost_input port cost = and_then (cost_of cost) (λ c. Ok (input.Cost port c))
 
 -- a message, if its prefix and its kind are such
 abbrev pub frame_input : Frame → Result Input CallFault
-frame_input f = and_then (prefix_of f.addr f.len) (λ p. and_then (kind_of f.kind) (λ k.
+frame_input f = and_then (prefix_of f.addr f.len) (λ p. and_then (kind_by_number f.kind) (λ k.
     Ok (input.Message f.port f.session (record { kind = k; prefix = p; value = f.value }))))
 
 -- an attachment, if its prefix and its cost are such

@@ -18,8 +18,8 @@ abbrev pub flag : Bool → ℕ
 flag b = if b then 1 else 0
 
 -- what a router has, in numbers
-abbrev pub counts_of : Router → Counts
-counts_of r = record {
+abbrev pub router_counts : Router → Counts
+router_counts r = record {
   prefixes = length (r.table).control;
   changed = length (changed_rows r.table);
   held = length (r.gate).held;
@@ -41,8 +41,8 @@ abbrev pub owed_port : Option Computation → ℕ
 owed_port c = unwrap_or (option_and_then (λ k. k.debt) c) 255
 
 -- the row of a prefix among rows
-abbrev pub row_in : List (Prefix × Entry) → Prefix → Row
-row_in rows p = answer_row (option_map (λ e. (p, e)) (row_of prefix_cmp p rows))
+abbrev pub row_among : List (Prefix × Entry) → Prefix → Row
+row_among rows p = answer_row (option_map (λ e. (p, e)) (row_of prefix_cmp p rows))
 
 -- what a router shows of a prefix, by its machine
 abbrev pub state_of : Table → Prefix → Machine → State
@@ -50,8 +50,8 @@ state_of t p m = record {
   rd = m.rd;
   fd = m.fd;
   attached = unwrap_or m.attachment 0;
-  chosen = row_in t.control p;
-  published = row_in t.published p;
+  chosen = row_among t.control p;
+  published = row_among t.published p;
   active = flag (is_some m.computation);
   owed = owed_port m.computation;
   awaited = awaited_flags m.computation;

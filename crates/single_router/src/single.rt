@@ -10,7 +10,7 @@ ghost use Rattle.router_core.specs.Room.{MeetingNeedsMemory, NoticeNeedsMemory};
 ghost use Rattle.single_router.specs.Bounded.{bounded_fault, bounded_make_fault, bounded_router, crowd_fault, with_router};
 ghost use Rattle.single_router.specs.Inputs.{told_fault, router_after, port_fault, down_fault, kind_fault, owes_at, attachment_of, IsRefusedBy, IsRefusedOnlyBy, InputNeedsMemory};
 ghost use Rattle.single_router.specs.Publishing.{publish_fault, has_more, rows_given, router_given, forget_fault, room_fault, IsWrittenOver};
-ghost use Rattle.single_router.specs.States.{counts_of, shown_state};
+ghost use Rattle.single_router.specs.States.{router_counts, shown_state};
 
 use crate::frame::Frame;
 use crate::input::Input;
@@ -263,7 +263,7 @@ impl SingleRouter {
 
     /// What the router has.
     pub fn counts(&self) -> Counts
-        ensures { result ≡ counts_of (self.now).router }
+        ensures { result ≡ router_counts (self.now).router }
     {
         let table = self.router.table();
         Counts {

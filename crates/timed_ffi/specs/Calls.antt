@@ -2,7 +2,7 @@
 use Rattle.std.specs.Prelude.{◌≡◌, ◌≢◌, ◌⊎◌, ℕ, ◌<◌, ◌≤◌, nat_lt, if◌then◌else◌, true, Option, Some, None, option_map, slice_get}
 use Rattle.std.specs.Option.{option_map_or}
 use Rattle.faults.specs.Numbers.{kind_number}
-use Rattle.c_interface.specs.Faults.{fault_number}
+use Rattle.c_interface.specs.Faults.{fault_number, IsDoneOrOutOfMemory}
 use Rattle.c_interface.specs.declared.fault.CallFault.TheVariants.{Empty}
 use Rattle.timed_simulation.specs.declared.events.Event.{Event}
 use Rattle.timed_simulation.specs.declared.events.Change.{Change}
@@ -12,7 +12,6 @@ use Rattle.timed_simulation.specs.Kinds.{time_kind}
 use Rattle.timed_simulation.specs.Timed.{Timed}
 use Rattle.timed_simulation.specs.Due.{IsDoneUntil, NothingIsLate}
 use Rattle.timed_simulation.specs.Runs.{IsAtRest, IsStoppedAt, IsStoppedShort, IsTimedRun}
-use Rattle.network_calls.specs.Failures.{IsDoneOrOutOfMemory}
 use Rattle.network_calls.specs.declared.step.StepParts.{StepParts}
 use Rattle.timed_ffi.specs.Parts.{change_fault}
 

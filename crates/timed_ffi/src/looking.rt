@@ -3,8 +3,8 @@
 ghost use Rattle.std.specs.Prelude.{◌≡◌, ◌≢◌, Some, IfNone, IfSome, length, option_map, slice_get};
 ghost use Rattle.c_interface.specs.Faults.{fault_number};
 ghost use Rattle.c_interface.specs.Rows.{as_prefix};
-ghost use Rattle.network_calls.specs.Calls.{at_link, at_machine, at_router, counts_of, lookup_fault, shown_machine, IsAnswered, IsFollowed, IsListed};
-ghost use Rattle.network_calls.specs.Failures.{status_by};
+ghost use Rattle.network_calls.specs.Calls.{at_link, at_machine, at_router, counts_of, lookup_fault, shown_machine, IsAnswered, IsFollowed, AreRowsListed};
+ghost use Rattle.network_calls.specs.Failures.{status_by_failure};
 ghost use Rattle.network_calls.specs.Shown.{link_shown};
 ghost use Rattle.timed_ffi.specs.Handles.{handle_recording, timed_network};
 
@@ -26,7 +26,7 @@ pub extern "C" fn tuhvondi_timed_lookup(
     addrs: &[u32],
     answers: &mut [Row],
 ) -> u32
-    ensures status { result ≡ status_by (lookup_fault
+    ensures status { result ≡ status_by_failure (lookup_fault
         router (length addrs.now) (length answers.old) (timed_network timed.old)) }
     ensures done { result ≡ 0 →
         IfSome (timed_network timed.old) (IsAnswered router addrs.now answers.new) }
@@ -54,7 +54,7 @@ pub extern "C" fn tuhvondi_timed_trace(
     count: &mut usize,
     end: &mut u8,
 ) -> u32
-    ensures status { result ≡ status_by (at_router router (timed_network timed.old)) }
+    ensures status { result ≡ status_by_failure (at_router router (timed_network timed.old)) }
     ensures done { result ≡ 0 → IfSome (timed_network timed.old) (λ s. IsFollowed
         s addr router hops.old hops.new count.new end.new) }
     ensures refused { result ≢ 0 →
@@ -87,10 +87,10 @@ pub extern "C" fn tuhvondi_timed_rows(
     written: &mut usize,
     more: &mut u8,
 ) -> u32
-    ensures status { result ≡ status_by (at_router router (timed_network timed.old)) }
+    ensures status { result ≡ status_by_failure (at_router router (timed_network timed.old)) }
     ensures done { result ≡ 0 → IfSome (timed_network timed.old) (λ s.
         IfSome (slice_get s.world.routers router)
-        (λ r. IsListed r rows.old rows.new written.new more.new)) }
+        (λ r. AreRowsListed r rows.old rows.new written.new more.new)) }
     ensures refused { result ≢ 0 →
         (rows.new ≡ rows.old) × (written.new ≡ written.old) × (more.new ≡ more.old) }
     ensures timed { handle_recording timed.new ≡ handle_recording timed.old }
@@ -120,7 +120,7 @@ pub extern "C" fn tuhvondi_timed_machine(
     len: u8,
     machine: &mut MachineShown,
 ) -> u32
-    ensures status { result ≡ status_by (at_machine router addr len (timed_network timed.old)) }
+    ensures status { result ≡ status_by_failure (at_machine router addr len (timed_network timed.old)) }
     ensures done { result ≡ 0 → IfSome (timed_network timed.old) (λ s.
         shown_machine s.world router (as_prefix addr len) ≡ Some machine.new) }
     ensures refused { result ≢ 0 → machine.new ≡ machine.old }
@@ -152,7 +152,7 @@ pub extern "C" fn tuhvondi_timed_link(
     link: u16,
     shown: &mut LinkShown,
 ) -> u32
-    ensures status { result ≡ status_by (at_link link (timed_network timed.old)) }
+    ensures status { result ≡ status_by_failure (at_link link (timed_network timed.old)) }
     ensures done { result ≡ 0 → IfSome (timed_network timed.old) (λ s.
         option_map link_shown (slice_get s.world.links link) ≡ Some shown.new) }
     ensures refused { result ≢ 0 → shown.new ≡ shown.old }

@@ -12,7 +12,7 @@ use Rattle.timed_simulation.proofs.Moments.{next-after}
 use Rattle.timed_simulation.proofs.Rising.{rises_at}
 use Rattle.timed_simulation.proofs.Runs.{kept_after, run_none}
 use Rattle.timing.specs.declared.snapshot.Begun.{Begun}
-use Rattle.timing.specs.Runs.{Comes, IsBegun, IsReady, LeadsAlone}
+use Rattle.timing.specs.Runs.{ComesNext, IsBegun, IsReady, LeadsAlone}
 use Rattle.timing.proofs.Leading.{none_done}
 
 -- ---- what an event leaves of the changes
@@ -24,7 +24,7 @@ changes_after t e b is = ap (λ (g : Bool). if g then drop 1 t.changes else t.ch
 first_gone : (t u : Timed) (b : Begun) → IsBegun t b u → u.changes ≡ drop 1 t.changes
 first_gone t u b begun = go b.refusal begun.ends
   where
-    go : (r : Option Refusal) → Comes t b.event u r → u.changes ≡ drop 1 t.changes
+    go : (r : Option Refusal) → ComesNext t b.event u r → u.changes ≡ drop 1 t.changes
     go None comes = ap (λ (x : Timed). x.changes) comes.1 ∙ changes_after t b.event true begun.given
     go (Some r) comes = ap (λ (x : Timed). x.changes) comes.2
 

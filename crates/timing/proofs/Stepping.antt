@@ -10,12 +10,12 @@ use Rattle.timed_simulation.specs.declared.events.Event.{Event}
 use Rattle.timed_simulation.specs.Timed.{Timed, opening_timed, with_change, world_of}
 use Rattle.timed_simulation.specs.Runs.{steps_of}
 use Rattle.timing.specs.declared.times.Times.{Times}
-use Rattle.timing.specs.Runs.{Comes, with_changes}
-use Rattle.timing.specs.Steps.{AllCome, Came, IsDoneAt, RunsInSteps, done_of, if_done, moments_of}
+use Rattle.timing.specs.Runs.{ComesNext, with_changes}
+use Rattle.timing.specs.Steps.{AllCome, Came, IsDoneAt, RunsInSteps, done_of, if_done, event_moments}
 
 -- one more comes
-all_more : (t : Timed) (cs : List Came) (u v : Timed) (c : Came) → AllCome t cs u → Comes u c.event v c.refusal → AllCome t (cs ++ c ∷ []) v
-all_more t [] u v c same comes = (v, subst (λ x. Comes x c.event v c.refusal) (sym same) comes, refl)
+all_more : (t : Timed) (cs : List Came) (u v : Timed) (c : Came) → AllCome t cs u → ComesNext u c.event v c.refusal → AllCome t (cs ++ c ∷ []) v
+all_more t [] u v c same comes = (v, subst (λ x. ComesNext x c.event v c.refusal) (sym same) comes, refl)
 all_more t (x ∷ xs) u v c all comes = (all.0, all.1, all_more all.0 xs u v c all.2 comes)
 
 done_more : (cs : List Came) (c : Came) → done_of (cs ++ c ∷ []) ≡ done_of cs ++ done_of (c ∷ [])
@@ -27,19 +27,19 @@ pub none_done_at : (t : Timed) (steps : List Step) (moments : List ℕ) → step
 none_done_at t steps moments no_steps no_moments = record { came = []; leads = refl; steps_are = no_steps; moments_are = no_moments }
 
 -- one more
-pub more_done_at : (t u v : Timed) (steps more : List Step) (moments others : List ℕ) (c : Came) → IsDoneAt t steps moments u → Comes u c.event v c.refusal
-    → more ≡ steps ++ steps_of (done_of (c ∷ [])) → others ≡ moments ++ moments_of (done_of (c ∷ [])) → IsDoneAt t more others v
+pub more_done_at : (t u v : Timed) (steps more : List Step) (moments others : List ℕ) (c : Came) → IsDoneAt t steps moments u → ComesNext u c.event v c.refusal
+    → more ≡ steps ++ steps_of (done_of (c ∷ [])) → others ≡ moments ++ event_moments (done_of (c ∷ [])) → IsDoneAt t more others v
 more_done_at t u v steps more moments others c done comes more_is others_is = record {
   came = done.came ++ c ∷ [];
   leads = all_more t done.came u v c done.leads comes;
   steps_are = more_is ∙ ap (λ ss. ss ++ steps_of (done_of (c ∷ []))) done.steps_are ∙ sym (ap steps_of (done_more done.came c) ∙ map-append (λ (e : Event). e.step) (done_of done.came) (done_of (c ∷ [])));
-  moments_are = others_is ∙ ap (λ ms. ms ++ moments_of (done_of (c ∷ []))) done.moments_are ∙ sym (ap moments_of (done_more done.came c) ∙ map-append (λ (e : Event). e.moment) (done_of done.came) (done_of (c ∷ [])));
+  moments_are = others_is ∙ ap (λ ms. ms ++ event_moments (done_of (c ∷ []))) done.moments_are ∙ sym (ap event_moments (done_more done.came c) ∙ map-append (λ (e : Event). e.moment) (done_of done.came) (done_of (c ∷ [])));
 }
 
 -- ---- what the steps are for a network without its time
 
 -- one that comes is a step, or none
-run_more : (t u : Timed) (e : Event) (r : Option Refusal) (es : List Event) (w : World) → Comes t e u r → Runs (world_of u) (steps_of es) w → Runs (world_of t) (steps_of (if_done r e ++ es)) w
+run_more : (t u : Timed) (e : Event) (r : Option Refusal) (es : List Event) (w : World) → ComesNext t e u r → Runs (world_of u) (steps_of es) w → Runs (world_of t) (steps_of (if_done r e ++ es)) w
 run_more t u e None es w comes runs = ((comes.0).lawful, subst (λ x. Runs (world_of x) (steps_of es) w) comes.1 runs)
 run_more t u e (Some r) es w comes runs = subst (λ x. Runs (world_of x) (steps_of es) w) comes.2 runs
 
@@ -53,7 +53,7 @@ network_of : (t : Timed) (cs : List Came) (u : Timed) → AllCome t cs u → (u.
 network_of t [] u same = ap (λ x. (x.simulation).network) (sym same)
 network_of t (c ∷ cs) u all = network_of all.0 cs u all.2 ∙ go c.refusal all.1
   where
-    go : (r : Option Refusal) → Comes t c.event all.0 r → ((all.0).simulation).network ≡ (t.simulation).network
+    go : (r : Option Refusal) → ComesNext t c.event all.0 r → ((all.0).simulation).network ≡ (t.simulation).network
     go None comes = ap (λ x. (x.simulation).network) comes.1
     go (Some r) comes = ap (λ x. (x.simulation).network) comes.2
 

@@ -26,8 +26,8 @@ with_changes [] t = t
 with_changes (c ∷ cs) t = with_changes cs (with_change c t)
 
 -- what is done next comes: it is done; or it is a change whose step is refused for this reason, and it is taken off
-abbrev pub Comes : Timed → Event → Timed → Option Refusal → Type 0
-Comes t e u refusal = MatchOption refusal
+abbrev pub ComesNext : Timed → Event → Timed → Option Refusal → Type 0
+ComesNext t e u refusal = MatchOption refusal
     (IsNext t e × (u ≡ after_event t e))
     (λ r. (e.given ≡ true) × (simulation_refusal t.simulation e.step ≡ Some r) × (u ≡ without_first t))
 
@@ -36,7 +36,7 @@ pub record IsBegun (t : Timed) (b : Begun) (u : Timed) : Type 0 where
   pub next : next_event t ≡ Some b.event
   pub given : (b.event).given ≡ true
   pub before : b.before ≡ snapshot_of t
-  pub ends : Comes t b.event u b.refusal
+  pub ends : ComesNext t b.event u b.refusal
 
 -- some events, each the next one, lead from the one to the other. None of them is a change that was given: the changes to come stay the same
 pub record LeadsAlone (t u : Timed) : Type 0 where

@@ -8,7 +8,7 @@ use Rattle.timed_simulation.specs.Timed.{Timed, opening_timed}
 use Rattle.timed_simulation.specs.Due.{NothingIsDue}
 use Rattle.timed_simulation.specs.Runs.{steps_of}
 use Rattle.timing.specs.declared.times.Times.{Times}
-use Rattle.timing.specs.Runs.{Comes, with_changes}
+use Rattle.timing.specs.Runs.{ComesNext, with_changes}
 
 -- an event, and why it was refused if it was
 pub record Came : Type 0 where
@@ -18,7 +18,7 @@ pub record Came : Type 0 where
 -- each of these was what had to be done next, and came
 abbrev pub AllCome : Timed → List Came → Timed → Type 0
 AllCome t [] u = t ≡ u
-AllCome t (c ∷ cs) u = (mid : Timed) × Comes t c.event mid c.refusal × AllCome mid cs u
+AllCome t (c ∷ cs) u = (mid : Timed) × ComesNext t c.event mid c.refusal × AllCome mid cs u
 
 -- the event, if it was not refused
 abbrev pub if_done : Option Refusal → Event → List Event
@@ -31,15 +31,15 @@ done_of [] = []
 done_of (c ∷ cs) = if_done c.refusal c.event ++ done_of cs
 
 -- the moments of these events
-abbrev pub moments_of : List Event → List ℕ
-moments_of es = map (λ e. e.moment) es
+abbrev pub event_moments : List Event → List ℕ
+event_moments es = map (λ e. e.moment) es
 
 -- what was done from the one network to the other: these steps, at these moments
 pub record IsDoneAt (t : Timed) (steps : List Step) (moments : List ℕ) (u : Timed) : Type 0 where
   pub came : List Came
   pub leads : AllCome t came u
   pub steps_are : steps ≡ steps_of (done_of came)
-  pub moments_are : moments ≡ moments_of (done_of came)
+  pub moments_are : moments ≡ event_moments (done_of came)
 
 -- a network with these delays was given these changes, and did these steps at these moments, until nothing was left to do
 pub record RunsInSteps (n : Network) (times : Times) (steps : List Step) (moments : List ℕ) (end : Timed) : Type 0 where

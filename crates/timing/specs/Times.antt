@@ -64,10 +64,10 @@ abbrev pub StopsLines : TimesKey → ℕ → Fault → Type 0
 StopsLines key count fault = IsMemory fault ⊎ ((e : LineFault) × (position : ℕ) × (fault ≡ of_times_line (line_kind e) key position) × (position < count))
 
 -- the lines of this list
-abbrev pub lines_of : TimesKey → TimesLists → List Text
-lines_of TimesKey.Links lists = lists.links
-lines_of TimesKey.Routers lists = lists.routers
-lines_of TimesKey.Changes lists = lists.changes
+abbrev pub lines_at_key : TimesKey → TimesLists → List Text
+lines_at_key TimesKey.Links lists = lists.links
+lines_at_key TimesKey.Routers lists = lists.routers
+lines_at_key TimesKey.Changes lists = lists.changes
 
 -- the text is a document of times with such lists
 abbrev pub HasLists : Text → (TimesLists → Type 0) → Type 0
@@ -94,7 +94,7 @@ IsNoTimes text _ = ⊥
 abbrev pub SaysNoTimes : Text → FaultKind → Option Where → Type 0
 SaysNoTimes text kind None = kind ≡ FaultKind.NoMemory
 SaysNoTimes text kind (Some Where.Times) = IsNoTimes text kind
-SaysNoTimes text kind (Some (Where.TimesLine key position)) = (e : LineFault) × (kind ≡ line_kind e) × HasLists text (λ lists. position < length (lines_of key lists))
+SaysNoTimes text kind (Some (Where.TimesLine key position)) = (e : LineFault) × (kind ≡ line_kind e) × HasLists text (λ lists. position < length (lines_at_key key lists))
 SaysNoTimes text kind (Some _) = ⊥
 
 -- the fault is of the document of times that has these bytes

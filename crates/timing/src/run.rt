@@ -6,7 +6,7 @@ ghost use Rattle.timed_simulation.specs.Due.{IsDue};
 ghost use Rattle.timed_simulation.specs.Events.{next_event};
 ghost use Rattle.timed_simulation.specs.Runs.{IsAtRest};
 ghost use Rattle.timed_reports.specs.Recordings.{timed_in};
-ghost use Rattle.timing.specs.Runs.{Comes, IsBegun, IsOfEvents, IsReady, Leads, LeadsAlone, with_changes};
+ghost use Rattle.timing.specs.Runs.{ComesNext, IsBegun, IsOfEvents, IsReady, Leads, LeadsAlone, with_changes};
 
 use crate::snapshot::{Begun, Snapshot};
 use faults::FaultKind;
@@ -128,7 +128,7 @@ fn begin(recording: &mut Recording) -> Result<Begun, Fault>
 pub fn do_event(recording: &mut Recording, event: &Event) -> Result<Option<Refusal>, Fault>
     requires next { next_event (timed_in recording.old) ≡ Some event.now }
     requires due { IsDue (timed_in recording.old) event.now }
-    ensures ok { IfOk result (Comes (timed_in recording.old) event.now (timed_in recording.new)) }
+    ensures ok { IfOk result (ComesNext (timed_in recording.old) event.now (timed_in recording.new)) }
     ensures fault { IfErr result IsOfEvents }
 {
     let ran = recording.run_until(event.moment, 1);

@@ -6,8 +6,8 @@ ghost use Rattle.timed_simulation.specs.Due.{IsDue, NothingIsDue};
 ghost use Rattle.timed_simulation.specs.Events.{next_event};
 ghost use Rattle.timed_simulation.specs.Runs.{steps_of};
 ghost use Rattle.timed_reports.specs.Recordings.{timed_in};
-ghost use Rattle.timing.specs.Runs.{Comes};
-ghost use Rattle.timing.specs.Steps.{Came, IsDoneAt, RunsInSteps, done_of, moments_of};
+ghost use Rattle.timing.specs.Runs.{ComesNext};
+ghost use Rattle.timing.specs.Steps.{Came, IsDoneAt, RunsInSteps, done_of, event_moments};
 
 use crate::run::{do_event, give};
 use crate::times::Times;
@@ -85,9 +85,9 @@ fn do_next(
 ) -> Result<(), Fault>
     requires next { next_event (timed_in recording.old) ≡ Some event.now }
     requires due { IsDue (timed_in recording.old) event.now }
-    ensures { OnOk result ((c : Came) × Comes (timed_in recording.old) c.event (timed_in recording.new) c.refusal
+    ensures { OnOk result ((c : Came) × ComesNext (timed_in recording.old) c.event (timed_in recording.new) c.refusal
         × (steps.new.items ≡ steps.old.items ++ steps_of (done_of (c ∷ [])))
-        × (moments.new.items ≡ moments.old.items ++ moments_of (done_of (c ∷ [])))) }
+        × (moments.new.items ≡ moments.old.items ++ event_moments (done_of (c ∷ [])))) }
 {
     match do_event(recording, event)? {
         None => {

@@ -6,7 +6,7 @@ use Rattle.no_packet_loops.proofs.Runs.{reached}
 use Rattle.no_packet_loops.proofs.Walks.{leads_known}
 use Rattle.no_packet_loops.proofs.Wiring.{wired}
 use Rattle.no_packet_loops.proofs.WorldLaws.{Runs-shape}
-use Rattle.tracer.specs.Tracing.{LeadsToRouters}
+use Rattle.course.specs.Links.{LeadsToRouters}
 
 module _ (n : Network) (ss : List Step) (w : World) (runs : Runs (opening n) ss w) where
   -- entries lead to its routers

@@ -9,11 +9,10 @@ use Rattle.fabric.specs.Fabric.{Fabric, ForwardsAsPublished}
 use Rattle.fabric.specs.Headline.{image_row, image_hop, none_published, IsImageWalk, IsImageWay}
 use Rattle.no_packet_loops.specs.Packets.{TracesEnd}
 use Rattle.all_packets.specs.Packets.{IsWay}
-use Rattle.all_packets.specs.Through.{through_from, ThroughEnds}
-use Rattle.all_packets.specs.Through.{through as trace_through}
+use Rattle.all_packets.specs.Through.{through_from, ThroughEnds, through as trace_through}
 use Rattle.all_packets.proofs.Improving.{way_by}
-use Rattle.tracer.specs.Following.{FollowsEnd, followed, followed_from, kept_prefix}
-use Rattle.tracer.specs.Tracing.{LeadsToRouters}
+use Rattle.tracer.specs.Following.{FollowsEnd, followed_way, followed_from, kept_prefix}
+use Rattle.course.specs.Links.{LeadsToRouters}
 
 -- a trace with these routers passed before it
 abbrev pub behind : List ℕ → Trace → Trace
@@ -49,7 +48,7 @@ is_trace_from (suc n) w addr first i = by_onward (onward w addr first i) (is_tra
     by_onward (Ends end) rest = refl
     by_onward (Goes p k) rest = ap (after_router i) (rest (Some p) k)
 
-pub is_trace : (w : World) (i addr : ℕ) → followed false w i addr ≡ trace w i addr
+pub is_trace : (w : World) (i addr : ℕ) → followed_way false w i addr ≡ trace w i addr
 is_trace w i addr = is_trace_from (length w.routers) w addr None i
 
 -- and through, it is a trace through
@@ -61,14 +60,14 @@ is_through_from (suc n) w addr i = by_onward (onward w addr None i) (is_through_
     by_onward (Ends end) rest = refl
     by_onward (Goes p k) rest = ap (after_router i) (rest k)
 
-pub is_through : (w : World) (i addr : ℕ) → followed true w i addr ≡ trace_through w i addr
+pub is_through : (w : World) (i addr : ℕ) → followed_way true w i addr ≡ trace_through w i addr
 is_through w i addr = is_through_from (length w.routers) w addr i
 
 -- either ends, from a router of the world
 pub follows_end : (w : World) → TracesEnd w → ThroughEnds w → FollowsEnd w
 follows_end w traces through = record { ends = ends }
   where
-    ends : (b : Bool) (i addr : ℕ) → i < length w.routers → IsSome (followed b w i addr).end
+    ends : (b : Bool) (i addr : ℕ) → i < length w.routers → IsSome (followed_way b w i addr).end
     ends false i addr known = subst (λ (t : Trace). IsSome t.end) (sym (is_trace w i addr)) (traces.ends i addr known)
     ends true i addr known = ap is_some (ap (λ (t : Trace). t.end) (is_through w i addr) ∙ (through.ends i addr known).is)
 
@@ -124,15 +123,15 @@ module _ (f : Fabric) (forwards : ForwardsAsPublished f) (addr : ℕ) where
 
 module _ (w : World) (i addr : ℕ) where
   -- by one prefix: a way of a packet, and no router twice
-  pub traces_walk : (t : Traced) → trace_of t ≡ followed false w i addr → (p : Prefix) × IsPacketWalk w addr p t.path.items
+  pub traces_walk : (t : Traced) → trace_of t ≡ followed_way false w i addr → (p : Prefix) × IsPacketWalk w addr p t.path.items
   traces_walk t is =
       let W = trace_walk w addr (length w.routers) i in
       (W.0, subst (λ (x : Trace). IsPacketWalk w addr W.0 x.path) (sym (is ∙ is_trace w i addr)) W.1)
 
-  pub trace_twice : TracesEnd w → (t : Traced) → trace_of t ≡ followed false w i addr → meets_twice t.path.items ≡ false
+  pub trace_twice : TracesEnd w → (t : Traced) → trace_of t ≡ followed_way false w i addr → meets_twice t.path.items ≡ false
   trace_twice traces t is = ap (λ (x : Trace). meets_twice x.path) (is ∙ is_trace w i addr) ∙ traces.none_twice i addr
 
-  module _ (laws : ThroughEnds w) (t : Traced) (is : trace_of t ≡ followed true w i addr) where
+  module _ (laws : ThroughEnds w) (t : Traced) (is : trace_of t ≡ followed_way true w i addr) where
     -- through: a way of a packet, no router twice, and a real end
     pub through_way : IsWay w addr t.path.items
     through_way = subst (λ (x : Trace). IsWay w addr x.path) (sym (is ∙ is_through w i addr)) (laws.ways i addr)

@@ -4,8 +4,8 @@ use Rattle.tracer.specs.declared.fault.TraceFault.{TraceFault}
 use Rattle.tracer.specs.declared.fault.TraceFault.TheVariants.{UnknownRouter, NoMemory, Stale, NoImage}
 
 -- the refusal of a look-up that a fault of a trace passes on
-abbrev pub refusal_of : TraceFault → Refusal
-refusal_of UnknownRouter = Refusal.UnknownRouter
-refusal_of NoMemory = Refusal.NoMemory
-refusal_of Stale = Refusal.Stale
-refusal_of NoImage = Refusal.NoImage
+abbrev pub trace_refusal : TraceFault → Refusal
+trace_refusal UnknownRouter = Refusal.UnknownRouter
+trace_refusal NoMemory = Refusal.NoMemory
+trace_refusal Stale = Refusal.Stale
+trace_refusal NoImage = Refusal.NoImage

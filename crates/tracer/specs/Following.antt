@@ -15,9 +15,9 @@ followed_from through zero w addr first i = record { path = []; end = None }
 followed_from through (suc n) w addr first i = traced_by (λ p k. followed_from through n w addr (kept_prefix through p) k) i (onward w addr first i)
 
 -- the trace of a packet for an address from router i
-abbrev pub followed : Bool → World → ℕ → ℕ → Trace
-followed through w i addr = followed_from through (length w.routers) w addr None i
+abbrev pub followed_way : Bool → World → ℕ → ℕ → Trace
+followed_way through w i addr = followed_from through (length w.routers) w addr None i
 
 -- each trace from a router ends
 pub record FollowsEnd (w : World) : Type 0 where
-  pub ends : (through : Bool) (i addr : ℕ) → i < length w.routers → IsSome (followed through w i addr).end
+  pub ends : (through : Bool) (i addr : ℕ) → i < length w.routers → IsSome (followed_way through w i addr).end

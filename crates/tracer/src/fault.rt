@@ -1,7 +1,7 @@
 //! Why a packet is not traced.
 
 ghost use Rattle.std.specs.Prelude.{◌≡◌, ◌⊎◌};
-ghost use Rattle.tracer.specs.Faults.{refusal_of};
+ghost use Rattle.tracer.specs.Faults.{trace_refusal};
 ghost use Rattle.tracer.specs.declared.fault.TraceFault.TheVariants.{NoMemory as OutOfMemory};
 
 use faults::FaultKind;
@@ -26,7 +26,7 @@ pub enum TraceFault {
 impl From<TraceFault> for FaultKind {
     ghost use Rattle.network_model.specs.Kinds.{refusal_kind};
 
-    ghost from_gives = { λ fault k. k ≡ refusal_kind (refusal_of fault) };
+    ghost from_gives = { λ fault k. k ≡ refusal_kind (trace_refusal fault) };
 
     fn from(fault: TraceFault) -> FaultKind {
         FaultKind::from(Refusal::from(fault))
@@ -42,7 +42,7 @@ impl<T: Drop> From<AllocFailed<T>> for TraceFault {
 }
 
 impl From<TraceFault> for Refusal {
-    ghost from_gives = { λ fault e. e ≡ refusal_of fault };
+    ghost from_gives = { λ fault e. e ≡ trace_refusal fault };
 
     fn from(fault: TraceFault) -> Refusal {
         match fault {

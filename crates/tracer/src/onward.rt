@@ -2,7 +2,7 @@
 
 ghost use Rattle.std.specs.Prelude.{◌≡◌, ◌⊎◌, ◌<◌, length, IfOk, IfErr};
 ghost use Rattle.network_model.specs.Forwarding.{by_row, onward};
-ghost use Rattle.tracer.specs.Tracing.{onward_of};
+ghost use Rattle.tracer.specs.Tracing.{traced_onward};
 
 use crate::fault::{TraceFault, lookup_fault};
 use fabric::{Fabric, FabricName};
@@ -24,7 +24,7 @@ fn by_row(
     first: Option<Prefix>,
     matched: Option<(Prefix, Entry)>,
 ) -> Onward
-    ensures { onward_of result ≡ by_row world.now router first matched }
+    ensures { traced_onward result ≡ by_row world.now router first matched }
 {
     let Some((prefix, entry)) = matched else {
         return Onward::Ends(Ending::NoRoute);
@@ -50,7 +50,7 @@ pub fn ask<B: FabricName>(
     router: u16,
 ) -> Result<Onward, TraceFault>
     requires known { router < length (fabric.old).world.routers }
-    ensures ok { IfOk result (λ o. onward_of o ≡ onward (fabric.old).world addr first router) }
+    ensures ok { IfOk result (λ o. traced_onward o ≡ onward (fabric.old).world addr first router) }
     ensures err { IfErr result (λ e. (e ≡ TraceFault.Stale) ⊎ (e ≡ TraceFault.NoImage)) }
     ensures same { fabric.new ≡ fabric.old }
 {

@@ -9,8 +9,8 @@ ghost use Rattle.all_packets.specs.Packets.{IsWay};
 ghost use Rattle.all_packets.specs.Through.{ThroughEnds, through as trace_through};
 ghost use Rattle.loop_freedom.specs.Network.{meets_twice};
 ghost use Rattle.no_packet_loops.specs.Packets.{TracesEnd};
-ghost use Rattle.tracer.specs.Following.{FollowsEnd, followed, kept_prefix};
-ghost use Rattle.tracer.specs.Tracing.{LeadsToRouters};
+ghost use Rattle.tracer.specs.Following.{FollowsEnd, followed_way, kept_prefix};
+ghost use Rattle.course.specs.Links.{LeadsToRouters};
 
 use crate::fault::TraceFault;
 use crate::onward::{Onward, ask};
@@ -104,7 +104,7 @@ fn follow<B: FabricName>(
     through: bool,
 ) -> Result<Trace, TraceFault>
     ensures ok { IfOk result (λ t. (router < length (fabric.old).world.routers)
-        × (model.trace_of t ≡ followed through (fabric.old).world router addr)) }
+        × (model.trace_of t ≡ followed_way through (fabric.old).world router addr)) }
     ensures few { IfOk result (λ t. vec_len t.path ≤ length (fabric.old).world.routers) }
     ensures unknown { length (fabric.old).world.routers ≤ router → result
         ≡ Err TraceFault.UnknownRouter }

@@ -1,27 +1,22 @@
 -- What the calls of a tree leave, as its code computes it.
-use Rattle.std.proofs.Common.{ℕ, suc, ◌≡◌, ◌≢◌, ⊎_elim, ◌+◌, ◌*◌, ◌^◌, ◌<◌, ◌≤◌, Option, Some, true, is_some, count_ones, arith, refl, sym, ap, subst, ◌∙◌, Result, Ok, Err, OnErr}
+use Rattle.std.proofs.Common.{ℕ, suc, ◌≡◌, ◌≢◌, ◌+◌, ◌*◌, ◌^◌, ◌<◌, ◌≤◌, Option, Some, true, is_some, count_ones, arith, refl, sym, ap, subst, ◌∙◌}
 use Rattle.std.specs.Int.{bit_at}
 use Rattle.std.proofs.lemmas.Nat.{ones-le}
-use Rattle.std.proofs.lemmas.Nat.Bits.{bit_at-lt}
-use Rattle.std.proofs.lemmas.Bool.{cases_order}
 use mathlib.Core.Path.{fun_ext}
-use Rattle.node_pool.specs.Pool.{IsGrown, IsWritten}
-use Rattle.tree_bitmap.specs.Bits.{rank, nibble, path_start, internal_bit}
-use Rattle.tree_bitmap.specs.Tree.{blank, node_at, row_at, IsLaidOut, SetsRow, with_child, with_result, IsChild, IsResult}
+use Rattle.node_pool.specs.Pool.{IsGrown, IsCellWritten}
+use Rattle.bitmaps.specs.Bits.{rank}
+use Rattle.bitmaps.proofs.HighestBit.{clear_bit}
+use Rattle.tree_bitmap.specs.Bits.{nibble, path_top, internal_bit}
+use Rattle.tree_bitmap.specs.Tree.{blank, path_node, path_entry, IsLaidOut, SetsRow, with_child, with_result, IsChild, IsResult}
 use Rattle.tree_bitmap.specs.declared.node.Node.{Node}
 use Rattle.network_model.specs.declared.route.Entry.{Entry}
-use Rattle.tree_bitmap.proofs.Ranks.{ones-add, add_lt, bit_at-add_same, rank-add_below}
-use Rattle.tree_bitmap.proofs.Paths.{child_in_block, Some_same, ones_of_zero, step_yes, result_in_block}
+use Rattle.bitmaps.proofs.Ranks.{ones-add, add_lt, bit_at-add_same, rank-add_below, ones_of_zero}
+use Rattle.bitmaps.proofs.Options.{Some_same}
+use Rattle.tree_bitmap.proofs.Paths.{child_in_block, step_yes, result_in_block}
 use Rattle.tree_bitmap.proofs.NewChild.{gap_cell, new_child}
 use Rattle.tree_bitmap.proofs.MovedChildren.{MovesChildren, moved_sound, moved_rows, index_on}
 use Rattle.tree_bitmap.proofs.MovedResults.{SetsBit}
 use Rattle.tree_bitmap.proofs.NewResult.{row_hit, row_miss, replace_sets, replace_sound, insert_sets, insert_sound}
-
--- a bit that is not set is 0
-pub clear_bit : (n k : ℕ) → bit_at n k ≢ 1 → bit_at n k ≡ 0
-clear_bit n k h =
-    let l : bit_at n k < 2 = bit_at-lt n k in
-    ⊎_elim (λ e. absurd (h e)) (λ e. omega arith) (cases_order (bit_at n k) 1)
 
 -- where there is room for one bit more, at most 15 are set
 pub few_from : (n k m : ℕ) → m < 2 ^ 16 → m ≡ n + 2 ^ k → bit_at n k ≢ 1 → count_ones n ≤ 15
@@ -34,7 +29,7 @@ few_results n k l b h = omega (arith, ones-le 15 (n + 2 ^ k) (add_lt n k 15 l b 
 -- the same rows before the change
 pub sets_from : (f g h : ℕ → ℕ → Option Entry) (path len len' : ℕ) (entry : Option Entry) → ((q m : ℕ) → g q m ≡ f q m) → len' ≡ len → SetsRow g h path len' entry → SetsRow f h path len entry
 sets_from f g h path len len' entry same e w = record {
-  hit = λ q p. subst (λ m. path_start q m ≡ path_start path m → h q m ≡ entry) e (w.hit q) p;
+  hit = λ q p. subst (λ m. path_top q m ≡ path_top path m → h q m ≡ entry) e (w.hit q) p;
   miss = λ q m l b out. w.miss q m l b (λ x. out (x ∙ e)) ∙ same q m;
 }
 
@@ -46,18 +41,13 @@ blank_count o a e f = ap (λ x. count_ones x.external) (Some_same o a blank e f)
 pub same_sound : (N N' : ℕ → Option Node) (G G' : ℕ → Option Entry) → ((k : ℕ) → N' k ≡ N k) → ((k : ℕ) → G' k ≡ G k) → IsLaidOut N G → IsLaidOut N' G'
 same_sound N N' G G' e f s = subst (λ n. IsLaidOut n G') (fun_ext (λ k. sym (e k))) (subst (λ g. IsLaidOut N g) (fun_ext (λ k. sym (f k))) s)
 
--- what holds holds on a refusal
-pub on_err_from : {T E P : Type 0} (r : Result T E) → P → OnErr r P
-on_err_from (Ok x) p = tt
-on_err_from (Err e) p = p
-
 -- where the child of the node on a path stands
-pub child_place_after : (N : ℕ → Option Node) (path depth index : ℕ) (a : Node) (four below : ℕ) → node_at N path depth ≡ Some index → N index ≡ Some a
-    → four ≡ nibble path depth → below ≡ rank a.external four → bit_at a.external four ≡ 1 → node_at N path (depth + 1) ≡ Some (a.child_base + below)
+pub child_place_after : (N : ℕ → Option Node) (path depth index : ℕ) (a : Node) (four below : ℕ) → path_node N path depth ≡ Some index → N index ≡ Some a
+    → four ≡ nibble path depth → below ≡ rank a.external four → bit_at a.external four ≡ 1 → path_node N path (depth + 1) ≡ Some (a.child_base + below)
 child_place_after N path depth index a four below at here f b has =
     let d : suc depth ≡ depth + 1 = omega arith in
     let h : bit_at a.external (nibble path depth) ≡ 1 = subst (λ k. bit_at a.external k ≡ 1) f has in
-    ap (node_at N path) (sym d) ∙ step_yes N path depth index a at here h
+    ap (path_node N path) (sym d) ∙ step_yes N path depth index a at here h
     ∙ ap (λ r. Some (a.child_base + r)) (ap (rank a.external) (sym f) ∙ sym b)
 
 -- the child of a node is in use
@@ -77,11 +67,11 @@ pub same_cells : {T : Type 0} (f g : ℕ → Option T) → ((k : ℕ) → g k �
 same_cells f g h = fun_ext h
 
 module _ (N M N' : ℕ → Option Node) (G : ℕ → Option Entry) (index path depth : ℕ) (a : Node) (four below size external base : ℕ)
-    (sound : IsLaidOut N G) (at : node_at N path depth ≡ Some index) (here : N index ≡ Some a)
+    (sound : IsLaidOut N G) (at : path_node N path depth ≡ Some index) (here : N index ≡ Some a)
     (f : four ≡ nibble path depth) (b : below ≡ rank a.external four) (s : size ≡ count_ones a.external) (x : external ≡ a.external + 2 ^ four)
     (unset : bit_at a.external four ≢ 1)
     (grown : IsGrown N M a.child_base size below blank base)
-    (written : IsWritten M N' index (record { internal = a.internal; external = external; child_base = base; result_base = a.result_base })) where
+    (written : IsCellWritten M N' index (record { internal = a.internal; external = external; child_base = base; result_base = a.result_base })) where
   -- the bit is clear
   clear : bit_at a.external four ≡ 0
   clear = clear_bit a.external four unset
@@ -91,8 +81,8 @@ module _ (N M N' : ℕ → Option Node) (G : ℕ → Option Entry) (index path d
   grown' = subst (λ r. IsGrown N M a.child_base (count_ones a.external) r blank base) b (subst (λ n. IsGrown N M a.child_base n below blank base) s grown)
 
   -- the node has the child more
-  written' : IsWritten M N' index (with_child a four base)
-  written' = subst (λ e. IsWritten M N' index (record { internal = a.internal; external = e; child_base = base; result_base = a.result_base })) x written
+  written' : IsCellWritten M N' index (with_child a four base)
+  written' = subst (λ e. IsCellWritten M N' index (record { internal = a.internal; external = e; child_base = base; result_base = a.result_base })) x written
 
   -- the children have moved
   moved : MovesChildren N N' index a (with_child a four base)
@@ -103,7 +93,7 @@ module _ (N M N' : ℕ → Option Node) (G : ℕ → Option Entry) (index path d
   made_sound = moved_sound N N' G index (a.external + 2 ^ four) base a sound moved
 
   -- no row has changed
-  pub made_rows : (q m : ℕ) → row_at N' G q m ≡ row_at N G q m
+  pub made_rows : (q m : ℕ) → path_entry N' G q m ≡ path_entry N G q m
   made_rows = moved_rows N N' G index (a.external + 2 ^ four) base a sound moved
 
   -- the new child is blank
@@ -111,7 +101,7 @@ module _ (N M N' : ℕ → Option Node) (G : ℕ → Option Entry) (index path d
   made_blank = ap (λ r. N' (base + r)) b ∙ gap_cell N M N' G index four base a sound here clear grown' written'
 
   -- the new child stands on the path
-  pub made_place : node_at N' path (depth + 1) ≡ Some (base + below)
+  pub made_place : path_node N' path (depth + 1) ≡ Some (base + below)
   made_place =
       let has : bit_at (a.external + 2 ^ four) four ≡ 1 = bit_at-add_same a.external four clear in
       child_place_after N' path depth index (with_child a four base) four below (index_on N N' G index (a.external + 2 ^ four) base a sound moved path depth at) written'.here f
@@ -119,8 +109,8 @@ module _ (N M N' : ℕ → Option Node) (G : ℕ → Option Entry) (index path d
 
 -- what a change of one bit of the node of a path makes of the rows
 pub sets_row : (N N' : ℕ → Option Node) (G G' : ℕ → Option Entry) (index bit : ℕ) (entry : Option Entry) (a a' : Node) (path depth len : ℕ)
-    → IsLaidOut N G → depth ≤ 8 → len < 4 → path < 2 ^ 36 → node_at N path depth ≡ Some index → bit ≡ internal_bit (nibble path depth) len
-    → SetsBit N N' G G' index bit entry a a' → SetsRow (row_at N G) (row_at N' G') path (4 * depth + len) entry
+    → IsLaidOut N G → depth ≤ 8 → len < 4 → path < 2 ^ 36 → path_node N path depth ≡ Some index → bit ≡ internal_bit (nibble path depth) len
+    → SetsBit N N' G G' index bit entry a a' → SetsRow (path_entry N G) (path_entry N' G') path (4 * depth + len) entry
 sets_row N N' G G' index bit entry a a' path depth len sound deep short p at b sets =
     let sets' = subst (λ k. SetsBit N N' G G' index k entry a a') b sets in
     record {
@@ -133,7 +123,7 @@ module _ (N N' : ℕ → Option Node) (G G' : ℕ → Option Entry) (index bit :
     (b : below ≡ rank a.internal bit) (s : size ≡ count_ones a.internal) (x : internal ≡ a.internal + 2 ^ bit)
     (unset : bit_at a.internal bit ≢ 1)
     (grown : IsGrown G G' a.result_base size below entry base)
-    (written : IsWritten N N' index (record { internal = internal; external = a.external; child_base = a.child_base; result_base = base })) where
+    (written : IsCellWritten N N' index (record { internal = internal; external = a.external; child_base = a.child_base; result_base = base })) where
   -- the bit is clear
   clear' : bit_at a.internal bit ≡ 0
   clear' = clear_bit a.internal bit unset
@@ -143,8 +133,8 @@ module _ (N N' : ℕ → Option Node) (G G' : ℕ → Option Entry) (index bit :
   grown'' = subst (λ r. IsGrown G G' a.result_base (count_ones a.internal) r entry base) b (subst (λ n. IsGrown G G' a.result_base n below entry base) s grown)
 
   -- the node has the result more
-  written'' : IsWritten N N' index (with_result a bit base)
-  written'' = subst (λ e. IsWritten N N' index (record { internal = e; external = a.external; child_base = a.child_base; result_base = base })) x written
+  written'' : IsCellWritten N N' index (with_result a bit base)
+  written'' = subst (λ e. IsCellWritten N N' index (record { internal = e; external = a.external; child_base = a.child_base; result_base = base })) x written
 
   -- the tree is sound with the new result
   pub put_sound : bit < 15 → IsLaidOut N' G'
@@ -157,13 +147,13 @@ module _ (N N' : ℕ → Option Node) (G G' : ℕ → Option Entry) (index bit :
 module _ (N : ℕ → Option Node) (G G' : ℕ → Option Entry) (index bit : ℕ) (entry : Entry) (a : Node) (below : ℕ)
     (sound : IsLaidOut N G) (here : N index ≡ Some a) (b : below ≡ rank a.internal bit) (has : bit_at a.internal bit ≡ 1) where
   -- its cell is written
-  written_over : IsWritten G G' (a.result_base + below) entry → IsWritten G G' (a.result_base + rank a.internal bit) entry
-  written_over w = subst (λ r. IsWritten G G' (a.result_base + r) entry) b w
+  written_over : IsCellWritten G G' (a.result_base + below) entry → IsCellWritten G G' (a.result_base + rank a.internal bit) entry
+  written_over w = subst (λ r. IsCellWritten G G' (a.result_base + r) entry) b w
 
   -- the tree is sound with the other result
-  pub over_sound : IsWritten G G' (a.result_base + below) entry → IsLaidOut N G'
+  pub over_sound : IsCellWritten G G' (a.result_base + below) entry → IsLaidOut N G'
   over_sound w = replace_sound N G G' index bit entry a sound here has (written_over w)
 
   -- the result is set, and nothing else
-  pub over_sets : IsWritten G G' (a.result_base + below) entry → SetsBit N N G G' index bit (Some entry) a a
+  pub over_sets : IsCellWritten G G' (a.result_base + below) entry → SetsBit N N G G' index bit (Some entry) a a
   over_sets w = replace_sets N G G' index bit entry a sound here has (written_over w)

@@ -1,36 +1,17 @@
 -- The longest prefix of an address that ends in a node.
-use Rattle.std.proofs.Common.{ℕ, zero, suc, ◌≡◌, ◌⊎◌, inl, inr, ⊎_elim, ◌↔◌, ◌+◌, ◌-◌, ◌*◌, ◌/◌, ◌%◌, ◌^◌, ◌<◌, ◌≤◌, min, max, bit_and, bit_or, [], ◌∷◌, slice_index_or, Bool, true, ◌==◌, ◌&&◌, Option, Some, None, arith, refl, sym, ap, subst, ◌∙◌}
+use Rattle.std.proofs.Common.{ℕ, zero, suc, ◌≡◌, ◌⊎◌, inl, inr, ⊎_elim, ◌↔◌, ◌+◌, ◌/◌, ◌^◌, ◌<◌, ◌≤◌, max, bit_and, bit_or, [], ◌∷◌, slice_index_or, Bool, true, ◌==◌, ◌&&◌, Option, Some, None, arith, refl, sym, ap, ◌∙◌}
 use Rattle.std.specs.Int.{bit_at}
-use Rattle.std.specs.Int.Count.{count_leading_zeros}
 use Rattle.std.proofs.lemmas.Bool.{cases_eq, lt-ltb, le-ltb, and_parts, eqb-true}
-use Rattle.std.proofs.lemmas.Nat.{leading_top, pow-add, shr_high}
-use Rattle.std.proofs.lemmas.Nat.Bits.{bit_at-zero, bit_at-lt, bit_at_and, bit_at_or, bit_at_above, bit_at-pow_same, bit_at-pow_other}
-use Rattle.tree_bitmap.specs.Greatest.{GreatestBelow}
-use Rattle.tree_bitmap.specs.Bits.{internal_bit, length_of, IsHighest, width}
+use Rattle.std.proofs.lemmas.Nat.Bits.{bit_at-zero, bit_at-lt, bit_at_and, bit_at_or, bit_at-pow_same, bit_at-pow_other}
+use Rattle.bitmaps.specs.Greatest.{GreatestBelow}
+use Rattle.bitmaps.specs.Bits.{IsHighest}
+use Rattle.bitmaps.proofs.HighestBit.{both_bits}
+use Rattle.tree_bitmap.specs.Bits.{internal_bit, length_of, lengths_within}
 use Rattle.tree_bitmap.specs.Hit.{bit_place}
 use Rattle.tree_bitmap.specs.Tree.{result_place}
 use Rattle.tree_bitmap.specs.declared.node.Node.{Node}
 use Rattle.tree_bitmap.proofs.FirstBits.{internal_bit_small}
 use Rattle.tree_bitmap.proofs.Paths.{place-set, place-clear}
-
--- ---- the greatest bit
-
--- a number from 2 ^ j up to 2 ^ (j + 1) has bit j
-top_bit : (a j : ℕ) → 2 ^ j ≤ a → a < 2 ^ suc j → bit_at a j ≡ 1
-top_bit a j low high =
-    let next : suc j ≡ 1 + j = omega arith in
-    let two : 2 ^ suc j ≡ 2 ^ 1 * 2 ^ j = ap (λ m. 2 ^ m) next ∙ pow-add 2 1 j in
-    let rest : a - 2 ^ j < 2 ^ j = omega (arith, high, two) in
-    let whole : 1 * 2 ^ j + (a - 2 ^ j) ≡ a = omega (arith, low) in
-    ap (λ m. m % 2) (ap (λ m. m / 2 ^ j) (sym whole) ∙ shr_high 1 j (a - 2 ^ j) rest)
-
--- the greatest bit of a number of 16 bits, by its leading zeros
-pub highest_bit : (a : ℕ) → 0 < a → a < 2 ^ 16 → IsHighest a (Some (15 - count_leading_zeros 16 a))
-highest_bit a some small =
-    let top = leading_top 16 a some small in
-    let j = top.0 in
-    let at : j ≡ 15 - count_leading_zeros 16 a = omega (arith, top.1) in
-    subst (λ bit. IsHighest a (Some bit)) at (omega (arith, top.1), top_bit a j top.2 top.3, λ k l. bit_at_above a (suc j) k top.3 (omega (arith, l)))
 
 -- ---- bits of covering prefixes
 
@@ -87,16 +68,16 @@ four_bits_has a b c k is = by_case is
 
 -- the internal bits that four bits of an address begin with are these four
 pub covers_four : (four depth k : ℕ) → four < 16 → depth < 8
-    → bit_at (four_bits (1 + four / 2 ^ 3) (3 + four / 2 ^ 2) (7 + four / 2 ^ 1)) k ≡ 1 ↔ ((len : ℕ) × (len < width depth) × (k ≡ internal_bit four len))
+    → bit_at (four_bits (1 + four / 2 ^ 3) (3 + four / 2 ^ 2) (7 + four / 2 ^ 1)) k ≡ 1 ↔ ((len : ℕ) × (len < lengths_within depth) × (k ≡ internal_bit four len))
 covers_four four depth k small deep = (λ h. to (four_bits_set (1 + four / 2 ^ 3) (3 + four / 2 ^ 2) (7 + four / 2 ^ 1) k h), λ h. four_bits_has (1 + four / 2 ^ 3) (3 + four / 2 ^ 2) (7 + four / 2 ^ 1) k (from h.0 h.1 h.2))
   where
-    to : (k ≡ 0) ⊎ ((k ≡ 1 + four / 2 ^ 3) ⊎ ((k ≡ 3 + four / 2 ^ 2) ⊎ (k ≡ 7 + four / 2 ^ 1))) → (len : ℕ) × (len < width depth) × (k ≡ internal_bit four len)
+    to : (k ≡ 0) ⊎ ((k ≡ 1 + four / 2 ^ 3) ⊎ ((k ≡ 3 + four / 2 ^ 2) ⊎ (k ≡ 7 + four / 2 ^ 1))) → (len : ℕ) × (len < lengths_within depth) × (k ≡ internal_bit four len)
     to (inl e) = (0, omega arith, omega arith)
     to (inr (inl e)) = (1, omega arith, omega arith)
     to (inr (inr (inl e))) = (2, omega arith, omega arith)
     to (inr (inr (inr e))) = (3, omega arith, omega arith)
 
-    from : (len : ℕ) → len < width depth → k ≡ internal_bit four len → (k ≡ 0) ⊎ ((k ≡ 1 + four / 2 ^ 3) ⊎ ((k ≡ 3 + four / 2 ^ 2) ⊎ (k ≡ 7 + four / 2 ^ 1)))
+    from : (len : ℕ) → len < lengths_within depth → k ≡ internal_bit four len → (k ≡ 0) ⊎ ((k ≡ 1 + four / 2 ^ 3) ⊎ ((k ≡ 3 + four / 2 ^ 2) ⊎ (k ≡ 7 + four / 2 ^ 1)))
     from zero l e = inl (omega arith)
     from (suc zero) l e = inr (inl (omega arith))
     from (suc (suc zero)) l e = inr (inr (inl (omega arith)))
@@ -124,14 +105,14 @@ pub table_entry : (four : ℕ) → four < 16 → table four ≡ computed four
 table_entry = agree_at 16 refl
 
 -- at depth 8 it is the first alone
-pub covers_one : (four k : ℕ) → four < 16 → bit_at 1 k ≡ 1 ↔ ((len : ℕ) × (len < width 8) × (k ≡ internal_bit four len))
+pub covers_one : (four k : ℕ) → four < 16 → bit_at 1 k ≡ 1 ↔ ((len : ℕ) × (len < lengths_within 8) × (k ≡ internal_bit four len))
 covers_one four k small = (to (one_bit 0 k), λ h. from h.0 h.1 h.2)
   where
-    to : ((k ≡ 0) × (bit_at (2 ^ 0) k ≡ 1)) ⊎ ((k ≡ 0 → ⊥) × (bit_at (2 ^ 0) k ≡ 0)) → bit_at 1 k ≡ 1 → (len : ℕ) × (len < width 8) × (k ≡ internal_bit four len)
+    to : ((k ≡ 0) × (bit_at (2 ^ 0) k ≡ 1)) ⊎ ((k ≡ 0 → ⊥) × (bit_at (2 ^ 0) k ≡ 0)) → bit_at 1 k ≡ 1 → (len : ℕ) × (len < lengths_within 8) × (k ≡ internal_bit four len)
     to (inl x) h = (0, omega arith, omega (arith, x.0))
     to (inr x) h = absurd (let z : bit_at 1 k ≡ 0 = x.1 in omega (arith, z, h))
 
-    from : (len : ℕ) → len < width 8 → k ≡ internal_bit four len → bit_at 1 k ≡ 1
+    from : (len : ℕ) → len < lengths_within 8 → k ≡ internal_bit four len → bit_at 1 k ≡ 1
     from zero l e = let z : k ≡ 0 = omega arith in ap (bit_at 1) z ∙ bit_at-pow_same 0
     from (suc n) l e = absurd (omega arith)
 
@@ -162,22 +143,14 @@ longer_is_greater four l (suc (suc (suc (suc n)))) h a b = absurd (omega arith)
 
 -- ---- the longest prefix in a node
 
--- a bit of both bitmaps is one of either
-pub both_bits : (m n k : ℕ) → bit_at (bit_and m n) k ≡ 1 → (bit_at m k ≡ 1) × (bit_at n k ≡ 1)
-both_bits m n k h =
-    let both : bit_at (bit_and m n) k ≡ min (bit_at m k) (bit_at n k) = bit_at_and m n k in
-    let a : bit_at m k < 2 = bit_at-lt m k in
-    let b : bit_at n k < 2 = bit_at-lt n k in
-    (omega (arith, both, h, a), omega (arith, both, h, b))
-
 module _ (a : Node) (four depth cover : ℕ) (small : four < 16)
-    (covered : (k : ℕ) → k < 16 → bit_at cover k ≡ 1 ↔ ((len : ℕ) × (len < width depth) × (k ≡ internal_bit four len))) where
+    (covered : (k : ℕ) → k < 16 → bit_at cover k ≡ 1 ↔ ((len : ℕ) × (len < lengths_within depth) × (k ≡ internal_bit four len))) where
   -- at most four lengths end in a node
-  few : width depth ≤ 4
+  few : lengths_within depth ≤ 4
   few = omega arith
 
   -- a covering prefix has its result where its bit is one of those masked
-  masked : (len : ℕ) → len < width depth → bit_at a.internal (internal_bit four len) ≡ 1 → bit_at (bit_and a.internal cover) (internal_bit four len) ≡ 1
+  masked : (len : ℕ) → len < lengths_within depth → bit_at a.internal (internal_bit four len) ≡ 1 → bit_at (bit_and a.internal cover) (internal_bit four len) ≡ 1
   masked len l h =
       let k = internal_bit four len in
       let bound : k < 15 = internal_bit_small four len small (omega (arith, l, few)) in
@@ -185,15 +158,15 @@ module _ (a : Node) (four depth cover : ℕ) (small : four < 16)
       omega (arith, bit_at_and a.internal cover k, h, c)
 
   -- where no masked bit is set, no prefix of the address ends in the node
-  none_in : IsHighest (bit_and a.internal cover) None → GreatestBelow (λ len. result_place (internal_bit four len) (Some a)) (width depth) None
+  none_in : IsHighest 16 (bit_and a.internal cover) None → GreatestBelow (λ len. result_place (internal_bit four len) (Some a)) (lengths_within depth) None
   none_in z len l = place-clear (internal_bit four len) a (λ h.
       let one : bit_at (bit_and a.internal cover) (internal_bit four len) ≡ 1 = masked len l h in
       let none : bit_at (bit_and a.internal cover) (internal_bit four len) ≡ 0 = ap (λ m. bit_at m (internal_bit four len)) z ∙ bit_at-zero (internal_bit four len) in
       omega (arith, one, none))
 
   -- else the greatest is that of the longest
-  some_in : (bit : ℕ) → IsHighest (bit_and a.internal cover) (Some bit)
-      → GreatestBelow (λ len. result_place (internal_bit four len) (Some a)) (width depth) (bit_place a (Some bit))
+  some_in : (bit : ℕ) → IsHighest 16 (bit_and a.internal cover) (Some bit)
+      → GreatestBelow (λ len. result_place (internal_bit four len) (Some a)) (lengths_within depth) (bit_place a (Some bit))
   some_in bit top =
       let both = both_bits a.internal cover bit top.1 in
       let at = (covered bit top.0).0 both.1 in
@@ -209,6 +182,6 @@ module _ (a : Node) (four depth cover : ℕ) (small : four < 16)
       )
 
   -- so it is the longest, if there is one
-  pub longest_in : (bit : Option ℕ) → IsHighest (bit_and a.internal cover) bit → GreatestBelow (λ len. result_place (internal_bit four len) (Some a)) (width depth) (bit_place a bit)
+  pub longest_in : (bit : Option ℕ) → IsHighest 16 (bit_and a.internal cover) bit → GreatestBelow (λ len. result_place (internal_bit four len) (Some a)) (lengths_within depth) (bit_place a bit)
   longest_in None top = none_in top
   longest_in (Some bit) top = some_in bit top

@@ -4,21 +4,22 @@ use Rattle.std.specs.Int.{bit_at}
 use Rattle.std.proofs.lemmas.Bool.{true≢false, false≢true, eqb-true}
 use Rattle.std.proofs.lemmas.Nat.Bits.{bit_at-zero}
 use Rattle.node_pool.specs.Pool.{cell}
-use Rattle.tree_bitmap.specs.Bits.{nibble, internal_bit, width}
+use Rattle.tree_bitmap.specs.Bits.{nibble, internal_bit, lengths_within}
 use Rattle.tree_bitmap.specs.Hit.{bit_place, hit_place}
-use Rattle.tree_bitmap.specs.Lane.{IsLane, IsBest, root_lane, longer_hit}
-use Rattle.tree_bitmap.specs.Tree.{node_at}
+use Rattle.tree_bitmap.specs.Lane.{IsReadTo, IsBest, root_lane, longer_hit}
+use Rattle.tree_bitmap.specs.Tree.{path_node}
 use Rattle.tree_bitmap.specs.declared.tree.Tree.{Tree}
 use Rattle.tree_bitmap.specs.declared.node.Node.{Node}
 use Rattle.tree_bitmap.specs.declared.lanes.Hit.{Hit}
 use Rattle.tree_bitmap.specs.declared.lanes.Lane.{Lane}
 use Rattle.tree_bitmap.proofs.Covering.{longest_in}
 use Rattle.tree_bitmap.proofs.LongestRow.{best_after, best_last}
-use Rattle.tree_bitmap.proofs.Paths.{root_at, none≢some}
+use Rattle.bitmaps.proofs.Options.{none≢some}
+use Rattle.tree_bitmap.proofs.Paths.{root_at}
 
 module _ {A : Type 0} (tree : Tree A) where
   -- after nine levels the longest row is found
-  pub lane_best : (lane : Lane) → IsLane tree 9 lane → IsBest tree (lane.addr * 16) 33 lane.hit
+  pub lane_best : (lane : Lane) → IsReadTo tree 9 lane → IsBest tree (lane.addr * 16) 33 lane.hit
   lane_best lane l = either_way lane.live l.best l.done
     where
       either_way : (b : Bool) → (b ≡ true → IsBest tree (lane.addr * 16) 33 lane.hit) → (b ≡ false → IsBest tree (lane.addr * 16) 33 lane.hit) → IsBest tree (lane.addr * 16) 33 lane.hit
@@ -26,7 +27,7 @@ module _ {A : Type 0} (tree : Tree A) where
       either_way false live dead = dead refl
 
   -- at the root no node has been read
-  pub root_is_lane : (addr : ℕ) → IsLane tree 0 (root_lane addr)
+  pub root_is_lane : (addr : ℕ) → IsReadTo tree 0 (root_lane addr)
   root_is_lane addr = record {
     at = λ e. root_at (cell tree.pool.nodes) (addr * 16);
     best = λ e. at_root;
@@ -39,8 +40,8 @@ module _ {A : Type 0} (tree : Tree A) where
 
   -- one node more is read
   pub hit_after : (path depth four j cover : ℕ) (a : Node) (above : Hit) → depth ≤ 8
-      → node_at (cell tree.pool.nodes) path depth ≡ Some j → cell tree.pool.nodes j ≡ Some a → four < 16 → four ≡ nibble path depth
-      → ((k : ℕ) → k < 16 → bit_at cover k ≡ 1 ↔ ((len : ℕ) × (len < width depth) × (k ≡ internal_bit four len)))
+      → path_node (cell tree.pool.nodes) path depth ≡ Some j → cell tree.pool.nodes j ≡ Some a → four < 16 → four ≡ nibble path depth
+      → ((k : ℕ) → k < 16 → bit_at cover k ≡ 1 ↔ ((len : ℕ) × (len < lengths_within depth) × (k ≡ internal_bit four len)))
       → IsBest tree path (min (4 * depth) 33) above
       → IsBest tree path (min (4 * (depth + 1)) 33) (longer_hit (bit_and a.internal cover) a depth above)
   hit_after path depth four j cover a above deep at here small f covered best = by_test (bit_and a.internal cover == 0) refl
@@ -64,7 +65,7 @@ module _ {A : Type 0} (tree : Tree A) where
               (longest_in a four depth cover small covered (Some bit) top) (λ none. absurd (none≢some _ _ none refl)) refl
 
   -- the last node is read
-  pub hit_last : (path depth four j : ℕ) (a : Node) (hit : Hit) → depth ≤ 8 → node_at (cell tree.pool.nodes) path depth ≡ Some j → cell tree.pool.nodes j ≡ Some a
+  pub hit_last : (path depth four j : ℕ) (a : Node) (hit : Hit) → depth ≤ 8 → path_node (cell tree.pool.nodes) path depth ≡ Some j → cell tree.pool.nodes j ≡ Some a
       → four ≡ nibble path depth → bit_at a.external four ≢ 1 → IsBest tree path (min (4 * (depth + 1)) 33) hit → IsBest tree path 33 hit
   hit_last path depth four j a hit deep at here f unset best = λ bit top.
       best_last (cell tree.pool.nodes) path depth four j a (hit_place hit bit) deep at here f unset (best bit top)

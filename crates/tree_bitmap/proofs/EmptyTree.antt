@@ -1,20 +1,21 @@
 -- The rows of a tree.
 use Rattle.std.proofs.Common.{ℕ, zero, suc, subst, ◌≡◌, ◌+◌, ◌-◌, ◌/◌, ◌<◌, Option, Some, None, arith, refl, sym, ap, ◌∙◌, ⊎_elim}
 use Rattle.std.proofs.lemmas.Bool.{cases_lt}
-use Rattle.tree_bitmap.specs.Tree.{blank, node_at, row_at, IsChild, IsResult, IsLaidOut}
+use Rattle.tree_bitmap.specs.Tree.{blank, path_node, path_entry, IsChild, IsResult, IsLaidOut}
 use Rattle.tree_bitmap.specs.declared.node.Node.{Node}
 use Rattle.network_model.specs.declared.route.Entry.{Entry}
-use Rattle.tree_bitmap.proofs.Paths.{is_some-from, none≢some, Some_same, empty_has_no_child, empty_has_no_result, root_at, blank_ends, entry-blank, row-some, row-none}
+use Rattle.bitmaps.proofs.Options.{none≢some, Some_same}
+use Rattle.tree_bitmap.proofs.Paths.{is_some-from, empty_has_no_child, empty_has_no_result, root_at, blank_ends, entry-blank, row-some, row-none}
 use Rattle.tree_bitmap.proofs.LongestRow.{gone}
 
 -- a tree whose root is blank has no rows
-pub empty_rows : (nodes : ℕ → Option Node) (results : ℕ → Option Entry) (q m : ℕ) → nodes 0 ≡ Some blank → row_at nodes results q m ≡ None
+pub empty_rows : (nodes : ℕ → Option Node) (results : ℕ → Option Entry) (q m : ℕ) → nodes 0 ≡ Some blank → path_entry nodes results q m ≡ None
 empty_rows nodes results q m e =
     ⊎_elim
     (λ l. let z : m / 4 - 1 + 1 ≡ m / 4 = omega arith in
-    row-none nodes results q m (ap (node_at nodes q) (sym z) ∙ gone nodes q 1 (m / 4 - 1) (blank_ends nodes q 0 0 (root_at nodes q) e)))
+    row-none nodes results q m (ap (path_node nodes q) (sym z) ∙ gone nodes q 1 (m / 4 - 1) (blank_ends nodes q 0 0 (root_at nodes q) e)))
     (λ l. let z : 0 ≡ m / 4 = omega arith in
-    row-some nodes results q m 0 blank (ap (node_at nodes q) (sym z) ∙ root_at nodes q) e ∙ entry-blank results _)
+    row-some nodes results q m 0 blank (ap (path_node nodes q) (sym z) ∙ root_at nodes q) e ∙ entry-blank results _)
     (cases_lt 0 (m / 4))
 
 module _ (nodes : ℕ → Option Node) (results : ℕ → Option Entry) (root : nodes 0 ≡ Some blank) (alone : (k : ℕ) → 0 < k → nodes k ≡ None) where

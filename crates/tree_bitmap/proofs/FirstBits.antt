@@ -2,10 +2,10 @@
 use Rattle.std.proofs.Common.{ℕ, zero, suc, ◌≡◌, ⊎_elim, ◌+◌, ◌-◌, ◌*◌, ◌/◌, ◌%◌, ◌^◌, ◌<◌, ◌≤◌, arith, sym, ap, subst, ◌∙◌}
 use Rattle.std.proofs.lemmas.Nat.{shr-shr, same_from_place}
 use Rattle.std.proofs.lemmas.Bool.{cases_lt}
-use Rattle.tree_bitmap.specs.Tree.{nibble, path_start, internal_bit}
+use Rattle.tree_bitmap.specs.Tree.{nibble, path_top, internal_bit}
 
 -- the first four times (depth + 1) bits are those before and the nibble
-pub top_step : (p depth : ℕ) → depth ≤ 8 → path_start p (4 * (depth + 1)) ≡ path_start p (4 * depth) * 16 + nibble p depth
+pub top_step : (p depth : ℕ) → depth ≤ 8 → path_top p (4 * (depth + 1)) ≡ path_top p (4 * depth) * 16 + nibble p depth
 top_step p depth h =
     let e : 36 - 4 * (depth + 1) ≡ 32 - 4 * depth = omega arith in
     let f : 32 - 4 * depth + 4 ≡ 36 - 4 * depth = omega arith in
@@ -22,7 +22,7 @@ sixteenths x (suc (suc (suc (suc n)))) h = absurd (omega arith)
 
 -- the first bits of a path within a node: those above it, and the first of the four bits there
 pub path_start_in : (p depth len : ℕ) → depth ≤ 8 → len < 4
-    → path_start p (4 * depth + len) ≡ path_start p (4 * depth) * 2 ^ len + nibble p depth / 2 ^ (4 - len)
+    → path_top p (4 * depth + len) ≡ path_top p (4 * depth) * 2 ^ len + nibble p depth / 2 ^ (4 - len)
 path_start_in p depth len h l =
     let e : 32 - 4 * depth + (4 - len) ≡ 36 - (4 * depth + len) = omega arith in
     let f : 32 - 4 * depth + 4 ≡ 36 - 4 * depth = omega arith in
@@ -33,29 +33,29 @@ path_start_in p depth len h l =
 
 -- paths with the same first nibbles have the same first bits, and the other way round
 pub top_from_nibbles : (p q depth : ℕ) → p < 2 ^ 36 → q < 2 ^ 36 → depth ≤ 9 → ((k : ℕ) → k < depth → nibble p k ≡ nibble q k)
-    → path_start p (4 * depth) ≡ path_start q (4 * depth)
+    → path_top p (4 * depth) ≡ path_top q (4 * depth)
 top_from_nibbles p q zero a b h same = omega arith
 top_from_nibbles p q (suc depth) a b h same =
     let e : suc depth ≡ depth + 1 = omega arith in
     let before = top_from_nibbles p q depth a b (omega arith) (λ k l. same k (omega arith)) in
-    ap (λ d. path_start p (4 * d)) e ∙ top_step p depth (omega arith)
+    ap (λ d. path_top p (4 * d)) e ∙ top_step p depth (omega arith)
     ∙ (let n = same depth (omega arith) in omega (arith, before, n))
-    ∙ sym (ap (λ d. path_start q (4 * d)) e ∙ top_step q depth (omega arith))
+    ∙ sym (ap (λ d. path_top q (4 * d)) e ∙ top_step q depth (omega arith))
 
 -- paths with the same first bits have the same bits above, and the same four bits
-top_before : (p q depth : ℕ) → depth ≤ 8 → path_start p (4 * (depth + 1)) ≡ path_start q (4 * (depth + 1))
-    → (path_start p (4 * depth) ≡ path_start q (4 * depth)) × (nibble p depth ≡ nibble q depth)
+top_before : (p q depth : ℕ) → depth ≤ 8 → path_top p (4 * (depth + 1)) ≡ path_top q (4 * (depth + 1))
+    → (path_top p (4 * depth) ≡ path_top q (4 * depth)) × (nibble p depth ≡ nibble q depth)
 top_before p q depth h e =
     let s = top_step p depth h in
     let t = top_step q depth h in
     (omega (arith, s, t, e), omega (arith, s, t, e))
 
 -- paths with the same first bits have the same four bits at each depth above
-pub nibbles_from_top : (p q depth : ℕ) → depth ≤ 9 → path_start p (4 * depth) ≡ path_start q (4 * depth) → (k : ℕ) → k < depth → nibble p k ≡ nibble q k
+pub nibbles_from_top : (p q depth : ℕ) → depth ≤ 9 → path_top p (4 * depth) ≡ path_top q (4 * depth) → (k : ℕ) → k < depth → nibble p k ≡ nibble q k
 nibbles_from_top p q zero h e k l = absurd (omega arith)
 nibbles_from_top p q (suc depth) h e k l =
     let d : suc depth ≡ depth + 1 = omega arith in
-    let b = top_before p q depth (omega arith) (subst (λ x. path_start p (4 * x) ≡ path_start q (4 * x)) d e) in
+    let b = top_before p q depth (omega arith) (subst (λ x. path_top p (4 * x) ≡ path_top q (4 * x)) d e) in
     ⊎_elim (λ below. nibbles_from_top p q depth (omega arith) b.0 k below)
     (λ here. let same : depth ≡ k = omega arith in subst (λ x. nibble p x ≡ nibble q x) same b.1)
     (cases_lt k depth)
@@ -91,10 +91,10 @@ last_small f (suc (suc (suc zero))) h l = omega arith
 last_small f (suc (suc (suc (suc n)))) h l = absurd (omega arith)
 
 -- the same first bits, by nibbles and what is left
-pub parts_from_first : (p q depth len : ℕ) → depth ≤ 8 → len < 4 → path_start p (4 * depth + len) ≡ path_start q (4 * depth + len)
+pub parts_from_first : (p q depth len : ℕ) → depth ≤ 8 → len < 4 → path_top p (4 * depth + len) ≡ path_top q (4 * depth + len)
     → ((k : ℕ) → k < depth → nibble p k ≡ nibble q k) × (nibble p depth / 2 ^ (4 - len) ≡ nibble q depth / 2 ^ (4 - len))
 parts_from_first p q depth len h l e =
-    let s = same_from_place (path_start p (4 * depth)) (nibble p depth / 2 ^ (4 - len)) (path_start q (4 * depth)) (nibble q depth / 2 ^ (4 - len)) (2 ^ len)
+    let s = same_from_place (path_top p (4 * depth)) (nibble p depth / 2 ^ (4 - len)) (path_top q (4 * depth)) (nibble q depth / 2 ^ (4 - len)) (2 ^ len)
     (last_small (nibble p depth) len (omega arith) l) (last_small (nibble q depth) len (omega arith) l)
     (sym (path_start_in p depth len h l) ∙ e ∙ path_start_in q depth len h l) in
     (nibbles_from_top p q depth (omega arith) s.0, s.1)
@@ -102,11 +102,11 @@ parts_from_first p q depth len h l e =
 -- paths with the same four bits above a depth, and the same bits there, have the same first bits
 pub first_from_parts : (p q depth len : ℕ) → p < 2 ^ 36 → q < 2 ^ 36 → depth ≤ 8 → len < 4
     → ((k : ℕ) → k < depth → nibble p k ≡ nibble q k) → nibble p depth / 2 ^ (4 - len) ≡ nibble q depth / 2 ^ (4 - len)
-    → path_start p (4 * depth + len) ≡ path_start q (4 * depth + len)
+    → path_top p (4 * depth + len) ≡ path_top q (4 * depth + len)
 first_from_parts p q depth len a b h l same last =
     path_start_in p depth len h l
     ∙ ap (λ x. x * 2 ^ len + nibble p depth / 2 ^ (4 - len)) (top_from_nibbles p q depth a b (omega arith) same)
-    ∙ ap (λ x. path_start q (4 * depth) * 2 ^ len + x) last
+    ∙ ap (λ x. path_top q (4 * depth) * 2 ^ len + x) last
     ∙ sym (path_start_in q depth len h l)
 
 -- a node has 15 internal bits

@@ -1,4 +1,3 @@
-pub mod Ranks
 pub mod MovedBlock
 pub mod MovedChildren
 pub mod MovedResults

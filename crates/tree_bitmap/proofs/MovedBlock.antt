@@ -3,8 +3,8 @@ use Rattle.std.proofs.Common.{ℕ, ◌≡◌, ◌⊎◌, inl, inr, ⊎_elim, ◌
 use Rattle.std.specs.Int.{bit_at}
 use Rattle.std.proofs.lemmas.Bool.{cases_order, cases_lt}
 use Rattle.node_pool.specs.Pool.{IsGrown}
-use Rattle.tree_bitmap.specs.Bits.{rank}
-use Rattle.tree_bitmap.proofs.Ranks.{rank_lt, rank_mono, rank_mono_lt, ones-add, rank-add_below, rank-add_above, select}
+use Rattle.bitmaps.specs.Bits.{rank}
+use Rattle.bitmaps.proofs.Ranks.{rank_lt, rank_mono, rank_mono_lt, ones-add, rank-add_below, rank-add_above, select}
 
 -- a cell is that of a set bit
 abbrev pub InBlock : ℕ → ℕ → ℕ → Type 0

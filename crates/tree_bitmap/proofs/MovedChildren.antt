@@ -2,13 +2,14 @@
 use Rattle.std.proofs.Common.{ℕ, zero, suc, ◌≡◌, ◌≢◌, ◌⊎◌, inl, inr, ◌/◌, ◌%◌, ◌^◌, ◌<◌, Option, Some, None, true, is_some, arith, refl, sym, ap, subst, ◌∙◌}
 use Rattle.std.specs.Int.{bit_at}
 use Rattle.std.proofs.lemmas.Bool.{cases_eq}
-use Rattle.node_pool.specs.Pool.{IsWritten}
-use Rattle.tree_bitmap.specs.Tree.{IsEmpty, nibble, internal_bit, child, HasChild, IsChild, IsResult, node_at, entry_at_bit, row_at, IsLaidOut, with_children}
+use Rattle.node_pool.specs.Pool.{IsCellWritten}
+use Rattle.tree_bitmap.specs.Tree.{IsEmpty, nibble, internal_bit, child, HasChild, IsChild, IsResult, path_node, entry_at_bit, path_entry, IsLaidOut, with_children}
 use Rattle.tree_bitmap.specs.declared.node.Node.{Node}
 use Rattle.network_model.specs.declared.route.Entry.{Entry}
 use Rattle.node_pool.proofs.Blocks.{none≢is_some}
 use Rattle.tree_bitmap.proofs.MovedBlock.{IsMoved, block_bit, block_cases}
-use Rattle.tree_bitmap.proofs.Paths.{empty_has_no_child, empty_has_no_result, cases_option, is_some-from, some-from, none≢some, Some_same, child_in_block, step_yes, step_no, root_at, IsStep, node_used, step_of, zero_bit, entry-clear, entry-with_children, row-some, row-none}
+use Rattle.bitmaps.proofs.Options.{cases_option, some-from, none≢some, Some_same}
+use Rattle.tree_bitmap.proofs.Paths.{empty_has_no_child, empty_has_no_result, is_some-from, child_in_block, step_yes, step_no, root_at, IsStep, node_used, step_of, zero_bit, entry-clear, entry-with_children, row-some, row-none}
 use Rattle.tree_bitmap.proofs.OnePath.{rank_same}
 
 -- a cell holds a node with no row and no child
@@ -200,8 +201,8 @@ module _ (N N' : ℕ → Option Node) (G : ℕ → Option Entry) (index external
   -- where the node of a path stands afterwards, if it has not gone
   abbrev After : ℕ → ℕ → ℕ → Type 0
   After path depth j =
-      ((j' : ℕ) × (Moves a b j j') × (node_at N' path depth ≡ Some j'))
-      ⊎ ((IsGone a b j) × (node_at N' path depth ≡ None))
+      ((j' : ℕ) × (Moves a b j j') × (path_node N' path depth ≡ Some j'))
+      ⊎ ((IsGone a b j) × (path_node N' path depth ≡ None))
 
   -- a child that has gone had no child
   no_step : (path depth j : ℕ) (s : IsStep N path depth j) → IsGone a b s.i → ⊥
@@ -233,7 +234,7 @@ module _ (N N' : ℕ → Option Node) (G : ℕ → Option Entry) (index external
       ]
 
   -- the node of a path stands where its cell has moved, or has gone
-  node_moves : (path depth j : ℕ) → node_at N path depth ≡ Some j → After path depth j
+  node_moves : (path depth j : ℕ) → path_node N path depth ≡ Some j → After path depth j
   node_moves path zero j e =
       let z : 0 ≡ j = Some_same _ 0 j (root_at N path) e in
       inl (j, inl (λ q. sound.root_apart index a moved.before (subst (IsChild a) (sym z) q), refl), root_at N' path ∙ ap Some z)
@@ -242,15 +243,15 @@ module _ (N N' : ℕ → Option Node) (G : ℕ → Option Entry) (index external
       step_moves path depth j s (node_moves path depth s.i s.from) (cases_eq s.i index)
 
   -- the node itself stays on its path
-  pub index_on : (path depth : ℕ) → node_at N path depth ≡ Some index → node_at N' path depth ≡ Some index
+  pub index_on : (path depth : ℕ) → path_node N path depth ≡ Some index → path_node N' path depth ≡ Some index
   index_on path depth at = elim (node_moves path depth index at) [
     | inl (j', m, w) ↦ w ∙ ap Some (index_stays j' m)
     | inr ((f, h, n, p), w) ↦ absurd (not_in_old f h (sym p))
   ]
 
   -- a row of a node that was there stays
-  row_of : (path len j : ℕ) (c : Node) → node_at N path (len / 4) ≡ Some j → N j ≡ Some c → After path (len / 4) j
-      → (j ≡ index) ⊎ (j ≡ index → ⊥) → row_at N' G path len ≡ row_at N G path len
+  row_of : (path len j : ℕ) (c : Node) → path_node N path (len / 4) ≡ Some j → N j ≡ Some c → After path (len / 4) j
+      → (j ≡ index) ⊎ (j ≡ index → ⊥) → path_entry N' G path len ≡ path_entry N G path len
   row_of path len j c f e (inr ((g, h, n, p), w)) at =
       let bit = internal_bit (nibble path (len / 4)) (len % 4) in
       let (d, here, empty) = moved.gone g h n in
@@ -266,17 +267,17 @@ module _ (N N' : ℕ → Option Node) (G : ℕ → Option Entry) (index external
       ∙ entry-with_children G bit a external base ∙ ap (λ x. entry_at_bit G bit (Some x)) (sym same) ∙ sym (row-some N G path len j c f e)
 
   -- so it is by its path
-  pub row_on : (path len j : ℕ) → node_at N path (len / 4) ≡ Some j → row_at N' G path len ≡ row_at N G path len
+  pub row_on : (path len j : ℕ) → path_node N path (len / 4) ≡ Some j → path_entry N' G path len ≡ path_entry N G path len
   row_on path len j f =
       let (c, e) = some-from (N j) (node_used N G sound path (len / 4) j f) in
       row_of path len j c f e (node_moves path (len / 4) j f) (cases_eq j index)
 
 -- ALL ROWS STAY: those of the nodes that were there, and from right to left those of the nodes that are there
 pub moved_rows : (N N' : ℕ → Option Node) (G : ℕ → Option Entry) (index external base : ℕ) (a : Node) → IsLaidOut N G → MovesChildren N N' index a (with_children a external base)
-    → (path len : ℕ) → row_at N' G path len ≡ row_at N G path len
-moved_rows N N' G index external base a sound moved path len = elim (cases_option (node_at N path (len / 4))) [
+    → (path len : ℕ) → path_entry N' G path len ≡ path_entry N G path len
+moved_rows N N' G index external base a sound moved path len = elim (cases_option (path_node N path (len / 4))) [
   | inr (j, f) ↦ row_on N N' G index external base a sound moved path len j f
-  | inl none ↦ elim (cases_option (node_at N' path (len / 4))) [
+  | inl none ↦ elim (cases_option (path_node N' path (len / 4))) [
     | inl none' ↦ row-none N' G path len none' ∙ sym (row-none N G path len none)
     | inr (j', f) ↦
         sym (row_on N' N G index a.external a.child_base (with_children a external base) (moved_sound N N' G index external base a sound moved)
@@ -286,7 +287,7 @@ moved_rows N N' G index external base a sound moved path len = elim (cases_optio
 
 -- the moves of a block of children, and the node that is written after it
 pub moves_children : (N M N' : ℕ → Option Node) (G : ℕ → Option Entry) (index external base : ℕ) (a : Node) → IsLaidOut N G → N index ≡ Some a
-    → IsMoved N M a.child_base a.external base external → IsWritten M N' index (with_children a external base)
+    → IsMoved N M a.child_base a.external base external → IsCellWritten M N' index (with_children a external base)
     → ((f : ℕ) → HasChild a f → bit_at external f ≢ 1 → HoldsEmpty (N (child a f)))
     → ((f : ℕ) → bit_at external f ≡ 1 → bit_at a.external f ≢ 1 → HoldsEmpty (M (child (with_children a external base) f)))
     → MovesChildren N N' index a (with_children a external base)

@@ -2,27 +2,28 @@
 use Rattle.std.proofs.Common.{ℕ, zero, suc, ◌≡◌, ◌≢◌, ◌⊎◌, inl, inr, ◌+◌, ◌^◌, ◌<◌, Option, Some, None, true, is_some, refl, sym, ap, subst, ◌∙◌}
 use Rattle.std.specs.Int.{bit_at}
 use Rattle.std.proofs.lemmas.Bool.{cases_eq}
-use Rattle.node_pool.specs.Pool.{IsWritten}
-use Rattle.tree_bitmap.specs.Bits.{rank}
-use Rattle.tree_bitmap.specs.Tree.{nibble, IsChild, IsResult, child_by, child_under, node_at, entry_at_bit, IsLaidOut, with_results}
+use Rattle.node_pool.specs.Pool.{IsCellWritten}
+use Rattle.bitmaps.specs.Bits.{rank}
+use Rattle.tree_bitmap.specs.Tree.{nibble, IsChild, IsResult, child_by, child_under, path_node, entry_at_bit, IsLaidOut, with_results}
 use Rattle.tree_bitmap.specs.declared.node.Node.{Node}
 use Rattle.network_model.specs.declared.route.Entry.{Entry}
 use Rattle.node_pool.proofs.Blocks.{none≢is_some}
 use Rattle.tree_bitmap.proofs.MovedBlock.{IsMoved, block_bit}
-use Rattle.tree_bitmap.proofs.Paths.{is_some-from, Some_same, entry-set, entry-clear, result_in_block}
+use Rattle.bitmaps.proofs.Options.{Some_same}
+use Rattle.tree_bitmap.proofs.Paths.{is_some-from, entry-set, entry-clear, result_in_block}
 
 -- what changed: the entry at one bit of the node at `index`
 pub record SetsBit (N N' : ℕ → Option Node) (G G' : ℕ → Option Entry) (index bit : ℕ) (entry : Option Entry) (a a' : Node) : Type 0 where
   pub before : N index ≡ Some a
   pub after : N' index ≡ Some a'
   pub cells : (j : ℕ) → j ≢ index → N' j ≡ N j
-  pub walks : (path depth : ℕ) → node_at N' path depth ≡ node_at N path depth
+  pub walks : (path depth : ℕ) → path_node N' path depth ≡ path_node N path depth
   pub hit : entry_at_bit G' bit (Some a') ≡ entry
   pub miss : (b : ℕ) → b ≢ bit → entry_at_bit G' b (Some a') ≡ entry_at_bit G b (Some a)
   pub others : (j : ℕ) (b : Node) → N j ≡ Some b → j ≢ index → (k : ℕ) → entry_at_bit G' k (Some b) ≡ entry_at_bit G k (Some b)
 
 -- all nodes stay where they were
-module _ (N N' : ℕ → Option Node) (index internal base : ℕ) (a : Node) (here : N index ≡ Some a) (written : IsWritten N N' index (with_results a internal base)) where
+module _ (N N' : ℕ → Option Node) (index internal base : ℕ) (a : Node) (here : N index ≡ Some a) (written : IsCellWritten N N' index (with_results a internal base)) where
   -- the node keeps its children
   child_kept : (four j : ℕ) → (j ≡ index) ⊎ (j ≡ index → ⊥) → child_by four (N' j) ≡ child_by four (N j)
   unfolding child_by
@@ -37,10 +38,10 @@ module _ (N N' : ℕ → Option Node) (index internal base : ℕ) (a : Node) (he
   children_kept four (Some j) = child_kept four j (cases_eq j index)
 
   -- the nodes of a path stay where they were
-  walk_kept : (path depth : ℕ) → node_at N' path depth ≡ node_at N path depth
-  unfolding node_at
+  walk_kept : (path depth : ℕ) → path_node N' path depth ≡ path_node N path depth
+  unfolding path_node
   walk_kept path zero = refl
-  walk_kept path (suc depth) = ap (child_under N' (nibble path depth)) (walk_kept path depth) ∙ children_kept (nibble path depth) (node_at N path depth)
+  walk_kept path (suc depth) = ap (child_under N' (nibble path depth)) (walk_kept path depth) ∙ children_kept (nibble path depth) (path_node N path depth)
 
   -- the node that stands in a cell afterwards
   abbrev Was : ℕ → Node → Type 0
@@ -76,7 +77,7 @@ entry_kept G G' c k same = elim (cases_eq (bit_at c.internal k) 1) [
 module _ (N N' : ℕ → Option Node) (G G' : ℕ → Option Entry) (index internal base : ℕ) (a : Node)
     (sound : IsLaidOut N G) (here : N index ≡ Some a)
     (moved : IsMoved G G' a.result_base a.internal base internal)
-    (written : IsWritten N N' index (with_results a internal base)) where
+    (written : IsCellWritten N N' index (with_results a internal base)) where
   -- the node afterwards
   abbrev b : Node
   b = with_results a internal base

@@ -2,20 +2,20 @@
 use Rattle.std.proofs.Common.{ℕ, ◌≡◌, inl, inr, ◌+◌, ◌^◌, Option, Some, None, count_ones, arith, refl, sym, ap, subst, ◌∙◌}
 use Rattle.std.specs.Int.{bit_at}
 use Rattle.std.proofs.lemmas.Bool.{cases_eq}
-use Rattle.node_pool.specs.Pool.{IsGrown, IsWritten}
-use Rattle.tree_bitmap.specs.Bits.{rank}
+use Rattle.node_pool.specs.Pool.{IsGrown, IsCellWritten}
+use Rattle.bitmaps.specs.Bits.{rank}
 use Rattle.tree_bitmap.specs.Tree.{blank, child, IsLaidOut, with_child}
 use Rattle.tree_bitmap.specs.declared.node.Node.{Node}
 use Rattle.network_model.specs.declared.route.Entry.{Entry}
-use Rattle.tree_bitmap.proofs.Ranks.{rank_le, bit_at-add_other, rank-add_below}
+use Rattle.bitmaps.proofs.Ranks.{rank_le, bit_at-add_other, rank-add_below}
 use Rattle.tree_bitmap.proofs.MovedBlock.{moved_by_growth}
 use Rattle.tree_bitmap.proofs.MovedChildren.{MovesChildren, moves_children}
-use Rattle.tree_bitmap.proofs.Paths.{none≢some}
+use Rattle.bitmaps.proofs.Options.{none≢some}
 
 module _ (N M N' : ℕ → Option Node) (G : ℕ → Option Entry) (index four base : ℕ) (a : Node)
     (sound : IsLaidOut N G) (here : N index ≡ Some a) (clear : bit_at a.external four ≡ 0)
     (grown : IsGrown N M a.child_base (count_ones a.external) (rank a.external four) blank base)
-    (written : IsWritten M N' index (with_child a four base)) where
+    (written : IsCellWritten M N' index (with_child a four base)) where
   -- it has come, and none has gone
   pub new_child : MovesChildren N N' index a (with_child a four base)
   new_child =

@@ -2,29 +2,30 @@
 use Rattle.std.proofs.Common.{ℕ, ◌≡◌, ◌≢◌, ◌⊎◌, inl, inr, ◌+◌, ◌-◌, ◌*◌, ◌/◌, ◌%◌, ◌^◌, ◌<◌, ◌≤◌, Option, Some, None, true, is_some, count_ones, arith, refl, sym, ap, subst, ◌∙◌}
 use Rattle.std.specs.Int.{bit_at}
 use Rattle.std.proofs.lemmas.Bool.{cases_eq, cases_order}
-use Rattle.node_pool.specs.Pool.{IsGrown, IsWritten}
-use Rattle.tree_bitmap.specs.Bits.{rank}
-use Rattle.tree_bitmap.specs.Tree.{nibble, path_start, internal_bit, IsResult, node_at, entry_at_bit, row_at, IsLaidOut, with_result}
+use Rattle.node_pool.specs.Pool.{IsGrown, IsCellWritten}
+use Rattle.bitmaps.specs.Bits.{rank}
+use Rattle.tree_bitmap.specs.Tree.{nibble, path_top, internal_bit, IsResult, path_node, entry_at_bit, path_entry, IsLaidOut, with_result}
 use Rattle.tree_bitmap.specs.declared.node.Node.{Node}
 use Rattle.network_model.specs.declared.route.Entry.{Entry}
-use Rattle.tree_bitmap.proofs.Ranks.{rank_mono_lt, bit_at-add_same, bit_at-add_other, add_lt, rank-add_below}
+use Rattle.bitmaps.proofs.Ranks.{rank_mono_lt, bit_at-add_same, bit_at-add_other, add_lt, rank-add_below}
 use Rattle.tree_bitmap.proofs.MovedBlock.{IsMoved, moved_by_growth}
 use Rattle.tree_bitmap.proofs.MovedResults.{SetsBit, entry_kept, moved_sets, results_sound}
-use Rattle.tree_bitmap.proofs.Paths.{cases_option, is_some-from, some-from, node_used, row-some, row-none, entry-set, result_in_block}
+use Rattle.bitmaps.proofs.Options.{cases_option, some-from}
+use Rattle.tree_bitmap.proofs.Paths.{is_some-from, node_used, row-some, row-none, entry-set, result_in_block}
 use Rattle.tree_bitmap.proofs.FirstBits.{parts_from_first, first_from_parts, internal_bit_same}
-use Rattle.tree_bitmap.proofs.OnePath.{node_at-same, IsSameWalk, walk_unique}
+use Rattle.tree_bitmap.proofs.OnePath.{path_node-same, IsSameWalk, walk_unique}
 
 module _ (N N' : ℕ → Option Node) (G G' : ℕ → Option Entry) (index : ℕ) (entry : Option Entry) (a a' : Node) (path depth len : ℕ)
-    (sound : IsLaidOut N G) (deep : depth ≤ 8) (short : len < 4) (at : node_at N path depth ≡ Some index)
+    (sound : IsLaidOut N G) (deep : depth ≤ 8) (short : len < 4) (at : path_node N path depth ≡ Some index)
     (sets : SetsBit N N' G G' index (internal_bit (nibble path depth) len) entry a a') where
   -- the row that was set has the entry, or is gone
-  pub row_hit : (q m : ℕ) → m ≡ 4 * depth + len → path_start q m ≡ path_start path m → row_at N' G' q m ≡ entry
+  pub row_hit : (q m : ℕ) → m ≡ 4 * depth + len → path_top q m ≡ path_top path m → path_entry N' G' q m ≡ entry
   row_hit q m e same =
-      let parts = parts_from_first q path depth len deep short (subst (λ k. path_start q k ≡ path_start path k) e same) in
+      let parts = parts_from_first q path depth len deep short (subst (λ k. path_top q k ≡ path_top path k) e same) in
       let d : depth ≡ m / 4 = omega arith in
       let r : len ≡ m % 4 = omega arith in
-      let there : node_at N' q (m / 4) ≡ Some index =
-      ap (node_at N' q) (sym d) ∙ sets.walks q depth ∙ node_at-same N q path depth parts.0 ∙ at in
+      let there : path_node N' q (m / 4) ≡ Some index =
+      ap (path_node N' q) (sym d) ∙ sets.walks q depth ∙ path_node-same N q path depth parts.0 ∙ at in
       let bits : internal_bit (nibble q (m / 4)) (m % 4) ≡ internal_bit (nibble path depth) len =
       sym (ap (λ k. internal_bit (nibble q k) (m % 4)) d) ∙ sym (ap (internal_bit (nibble q depth)) r)
       ∙ ap (λ x. 2 ^ len - 1 + x) parts.1 in
@@ -32,22 +33,22 @@ module _ (N N' : ℕ → Option Node) (G G' : ℕ → Option Entry) (index : ℕ
       ∙ ap (λ b. entry_at_bit G' b (Some a')) bits ∙ sets.hit
 
   -- a row of the same node and another prefix stays
-  miss_here : (q m : ℕ) → m < 36 → (m ≡ 4 * depth + len → path_start q m ≡ path_start path m → ⊥) → path < 2 ^ 36 → q < 2 ^ 36
-      → node_at N q (m / 4) ≡ Some index → internal_bit (nibble q (m / 4)) (m % 4) ≢ internal_bit (nibble path depth) len
+  miss_here : (q m : ℕ) → m < 36 → (m ≡ 4 * depth + len → path_top q m ≡ path_top path m → ⊥) → path < 2 ^ 36 → q < 2 ^ 36
+      → path_node N q (m / 4) ≡ Some index → internal_bit (nibble q (m / 4)) (m % 4) ≢ internal_bit (nibble path depth) len
   miss_here q m h off p l there e =
       let w : IsSameWalk q path (m / 4) depth = walk_unique N G sound q path (m / 4) depth index there at in
       let b = internal_bit_same (nibble q (m / 4)) (nibble path depth) (m % 4) len (omega arith) (omega arith) (omega arith) short e in
       let full : m ≡ 4 * depth + len = omega (arith, w.depth, b.0) in
       let nib : nibble q depth / 2 ^ (4 - len) ≡ nibble path depth / 2 ^ (4 - len) =
       ap (λ k. nibble q k / 2 ^ (4 - len)) (sym w.depth) ∙ ap (λ k. nibble q (m / 4) / 2 ^ (4 - k)) (sym b.0) ∙ b.1 in
-      off full (subst (λ k. path_start q k ≡ path_start path k) (sym full)
+      off full (subst (λ k. path_top q k ≡ path_top path k) (sym full)
       (first_from_parts q path depth len l p deep short (λ k x. w.nibbles k (omega (arith, w.depth))) nib))
 
   -- a row of another node stays
-  miss_at : (q m j : ℕ) (b : Node) → m < 36 → (m ≡ 4 * depth + len → path_start q m ≡ path_start path m → ⊥) → path < 2 ^ 36 → q < 2 ^ 36
-      → node_at N q (m / 4) ≡ Some j → N j ≡ Some b → (j ≡ index) ⊎ (j ≡ index → ⊥) → row_at N' G' q m ≡ row_at N G q m
+  miss_at : (q m j : ℕ) (b : Node) → m < 36 → (m ≡ 4 * depth + len → path_top q m ≡ path_top path m → ⊥) → path < 2 ^ 36 → q < 2 ^ 36
+      → path_node N q (m / 4) ≡ Some j → N j ≡ Some b → (j ≡ index) ⊎ (j ≡ index → ⊥) → path_entry N' G' q m ≡ path_entry N G q m
   miss_at q m j b h off p l f c (inl e) =
-      let there : node_at N q (m / 4) ≡ Some index = f ∙ ap Some e in
+      let there : path_node N q (m / 4) ≡ Some index = f ∙ ap Some e in
       row-some N' G' q m index a' (sets.walks q (m / 4) ∙ there) sets.after
       ∙ sets.miss _ (miss_here q m h off p l there)
       ∙ sym (row-some N G q m index a there sets.before)
@@ -56,21 +57,21 @@ module _ (N N' : ℕ → Option Node) (G G' : ℕ → Option Entry) (index : ℕ
       ∙ sets.others j b c n _ ∙ sym (row-some N G q m j b f c)
 
   -- a row of any node stays
-  miss_from : (q m : ℕ) → m < 36 → (m ≡ 4 * depth + len → path_start q m ≡ path_start path m → ⊥) → path < 2 ^ 36 → q < 2 ^ 36
-      → (node_at N q (m / 4) ≡ None) ⊎ ((j : ℕ) × (node_at N q (m / 4) ≡ Some j)) → row_at N' G' q m ≡ row_at N G q m
+  miss_from : (q m : ℕ) → m < 36 → (m ≡ 4 * depth + len → path_top q m ≡ path_top path m → ⊥) → path < 2 ^ 36 → q < 2 ^ 36
+      → (path_node N q (m / 4) ≡ None) ⊎ ((j : ℕ) × (path_node N q (m / 4) ≡ Some j)) → path_entry N' G' q m ≡ path_entry N G q m
   miss_from q m h off p l (inl n) = row-none N' G' q m (sets.walks q (m / 4) ∙ n) ∙ sym (row-none N G q m n)
   miss_from q m h off p l (inr (j, f)) =
       let c = some-from (N j) (node_used N G sound q (m / 4) j f) in
       miss_at q m j c.0 h off p l f c.1 (cases_eq j index)
 
   -- every other row stays
-  pub row_miss : (q m : ℕ) → m < 36 → path < 2 ^ 36 → q < 2 ^ 36 → (m ≡ 4 * depth + len → path_start q m ≡ path_start path m → ⊥) → row_at N' G' q m ≡ row_at N G q m
-  row_miss q m h p l off = miss_from q m h off p l (cases_option (node_at N q (m / 4)))
+  pub row_miss : (q m : ℕ) → m < 36 → path < 2 ^ 36 → q < 2 ^ 36 → (m ≡ 4 * depth + len → path_top q m ≡ path_top path m → ⊥) → path_entry N' G' q m ≡ path_entry N G q m
+  row_miss q m h p l off = miss_from q m h off p l (cases_option (path_node N q (m / 4)))
 
 -- ---- the bit is set: its result is written over
 module _ (N : ℕ → Option Node) (G G' : ℕ → Option Entry) (index bit : ℕ) (entry : Entry) (a : Node)
     (sound : IsLaidOut N G) (here : N index ≡ Some a) (has : bit_at a.internal bit ≡ 1)
-    (written : IsWritten G G' (a.result_base + rank a.internal bit) entry) where
+    (written : IsCellWritten G G' (a.result_base + rank a.internal bit) entry) where
   -- where a result is written over, its entry is set, and nothing else
   pub replace_sets : SetsBit N N G G' index bit (Some entry) a a
   replace_sets = record {
@@ -110,7 +111,7 @@ module _ (N : ℕ → Option Node) (G G' : ℕ → Option Entry) (index bit : �
 module _ (N N' : ℕ → Option Node) (G G' : ℕ → Option Entry) (index bit base : ℕ) (entry : Entry) (a : Node)
     (sound : IsLaidOut N G) (here : N index ≡ Some a) (clear : bit_at a.internal bit ≡ 0)
     (grown : IsGrown G G' a.result_base (count_ones a.internal) (rank a.internal bit) entry base)
-    (written : IsWritten N N' index (with_result a bit base)) where
+    (written : IsCellWritten N N' index (with_result a bit base)) where
   -- the results have moved
   moved : IsMoved G G' a.result_base a.internal base (a.internal + 2 ^ bit)
   moved = moved_by_growth G G' a.result_base a.internal bit entry base clear grown

@@ -2,12 +2,13 @@
 use Rattle.std.proofs.Common.{ℕ, zero, suc, ◌≡◌, ◌⊎◌, inl, inr, ⊎_elim, ◌<◌, Option, Some, arith, refl, sym, ap, subst, ◌∙◌}
 use Rattle.std.specs.Int.{bit_at}
 use Rattle.std.proofs.lemmas.Bool.{cases_eq, cases_order, cases_lt}
-use Rattle.tree_bitmap.specs.Bits.{rank}
-use Rattle.tree_bitmap.specs.Tree.{nibble, child, HasChild, IsChild, child_under, node_at, IsLaidOut}
+use Rattle.bitmaps.specs.Bits.{rank}
+use Rattle.tree_bitmap.specs.Tree.{nibble, child, HasChild, IsChild, child_under, path_node, IsLaidOut}
 use Rattle.tree_bitmap.specs.declared.node.Node.{Node}
 use Rattle.network_model.specs.declared.route.Entry.{Entry}
-use Rattle.tree_bitmap.proofs.Ranks.{rank_mono_lt}
-use Rattle.tree_bitmap.proofs.Paths.{Some_same, child_in_block, root_at, IsStep, step_of}
+use Rattle.bitmaps.proofs.Ranks.{rank_mono_lt}
+use Rattle.bitmaps.proofs.Options.{Some_same}
+use Rattle.tree_bitmap.proofs.Paths.{child_in_block, root_at, IsStep, step_of}
 
 -- set bits of one rank are one bit
 pub rank_same : (n f g : ℕ) → bit_at n f ≡ 1 → bit_at n g ≡ 1 → rank n f ≡ rank n g → f ≡ g
@@ -24,12 +25,12 @@ child_same a b f g e h k q =
     rank_same b.external f g h' k (omega arith)
 
 -- the walk goes by the nibbles alone
-pub node_at-same : (nodes : ℕ → Option Node) (p q depth : ℕ) → ((k : ℕ) → k < depth → nibble p k ≡ nibble q k) → node_at nodes p depth ≡ node_at nodes q depth
-unfolding node_at
-node_at-same nodes p q zero same = refl
-node_at-same nodes p q (suc depth) same =
-    ap (λ f. child_under nodes f (node_at nodes p depth)) (same depth (omega arith))
-    ∙ ap (child_under nodes (nibble q depth)) (node_at-same nodes p q depth (λ k l. same k (omega arith)))
+pub path_node-same : (nodes : ℕ → Option Node) (p q depth : ℕ) → ((k : ℕ) → k < depth → nibble p k ≡ nibble q k) → path_node nodes p depth ≡ path_node nodes q depth
+unfolding path_node
+path_node-same nodes p q zero same = refl
+path_node-same nodes p q (suc depth) same =
+    ap (λ f. child_under nodes f (path_node nodes p depth)) (same depth (omega arith))
+    ∙ ap (child_under nodes (nibble q depth)) (path_node-same nodes p q depth (λ k l. same k (omega arith)))
 
 -- the same depth, and the same nibbles
 pub record IsSameWalk (p q d e : ℕ) : Type 0 where
@@ -63,7 +64,7 @@ module _ (nodes : ℕ → Option Node) (results : ℕ → Option Entry) (sound :
       (subst (IsChild t.a) t.is (child_in_block t.a (nibble q e) t.has)))
 
   -- two walks to one cell are of one depth, and read the same bits
-  pub walk_unique : (p q d e j : ℕ) → node_at nodes p d ≡ Some j → node_at nodes q e ≡ Some j → IsSameWalk p q d e
+  pub walk_unique : (p q d e j : ℕ) → path_node nodes p d ≡ Some j → path_node nodes q e ≡ Some j → IsSameWalk p q d e
   walk_unique p q zero zero j x y = record { depth = refl; nibbles = λ k l. absurd (omega arith) }
   walk_unique p q zero (suc e) j x y =
       absurd (no_root_step q e j (step_of nodes results sound q e j y) (Some_same _ 0 j (root_at nodes p) x))

@@ -1,59 +1,53 @@
 -- Rows of a tree by prefixes.
-use Rattle.std.specs.FinMap.{put}
-use Rattle.std.proofs.Common.{List, [], ◌∷◌, ◌++◌, length, take, get_or, ℕ, ◌≡◌, ◌+◌, ◌-◌, ◌*◌, ◌/◌, ◌^◌, ◌<◌, ◌≤◌, Bool, true, false, cond, Option, Some, None, IfSome, arith, refl, sym, ap, subst, ◌∙◌, Result, Err, IsOk, shr-shr}
-use Rattle.std.specs.Result.{is_ok}
-use Rattle.std.proofs.lemmas.List.{take_more}
-use Rattle.std.proofs.Math.Seq.{take-length}
-use Rattle.std.proofs.lemmas.Bool.{eq-eqb, eqb-true, false≢true}
+use Rattle.std.proofs.Common.{ℕ, ◌≡◌, ◌+◌, ◌-◌, ◌*◌, ◌/◌, ◌^◌, ◌≤◌, Bool, true, false, cond, Option, Some, None, arith, refl, sym, ap, subst, ◌∙◌, shr-shr}
+use Rattle.std.proofs.lemmas.Bool.{eq-eqb, eqb-true}
 use mathlib.Core.Path.{fun_ext}
-use Rattle.ipv4_prefix.specs.Prefix.{Prefix, IsPrefix, covers, prefix_cmp, prefix_eq}
-use Rattle.ipv4_prefix.specs.LongestMatch.{IsLongestIn, IsLongestMatch, longest_match}
+use Rattle.ipv4_prefix.specs.Prefix.{Prefix, IsPrefix, covers, prefix_eq}
+use Rattle.ipv4_prefix.specs.LongestMatch.{IsLongestIn}
 use Rattle.ipv4_prefix.specs.Tables.{table_rows}
 use Rattle.ipv4_prefix.proofs.PrefixOrder.{prefix_eq-Decides}
-use Rattle.ipv4_prefix.proofs.LongestMatches.{covering_same, longest_match-found}
+use Rattle.ipv4_prefix.proofs.LongestMatches.{covering_same}
 use Rattle.network_model.specs.declared.route.Entry.{Entry}
-use Rattle.network_model.specs.Publication.{with_rows}
-use Rattle.network_model.proofs.RowLaws.{with_rows-push}
-use Rattle.tree_bitmap.specs.Bits.{path_start}
-use Rattle.tree_bitmap.specs.Greatest.{GreatestBelow}
-use Rattle.tree_bitmap.specs.Tree.{row_at, SetsRow}
+use Rattle.tree_bitmap.specs.Bits.{path_top}
+use Rattle.bitmaps.specs.Greatest.{GreatestBelow}
+use Rattle.tree_bitmap.specs.Tree.{path_entry, SetsRow}
 use Rattle.tree_bitmap.specs.declared.node.Node.{Node}
 use Rattle.tree_bitmap.proofs.LongestRow.{row_covers}
 
 -- the first bits of an address's path are those of the address
-pub path_bits : (a len : ℕ) → len ≤ 32 → path_start (a * 16) len ≡ a / 2 ^ (32 - len)
+pub path_bits : (a len : ℕ) → len ≤ 32 → path_top (a * 16) len ≡ a / 2 ^ (32 - len)
 path_bits a len h =
     let e : 4 + (32 - len) ≡ 36 - len = omega arith in
     let s : a * 16 / 2 ^ 4 ≡ a = omega arith in
     sym (shr-shr (a * 16) 4 (32 - len) ∙ ap (λ k. a * 16 / 2 ^ k) e) ∙ ap (λ x. x / 2 ^ (32 - len)) s
 
 -- a prefix that covers an address has the same first bits
-covering_bits : (p : Prefix) (addr : ℕ) → p.len ≤ 32 → covers p addr ≡ true → path_start (p.addr * 16) p.len ≡ path_start (addr * 16) p.len
+covering_bits : (p : Prefix) (addr : ℕ) → p.len ≤ 32 → covers p addr ≡ true → path_top (p.addr * 16) p.len ≡ path_top (addr * 16) p.len
 covering_bits p addr short covered = path_bits p.addr p.len short ∙ eqb-true _ _ covered ∙ sym (path_bits addr p.len short)
 
 module _ (nodes : ℕ → Option Node) (results : ℕ → Option Entry) where
   -- the entry of a prefix
   abbrev entry_at : Prefix → Option Entry
-  entry_at p = row_at nodes results (p.addr * 16) p.len
+  entry_at p = path_entry nodes results (p.addr * 16) p.len
 
   -- the entry of a prefix that covers an address is a row of the address's path
-  pub entry_on_path : (p : Prefix) (addr : ℕ) → IsPrefix p → covers p addr ≡ true → entry_at p ≡ row_at nodes results (addr * 16) p.len
+  pub entry_on_path : (p : Prefix) (addr : ℕ) → IsPrefix p → covers p addr ≡ true → entry_at p ≡ path_entry nodes results (addr * 16) p.len
   entry_on_path p addr valid covered =
       let short = valid.short in
       row_covers nodes results (p.addr * 16) (addr * 16) p.len (omega (arith, short)) (covering_bits p addr short covered)
 
   -- the longest row of the path is the longest match
-  pub longest_on_path : (addr len : ℕ) (entry : Entry) (p : Prefix) → IsPrefix p → p.len ≡ len → covers p addr ≡ true → GreatestBelow (row_at nodes results (addr * 16)) 33 (Some (len, entry))
+  pub longest_on_path : (addr len : ℕ) (entry : Entry) (p : Prefix) → IsPrefix p → p.len ≡ len → covers p addr ≡ true → GreatestBelow (path_entry nodes results (addr * 16)) 33 (Some (len, entry))
       → IsLongestIn entry_at addr (Some (p, entry))
   longest_on_path addr len entry p valid at covered best = (
     valid,
     covered,
-    entry_on_path p addr valid covered ∙ ap (row_at nodes results (addr * 16)) at ∙ best.1,
+    entry_on_path p addr valid covered ∙ ap (path_entry nodes results (addr * 16)) at ∙ best.1,
     λ q valid_q covered_q longer. let short = valid_q.short in entry_on_path q addr valid_q covered_q ∙ best.2 q.len (omega (arith, at, longer)) (omega (arith, short)),
   )
 
   -- where the path has no row, there is no match
-  pub none_on_path : (addr : ℕ) → GreatestBelow (row_at nodes results (addr * 16)) 33 None → IsLongestIn entry_at addr None
+  pub none_on_path : (addr : ℕ) → GreatestBelow (path_entry nodes results (addr * 16)) 33 None → IsLongestIn entry_at addr None
   none_on_path addr none = λ p valid covered. let short = valid.short in entry_on_path p addr valid covered ∙ none p.len (omega (arith, short))
 
 -- where the row of a prefix's path was set, or taken out, the prefix has the entry, or none, and every other prefix the one it had
@@ -61,7 +55,7 @@ pub sets_entry : (old new : ℕ → ℕ → Option Entry) (q : Prefix) (entry : 
     → (p : Prefix) → IsPrefix p → new (p.addr * 16) p.len ≡ cond (prefix_eq p q) entry (old (p.addr * 16) p.len)
 sets_entry old new q entry valid_q sets p valid = by_test (prefix_eq p q) refl
   where
-    same_bits : p.len ≡ q.len → path_start (p.addr * 16) p.len ≡ path_start (q.addr * 16) p.len → p ≡ q
+    same_bits : p.len ≡ q.len → path_top (p.addr * 16) p.len ≡ path_top (q.addr * 16) p.len → p ≡ q
     same_bits len bits =
         let short = valid.short in
         covering_same q.addr p q valid valid_q (eq-eqb _ _ (sym (path_bits p.addr p.len short) ∙ bits ∙ path_bits q.addr p.len short)) (eq-eqb _ _ refl) len
@@ -74,7 +68,7 @@ sets_entry old new q entry valid_q sets p valid = by_test (prefix_eq p q) refl
         let short = valid.short in
         let fits = valid.fits in
         sets.miss (p.addr * 16) p.len (omega (arith, fits)) (omega (arith, short))
-        (λ len bits. absurd (cc (apart, (prefix_eq-Decides p q).1 (same_bits len (bits ∙ ap (λ k. path_start (q.addr * 16) k) refl)))))
+        (λ len bits. absurd (cc (apart, (prefix_eq-Decides p q).1 (same_bits len (bits ∙ ap (λ k. path_top (q.addr * 16) k) refl)))))
 
 -- the same, where the path and the length are those of the prefix
 pub sets_entry_at : (old new : ℕ → ℕ → Option Entry) (q : Prefix) (entry : Option Entry) (path len : ℕ) → IsPrefix q → path ≡ q.addr * 16 → len ≡ q.len → SetsRow old new path len entry
@@ -82,31 +76,10 @@ pub sets_entry_at : (old new : ℕ → ℕ → Option Entry) (q : Prefix) (entry
 sets_entry_at old new q entry path len valid at same sets =
     sets_entry old new q entry valid (subst (λ k. SetsRow old new (q.addr * 16) k entry) same (subst (λ x. SetsRow old new x len entry) at sets))
 
--- ---- rows set in order
-
--- with one row more, that row is put
-pub with_one_more : (rows : List (Prefix × Entry)) (i : ℕ) (r : Prefix × Entry) (table : List (Prefix × Entry)) → i < length rows → r ≡ get_or rows i r
-    → with_rows (take (i + 1) rows) table ≡ put prefix_cmp r.0 r.1 (with_rows (take i rows) table)
-with_one_more rows i r table within is =
-    ap (λ xs. with_rows xs table) (take_more rows i r within ∙ ap (λ x. take i rows ++ x ∷ []) (sym is)) ∙ with_rows-push (take i rows) r table
-
--- with all, the rows are set
-pub with_all : (rows table : List (Prefix × Entry)) → with_rows (take (length rows) rows) table ≡ with_rows rows table
-with_all rows table = ap (λ xs. with_rows xs table) (take-length rows)
-
 -- cells with the same contents have the same rows
 pub same_rows_in : (N N' : ℕ → Option Node) (G G' : ℕ → Option Entry) → ((k : ℕ) → N' k ≡ N k) → ((k : ℕ) → G' k ≡ G k)
-    → table_rows (λ p. row_at N' G' (p.addr * 16) p.len) ≡ table_rows (λ p. row_at N G (p.addr * 16) p.len)
+    → table_rows (λ p. path_entry N' G' (p.addr * 16) p.len) ≡ table_rows (λ p. path_entry N G (p.addr * 16) p.len)
 same_rows_in N N' G G' same_nodes same_results =
     let nodes : N' ≡ N = fun_ext same_nodes in
     let results : G' ≡ G = fun_ext same_results in
-    λ i. table_rows (λ (p : Prefix). row_at (nodes i) (results i) (p.addr * 16) p.len)
-
--- a refusal is no success
-pub not_ok : {T E : Type 0} {r : Result T E} {e : E} → r ≡ Err e → IsOk r → ⊥
-not_ok {T} {E} is ok = false≢true (subst (λ (x : Result T E). is_ok x ≡ true) is ok)
-
--- what is found by the longest match is one
-pub longest_where_some : (addr : ℕ) (rows : List (Prefix × Entry)) (found : Option (Prefix × Entry)) → found ≡ longest_match addr rows → IfSome found (IsLongestMatch addr rows)
-longest_where_some addr rows None e = tt
-longest_where_some addr rows (Some f) e = longest_match-found addr rows f (sym e)
+    λ i. table_rows (λ (p : Prefix). path_entry (nodes i) (results i) (p.addr * 16) p.len)

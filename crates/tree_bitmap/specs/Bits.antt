@@ -1,23 +1,13 @@
 -- Bitmaps, and the bits of a path: an address of 32 bits and four zeros after it.
-use Rattle.std.specs.Prelude.{ℕ, ◌≡◌, ◌+◌, ◌-◌, ◌*◌, ◌/◌, ◌%◌, ◌^◌, ◌<◌, Option, Some, None, count_ones, min, nat_lt, if◌then◌else◌}
-use Rattle.std.specs.Int.{bit_at}
-
--- the number of set bits below bit k
-abbrev pub rank : ℕ → ℕ → ℕ
-rank n k = count_ones (n % 2 ^ k)
-
--- the greatest bit that is set, or none where no bit is
-abbrev pub IsHighest : ℕ → Option ℕ → Type 0
-IsHighest n None = n ≡ 0
-IsHighest n (Some bit) = (bit < 16) × (bit_at n bit ≡ 1) × ((k : ℕ) → bit < k → bit_at n k ≡ 0)
+use Rattle.std.specs.Prelude.{ℕ, ◌+◌, ◌-◌, ◌*◌, ◌/◌, ◌%◌, ◌^◌, min, nat_lt, if◌then◌else◌}
 
 -- the four bits that the node at a depth (0 to 8) reads of a path
 abbrev pub nibble : ℕ → ℕ → ℕ
 nibble path depth = path / 2 ^ (32 - 4 * depth) % 16
 
 -- the first `len` bits of a path
-abbrev pub path_start : ℕ → ℕ → ℕ
-path_start path len = path / 2 ^ (36 - len)
+abbrev pub path_top : ℕ → ℕ → ℕ
+path_top path len = path / 2 ^ (36 - len)
 
 -- the internal bit of the prefix that ends `len` bits into a node, by the four bits there
 abbrev pub internal_bit : ℕ → ℕ → ℕ
@@ -28,5 +18,5 @@ abbrev pub length_of : ℕ → ℕ
 length_of bit = if nat_lt bit 1 then 0 else if nat_lt bit 3 then 1 else if nat_lt bit 7 then 2 else 3
 
 -- how many lengths end within a node at a depth: one at depth 8, where addresses end
-abbrev pub width : ℕ → ℕ
-width depth = min 4 (33 - 4 * depth)
+abbrev pub lengths_within : ℕ → ℕ
+lengths_within depth = min 4 (33 - 4 * depth)

@@ -1,9 +1,9 @@
 -- A look-up on its way down a tree.
 use Rattle.std.specs.Prelude.{ℕ, ◌≡◌, ◌*◌, ◌==◌, min, Option, Some, true, false, if◌then◌else◌}
 use Rattle.node_pool.specs.Pool.{cell}
-use Rattle.tree_bitmap.specs.Bits.{IsHighest}
-use Rattle.tree_bitmap.specs.Tree.{node_at, place_at}
-use Rattle.tree_bitmap.specs.Greatest.{GreatestBelow}
+use Rattle.bitmaps.specs.Bits.{IsHighest}
+use Rattle.tree_bitmap.specs.Tree.{path_node, path_place}
+use Rattle.bitmaps.specs.Greatest.{GreatestBelow}
 use Rattle.tree_bitmap.specs.Hit.{hit_place}
 use Rattle.tree_bitmap.specs.declared.tree.Tree.{Tree}
 use Rattle.tree_bitmap.specs.declared.node.Node.{Node}
@@ -25,10 +25,10 @@ root_lane addr = record { addr = addr; index = 0; hit = no_hit; live = true }
 
 -- the longest prefix that was found is the longest of the path that has a row, of those shorter than n
 abbrev pub IsBest : {A : Type 0} → Tree A → ℕ → ℕ → Hit → Type 0
-IsBest tree path n hit = (bit : Option ℕ) → IsHighest hit.matched bit → GreatestBelow (place_at (cell tree.pool.nodes) path) n (hit_place hit bit)
+IsBest tree path n hit = (bit : Option ℕ) → IsHighest 16 hit.matched bit → GreatestBelow (path_place (cell tree.pool.nodes) path) n (hit_place hit bit)
 
 -- the nodes above a depth have been read, or all that there are
-pub record IsLane {A : Type 0} (tree : Tree A) (depth : ℕ) (lane : Lane) : Type 0 where
-  pub at : lane.live ≡ true → node_at (cell tree.pool.nodes) (lane.addr * 16) depth ≡ Some lane.index
+pub record IsReadTo {A : Type 0} (tree : Tree A) (depth : ℕ) (lane : Lane) : Type 0 where
+  pub at : lane.live ≡ true → path_node (cell tree.pool.nodes) (lane.addr * 16) depth ≡ Some lane.index
   pub best : lane.live ≡ true → IsBest tree (lane.addr * 16) (min (4 * depth) 33) lane.hit
   pub done : lane.live ≡ false → IsBest tree (lane.addr * 16) 33 lane.hit

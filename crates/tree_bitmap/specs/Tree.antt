@@ -1,7 +1,8 @@
 -- What the cells of a tree mean. The cells are functions: `nodes j` is the node at j, or none where the cell is free.
 use Rattle.std.specs.Prelude.{◌*◌, List, ℕ, zero, suc, ◌≡◌, ◌≢◌, ◌⊎◌, ◌+◌, ◌/◌, ◌%◌, ◌^◌, ◌<◌, ◌≤◌, Option, Some, None, true, cond, eqb, is_some, option_and_then, count_ones}
 use Rattle.std.specs.Int.{bit_at}
-pub use Rattle.tree_bitmap.specs.Bits.{rank, nibble, path_start, internal_bit}
+use Rattle.bitmaps.specs.Bits.{rank}
+pub use Rattle.tree_bitmap.specs.Bits.{nibble, path_top, internal_bit}
 use Rattle.node_pool.specs.Pool.{cell, room}
 use Rattle.tree_bitmap.specs.declared.tree.Tree.{Tree}
 use Rattle.tree_bitmap.specs.declared.node.Node.{Node}
@@ -44,9 +45,9 @@ child_under nodes four None = None
 child_under nodes four (Some j) = child_by four (nodes j)
 
 -- where the node of a path stands at a depth; the root stands at 0
-unfoldable pub node_at : (ℕ → Option Node) → ℕ → ℕ → Option ℕ
-node_at nodes path zero = Some 0
-node_at nodes path (suc depth) = child_under nodes (nibble path depth) (node_at nodes path depth)
+unfoldable pub path_node : (ℕ → Option Node) → ℕ → ℕ → Option ℕ
+path_node nodes path zero = Some 0
+path_node nodes path (suc depth) = child_under nodes (nibble path depth) (path_node nodes path depth)
 
 -- where the result at a node's internal bit stands, if the bit is set
 unfoldable pub result_place : ℕ → Option Node → Option ℕ
@@ -63,12 +64,12 @@ node_cell nodes None = None
 node_cell nodes (Some j) = nodes j
 
 -- where the result of the prefix of a path's first `len` bits stands
-unfoldable pub place_at : (ℕ → Option Node) → ℕ → ℕ → Option ℕ
-place_at nodes path len = result_place (internal_bit (nibble path (len / 4)) (len % 4)) (node_cell nodes (node_at nodes path (len / 4)))
+unfoldable pub path_place : (ℕ → Option Node) → ℕ → ℕ → Option ℕ
+path_place nodes path len = result_place (internal_bit (nibble path (len / 4)) (len % 4)) (node_cell nodes (path_node nodes path (len / 4)))
 
 -- the entry of the prefix of a path's first `len` bits
-unfoldable pub row_at : (ℕ → Option Node) → (ℕ → Option Entry) → ℕ → ℕ → Option Entry
-row_at nodes results path len = option_and_then results (place_at nodes path len)
+unfoldable pub path_entry : (ℕ → Option Node) → (ℕ → Option Entry) → ℕ → ℕ → Option Entry
+path_entry nodes results path len = option_and_then results (path_place nodes path len)
 
 -- Each node's children and results are there, no two nodes share any, and the root is no one's child.
 pub record IsLaidOut (nodes : ℕ → Option Node) (results : ℕ → Option Entry) : Type 0 where
@@ -99,20 +100,20 @@ with_result a bit base = with_results a (a.internal + 2 ^ bit) base
 
 -- what a tree's rows are: from the path of an address and a length to an entry
 abbrev pub rows : {A : Type 0} → Tree A → ℕ → ℕ → Option Entry
-rows tree = row_at (cell tree.pool.nodes) (cell tree.pool.results)
+rows tree = path_entry (cell tree.pool.nodes) (cell tree.pool.results)
 
 -- the cells of a tree are sound
-abbrev pub IsSoundTree : {A : Type 0} → Tree A → Type 0
-IsSoundTree tree = IsLaidOut (cell tree.pool.nodes) (cell tree.pool.results)
+abbrev pub IsTreeLaidOut : {A : Type 0} → Tree A → Type 0
+IsTreeLaidOut tree = IsLaidOut (cell tree.pool.nodes) (cell tree.pool.results)
 
 -- where a tree's node for a path stands
 abbrev pub node_place : {A : Type 0} → Tree A → ℕ → ℕ → Option ℕ
-node_place tree = node_at (cell tree.pool.nodes)
+node_place tree = path_node (cell tree.pool.nodes)
 
 -- the row of a path's first `len` bits is this now, or gone, and all others stay
 pub record SetsRow (old new : ℕ → ℕ → Option Entry) (path len : ℕ) (entry : Option Entry) : Type 0 where
-  pub hit : (q : ℕ) → path_start q len ≡ path_start path len → new q len ≡ entry
-  pub miss : (q m : ℕ) → q < 2 ^ 36 → m < 36 → (m ≡ len → path_start q m ≡ path_start path m → ⊥) → new q m ≡ old q m
+  pub hit : (q : ℕ) → path_top q len ≡ path_top path len → new q len ≡ entry
+  pub miss : (q m : ℕ) → q < 2 ^ 36 → m < 36 → (m ≡ len → path_top q m ≡ path_top path m → ⊥) → new q m ≡ old q m
 
 -- what a call for a child takes: nothing where it was there (so its parent isn't blank); else a block of at most 16 cells, of one cell
 -- where the parent was blank, and the child is blank
@@ -122,9 +123,9 @@ IsChildCost old new index kid =
     ⊎ ((cell new.pool.nodes kid ≡ Some blank) × (room old.pool.nodes ≤ room new.pool.nodes + 16) × (cell old.pool.nodes index ≡ Some blank → room old.pool.nodes ≤ room new.pool.nodes + 1))
 
 -- the entry of a prefix's row, if it has one
-abbrev pub entry_in : {A : Type 0} → Tree A → Prefix → Option Entry
-entry_in tree p = rows tree (p.addr * 16) p.len
+abbrev pub tree_entry : {A : Type 0} → Tree A → Prefix → Option Entry
+tree_entry tree p = rows tree (p.addr * 16) p.len
 
 -- the rows of a tree, in the order of their prefixes
-abbrev pub rows_in : {A : Type 0} → Tree A → List (Prefix × Entry)
-rows_in tree = table_rows (entry_in tree)
+abbrev pub tree_rows : {A : Type 0} → Tree A → List (Prefix × Entry)
+tree_rows tree = table_rows (tree_entry tree)

@@ -21,13 +21,13 @@ pub struct Image<A: Allocator = Global> {
 
 impl<A: Allocator> Model for Image<A> {
     ghost use Rattle.network_model.specs.Publication.{Image as ImageRows};
-    ghost use Rattle.tree_bitmap.specs.Tree.{IsSoundTree, rows_in};
+    ghost use Rattle.tree_bitmap.specs.Tree.{IsTreeLaidOut, tree_rows};
 
     ghost Value = { ImageRows };
 
-    ghost view = { λ i. record { generation = i.generation; rows = rows_in i.tree } };
+    ghost view = { λ i. record { generation = i.generation; rows = tree_rows i.tree } };
 
-    ghost invariant = { λ i. IsSoundTree i.tree };
+    ghost invariant = { λ i. IsTreeLaidOut i.tree };
 }
 
 impl<A: Allocator> Image<A> {

@@ -2,9 +2,9 @@
 
 ghost use Rattle.std.specs.Prelude.{◌≡◌, ◌+◌, ◌*◌, ◌^◌, ◌<◌, ◌≤◌, true};
 ghost use Rattle.ipv4_prefix.specs.LongestMatch.{longest_match};
-ghost use Rattle.tree_bitmap.specs.Tree.{IsSoundTree, rows, rows_in};
-ghost use Rattle.tree_bitmap.specs.Greatest.{GreatestBelow};
-ghost use Rattle.tree_bitmap.specs.Lane.{IsLane, root_lane, longer_hit};
+ghost use Rattle.tree_bitmap.specs.Tree.{IsTreeLaidOut, rows, tree_rows};
+ghost use Rattle.bitmaps.specs.Greatest.{GreatestBelow};
+ghost use Rattle.tree_bitmap.specs.Lane.{IsReadTo, root_lane, longer_hit};
 
 use crate::node::{Node, covers, highest, is_set, length_of, nibble, rank};
 use crate::tree::{Tree, Visits, path_of};
@@ -67,11 +67,11 @@ impl Lane {
 
     /// Reads the next node, at a depth, where there is one, and counts it.
     pub(crate) fn descend<A: Allocator>(&mut self, tree: &Tree<A>, depth: u32, visits: &mut Visits)
-        requires sound { IsSoundTree tree.now }
+        requires sound { IsTreeLaidOut tree.now }
         requires deep { depth ≤ 8 }
         requires fits { visits.old.count + 1 < 2 ^ 64 }
-        requires lane { IsLane tree.now depth self.old }
-        ensures lane { IsLane tree.now (depth + 1) self.new }
+        requires lane { IsReadTo tree.now depth self.old }
+        ensures lane { IsReadTo tree.now (depth + 1) self.new }
         ensures addr { self.new.addr ≡ self.old.addr }
         ensures read { self.old.live ≡ true → visits.new.count ≡ visits.old.count + 1 }
         ensures few { visits.new.count ≤ visits.old.count + 1 }
@@ -93,11 +93,11 @@ impl Lane {
 
     /// Goes down as far as there are nodes: one to nine are read.
     pub(crate) fn descend_to_end<A: Allocator>(&mut self, tree: &Tree<A>, visits: &mut Visits)
-        requires sound { IsSoundTree tree.now }
+        requires sound { IsTreeLaidOut tree.now }
         requires fits { visits.old.count + 9 < 2 ^ 64 }
-        requires lane { IsLane tree.now 0 self.old }
+        requires lane { IsReadTo tree.now 0 self.old }
         requires live { self.old.live ≡ true }
-        ensures lane { IsLane tree.now 9 self.new }
+        ensures lane { IsReadTo tree.now 9 self.new }
         ensures addr { self.new.addr ≡ self.old.addr }
         ensures some { visits.old.count < visits.new.count }
         ensures few { visits.new.count ≤ visits.old.count + 9 }
@@ -112,8 +112,8 @@ impl Lane {
 
     /// What was found: the length and entry of the longest row on the path.
     pub(crate) fn found<A: Allocator>(&self, tree: &Tree<A>) -> Option<(u8, Entry)>
-        requires sound { IsSoundTree tree.now }
-        requires lane { IsLane tree.now 9 self.now }
+        requires sound { IsTreeLaidOut tree.now }
+        requires lane { IsReadTo tree.now 9 self.now }
         ensures { GreatestBelow (rows tree.now (self.now.addr * 16)) 33 result }
     {
         let bit = highest(self.hit.matched)?;
@@ -125,9 +125,9 @@ impl Lane {
 
     /// The answer.
     pub(crate) fn answer<A: Allocator>(&self, tree: &Tree<A>) -> Option<(Prefix, Entry)>
-        requires sound { IsSoundTree tree.now }
-        requires lane { IsLane tree.now 9 self.now }
-        ensures { result ≡ longest_match self.now.addr (rows_in tree.now) }
+        requires sound { IsTreeLaidOut tree.now }
+        requires lane { IsReadTo tree.now 9 self.now }
+        ensures { result ≡ longest_match self.now.addr (tree_rows tree.now) }
     {
         let (len, entry) = self.found(tree)?;
         Some((Prefix::covering(self.addr, len), entry))

@@ -2,7 +2,8 @@
 
 ghost use Rattle.std.specs.Prelude.{◌≡◌, ℕ, ◌+◌, ◌*◌, ◌^◌, ◌<◌, ◌≤◌, ◌↔◌, IsTrue, Option, Some, None, count_ones};
 ghost use Rattle.std.specs.Int.{bit_at};
-ghost use Rattle.tree_bitmap.specs.Bits.{rank, nibble, internal_bit, length_of, IsHighest, width};
+ghost use Rattle.bitmaps.specs.Bits.{rank, IsHighest};
+ghost use Rattle.tree_bitmap.specs.Bits.{nibble, internal_bit, length_of, lengths_within};
 
 /// A node of the tree: which prefixes end in it, which children it has, and where both stand.
 #[derive(Clone, Copy, Debug, PartialEq, Eq)]
@@ -105,7 +106,7 @@ pub(crate) fn covers(four: u32, depth: u32) -> u16
     requires small { four < 16 }
     requires deep { depth ≤ 8 }
     ensures { (k : ℕ) → k < 16 → bit_at result k ≡ 1
-        ↔ ((len : ℕ) × (len < width depth) × (k ≡ internal_bit four len)) }
+        ↔ ((len : ℕ) × (len < lengths_within depth) × (k ≡ internal_bit four len)) }
 {
     if depth == 8 {
         return 1;
@@ -115,7 +116,7 @@ pub(crate) fn covers(four: u32, depth: u32) -> u16
 
 /// The greatest bit that is set.
 pub(crate) fn highest(bits: u16) -> Option<u32>
-    ensures { IsHighest bits result }
+    ensures { IsHighest 16 bits result }
 {
     if bits == 0 {
         return None;

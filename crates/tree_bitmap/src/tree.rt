@@ -26,11 +26,11 @@ pub struct Visits {
 }
 
 impl<A: Allocator + Copy> Tree<A> {
-    ghost use Rattle.tree_bitmap.specs.Tree.{rows, rows_in, IsSoundTree};
+    ghost use Rattle.tree_bitmap.specs.Tree.{rows, tree_rows, IsTreeLaidOut};
 
     /// A tree with no rows.
     pub fn new(alloc: A) -> Result<Self, NoMemory>
-        ensures sound { IfOk result (λ t. IsSoundTree t) }
+        ensures sound { IfOk result (λ t. IsTreeLaidOut t) }
         ensures empty { IfOk result (λ t. (q : ℕ) → (m : ℕ) → rows t q m ≡ None) }
     {
         let mut pool = NodePool::new(alloc);
@@ -40,9 +40,9 @@ impl<A: Allocator + Copy> Tree<A> {
 
     /// A tree with the same rows, in memory of its own.
     pub fn copy(&self, alloc: A) -> Result<Self, NoMemory>
-        requires { IsSoundTree self.now }
-        ensures sound { IfOk result (λ tree. IsSoundTree tree) }
-        ensures rows { IfOk result (λ tree. rows_in tree ≡ rows_in self.now) }
+        requires { IsTreeLaidOut self.now }
+        ensures sound { IfOk result (λ tree. IsTreeLaidOut tree) }
+        ensures rows { IfOk result (λ tree. tree_rows tree ≡ tree_rows self.now) }
     {
         Ok(Tree {
             pool: self.pool.copy(alloc)?,
@@ -51,18 +51,18 @@ impl<A: Allocator + Copy> Tree<A> {
 }
 
 impl<A: Allocator> Tree<A> {
-    ghost use Rattle.tree_bitmap.specs.Tree.{nibble, internal_bit, rows, node_place, IsSoundTree, SetsRow, IsChildCost, blank};
-    ghost use Rattle.tree_bitmap.specs.Tree.{rows_in};
+    ghost use Rattle.tree_bitmap.specs.Tree.{nibble, internal_bit, rows, node_place, IsTreeLaidOut, SetsRow, IsChildCost, blank};
+    ghost use Rattle.tree_bitmap.specs.Tree.{tree_rows};
     ghost use Rattle.std.specs.FinMap.{put};
     ghost use Rattle.ipv4_prefix.specs.Prefix.{prefix_cmp};
     ghost use Rattle.network_model.specs.Publication.{with_rows};
 
     /// The place of the child on a path, which is made where there is none.
     fn child(&mut self, index: u32, path: u64, depth: u32) -> Result<u32, NoMemory>
-        requires sound { IsSoundTree self.old }
+        requires sound { IsTreeLaidOut self.old }
         requires at { node_place self.old path depth ≡ Some index }
         requires deep { depth < 8 }
-        ensures sound { IsSoundTree self.new }
+        ensures sound { IsTreeLaidOut self.new }
         ensures rows { (q : ℕ) → (m : ℕ) → rows self.new q m ≡ rows self.old q m }
         ensures ok { IfOk result (λ child. node_place self.new path (depth + 1) ≡ Some child) }
         ensures results { room self.new.pool.results ≡ room self.old.pool.results }
@@ -105,14 +105,14 @@ impl<A: Allocator> Tree<A> {
         depth: u32,
         len: u8,
     ) -> Result<(), NoMemory>
-        requires sound { IsSoundTree self.old }
+        requires sound { IsTreeLaidOut self.old }
         requires at { node_place self.old path depth ≡ Some index }
         requires deep { depth ≤ 8 }
         requires short { len < 4 }
         requires fits { path < 2 ^ 36 }
         requires bit { bit ≡ internal_bit (nibble path depth) len }
         requires small { bit < 15 }
-        ensures sound { IsSoundTree self.new }
+        ensures sound { IsTreeLaidOut self.new }
         ensures ok { OnOk result (SetsRow (rows self.old) (rows self.new) path
             (4 * depth + len) (Some entry)) }
         ensures err { OnErr result ((q : ℕ) → (m : ℕ) → rows self.new q m ≡ rows self.old q m) }
@@ -147,9 +147,9 @@ impl<A: Allocator> Tree<A> {
 
     /// Makes room for setting `count` rows.
     pub fn reserve(&mut self, count: usize) -> Result<(), NoMemory>
-        requires sound { IsSoundTree self.old }
-        ensures sound { IsSoundTree self.new }
-        ensures rows { rows_in self.new ≡ rows_in self.old }
+        requires sound { IsTreeLaidOut self.old }
+        ensures sound { IsTreeLaidOut self.new }
+        ensures rows { tree_rows self.new ≡ tree_rows self.old }
         ensures nodes { OnOk result (23 * count ≤ room self.new.pool.nodes) }
         ensures results { OnOk result (15 * count ≤ room self.new.pool.results) }
         ensures full { OnErr result
@@ -162,10 +162,10 @@ impl<A: Allocator> Tree<A> {
     /// Sets the row of a path's first `len` bits. It needs no memory where there is room for 23 nodes
     /// and 15 results.
     fn set(&mut self, path: u64, len: u8, entry: Entry) -> Result<(), NoMemory>
-        requires sound { IsSoundTree self.old }
+        requires sound { IsTreeLaidOut self.old }
         requires fits { path < 2 ^ 36 }
         requires short { len ≤ 32 }
-        ensures sound { IsSoundTree self.new }
+        ensures sound { IsTreeLaidOut self.new }
         ensures ok { OnOk result (SetsRow (rows self.old) (rows self.new) path len
             (Some entry)) }
         ensures err { OnErr result ((q : ℕ) → (m : ℕ) → rows self.new q m ≡ rows self.old q m) }
@@ -188,11 +188,11 @@ impl<A: Allocator> Tree<A> {
 
     /// Sets the row of a prefix. It needs no memory where there is room for 23 nodes and 15 results.
     pub fn set_row(&mut self, prefix: Prefix, entry: Entry) -> Result<(), NoMemory>
-        requires { IsSoundTree self.old }
-        ensures sound { IsSoundTree self.new }
-        ensures ok { OnOk result (rows_in self.new
-            ≡ put prefix_cmp prefix entry (rows_in self.old)) }
-        ensures err { OnErr result (rows_in self.new ≡ rows_in self.old) }
+        requires { IsTreeLaidOut self.old }
+        ensures sound { IsTreeLaidOut self.new }
+        ensures ok { OnOk result (tree_rows self.new
+            ≡ put prefix_cmp prefix entry (tree_rows self.old)) }
+        ensures err { OnErr result (tree_rows self.new ≡ tree_rows self.old) }
         ensures nodes_cost { OnOk result
             (room self.old.pool.nodes ≤ room self.new.pool.nodes + 23) }
         ensures results_cost { OnOk result
@@ -205,9 +205,9 @@ impl<A: Allocator> Tree<A> {
 
     /// Sets rows in order. It needs no memory where there is room for 23 nodes and 15 results a row.
     pub fn set_rows(&mut self, rows: &[(Prefix, Entry)]) -> Result<(), NoMemory>
-        requires { IsSoundTree self.old }
-        ensures sound { IsSoundTree self.new }
-        ensures ok { OnOk result (rows_in self.new ≡ with_rows rows.now (rows_in self.old)) }
+        requires { IsTreeLaidOut self.old }
+        ensures sound { IsTreeLaidOut self.new }
+        ensures ok { OnOk result (tree_rows self.new ≡ with_rows rows.now (tree_rows self.old)) }
         ensures full { 23 * length rows.now ≤ room self.old.pool.nodes
             → 15 * length rows.now ≤ room self.old.pool.results → IsOk result }
     {

@@ -1,9 +1,9 @@
 -- The words of a block, and what stays of them where words are written.
 use Rattle.std.proofs.Common.{ℕ, zero, suc, ◌≡◌, ◌≢◌, ◌+◌, ◌%◌, ◌<◌, ◌≤◌, List, [], ◌∷◌, length, take, set, get_or, Option, Some, None, arith, refl, sym, ap, ◌∙◌, cond}
 use Rattle.std.proofs.lemmas.Bool.{eq-eqb, ne_eqb}
-use Rattle.word_pool.specs.Heap.{size_of, word_of, with_word, first_of, IsTaken, IsGiven, IsWritten, IsSplit}
+use Rattle.word_pool.specs.Heap.{size_of, word_of, with_word, shortened, IsAllocated, IsFreed, IsWordWritten, IsSplit}
 use Rattle.word_pool.specs.Layout.{noted}
-use Rattle.word_pool.specs.Pool.{read, block_at}
+use Rattle.word_pool.specs.Pool.{read, sized_block}
 
 -- the block that was noted last has the size
 pub noted_here : (new rest : List ℕ) (p size : ℕ) → new ≡ p ∷ size ∷ rest → noted new p ≡ size
@@ -57,62 +57,62 @@ read_set f g b (suc n) (suc i) v l e same =
     ∙ ap (λ xs. f b ∷ xs) (read_set f g (b + 1) n i v (omega arith) (ap g z ∙ e) (λ k p. same k (λ x. p (omega arith))))
 
 -- where its words stay, a block stays
-pub block_same : (f g : ℕ → ℕ) (b s : ℕ) → ((k : ℕ) → b ≤ k → k < b + s → g k ≡ f k) → block_at g b s ≡ block_at f b s
-unfolding block_at
+pub block_same : (f g : ℕ → ℕ) (b s : ℕ) → ((k : ℕ) → b ≤ k → k < b + s → g k ≡ f k) → sized_block g b s ≡ sized_block f b s
+unfolding sized_block
 block_same f g b zero same = refl
 block_same f g b (suc n) same = ap Some (read_same f g b (suc n) same)
 
 -- it has as many words as its size says
-pub size-block_at : (f : ℕ → ℕ) (b s : ℕ) → size_of (block_at f b s) ≡ s
-unfolding block_at
-size-block_at f b zero = refl
-size-block_at f b (suc n) = length-read f b (suc n)
+pub size-sized_block : (f : ℕ → ℕ) (b s : ℕ) → size_of (sized_block f b s) ≡ s
+unfolding sized_block
+size-sized_block f b zero = refl
+size-sized_block f b (suc n) = length-read f b (suc n)
 
-pub word-block_at : (f : ℕ → ℕ) (b s i : ℕ) → i < s → word_of (block_at f b s) i ≡ f (b + i)
-unfolding block_at
-word-block_at f b zero i l = absurd (omega arith)
-word-block_at f b (suc n) i l = read_at f b (suc n) i l
+pub word-sized_block : (f : ℕ → ℕ) (b s i : ℕ) → i < s → word_of (sized_block f b s) i ≡ f (b + i)
+unfolding sized_block
+word-sized_block f b zero i l = absurd (omega arith)
+word-sized_block f b (suc n) i l = read_at f b (suc n) i l
 
 -- one of its words is written
-block_set : (f g : ℕ → ℕ) (b s i v : ℕ) → i < s → g (b + i) ≡ v → ((k : ℕ) → k ≢ b + i → g k ≡ f k) → block_at g b s ≡ with_word (block_at f b s) i v
-unfolding block_at
+block_set : (f g : ℕ → ℕ) (b s i v : ℕ) → i < s → g (b + i) ≡ v → ((k : ℕ) → k ≢ b + i → g k ≡ f k) → sized_block g b s ≡ with_word (sized_block f b s) i v
+unfolding sized_block
 block_set f g b zero i v l e same = absurd (omega arith)
 block_set f g b (suc n) i v l e same = ap Some (read_set f g b (suc n) i v l e same)
 
 -- a smaller block at its place has its first words
-block_first : (f : ℕ → ℕ) (b m s : ℕ) → 0 < m → m ≤ s → block_at f b m ≡ first_of (block_at f b s) m
-unfolding block_at
+block_first : (f : ℕ → ℕ) (b m s : ℕ) → 0 < m → m ≤ s → sized_block f b m ≡ shortened (sized_block f b s) m
+unfolding sized_block
 block_first f b zero s p l = absurd (omega arith)
 block_first f b (suc m) zero p l = absurd (omega arith)
 block_first f b (suc m) (suc n) p l = ap Some (read_take f b (suc m) (suc n) l)
 
 -- a block of no words is not there
-pub block_none : (f : ℕ → ℕ) (b s : ℕ) → s ≡ 0 → block_at f b s ≡ None
-unfolding block_at
-block_none f b s e = ap (λ x. block_at f b x) e
+pub block_none : (f : ℕ → ℕ) (b s : ℕ) → s ≡ 0 → sized_block f b s ≡ None
+unfolding sized_block
+block_none f b s e = ap (λ x. sized_block f b x) e
 
 -- the blocks in use whose sizes are `used`
 abbrev pub heap : (ℕ → ℕ) → (ℕ → ℕ) → ℕ → Option (List ℕ)
-heap words used b = block_at words b (used b)
+heap words used b = sized_block words b (used b)
 
 module _ (f g u v : ℕ → ℕ) where
   -- blocks keep their sizes and words
   pub heap_same : (b : ℕ) → v b ≡ u b → ((k : ℕ) → b ≤ k → k < b + u b → g k ≡ f k) → heap g v b ≡ heap f u b
-  heap_same b e same = ap (λ s. block_at g b s) e ∙ block_same f g b (u b) same
+  heap_same b e same = ap (λ s. sized_block g b s) e ∙ block_same f g b (u b) same
 
   -- a block has a size now
   pub heap_taken : (p s : ℕ) → p ≢ 0 → p % s ≡ 0 → u p ≡ 0 → v p ≡ s → ((b : ℕ) → b ≢ p → v b ≡ u b) → ((b k : ℕ) → b ≢ p → b ≤ k → k < b + u b → g k ≡ f k)
-      → IsTaken (heap f u) (heap g v) p s
+      → IsAllocated (heap f u) (heap g v) p s
   heap_taken p s some fits none size others same = record {
     not_zero = some;
     fresh = block_none f p (u p) none;
     aligned = fits;
-    sized = size-block_at g p (v p) ∙ size;
+    sized = size-sized_block g p (v p) ∙ size;
     others = λ b n. heap_same b (others b n) (λ k l h. same b k n l h);
   }
 
   -- a block has no size now
-  pub heap_given : (p : ℕ) → v p ≡ 0 → ((b : ℕ) → b ≢ p → v b ≡ u b) → ((b k : ℕ) → b ≢ p → b ≤ k → k < b + u b → g k ≡ f k) → IsGiven (heap f u) (heap g v) p
+  pub heap_given : (p : ℕ) → v p ≡ 0 → ((b : ℕ) → b ≢ p → v b ≡ u b) → ((b k : ℕ) → b ≢ p → b ≤ k → k < b + u b → g k ≡ f k) → IsFreed (heap f u) (heap g v) p
   heap_given p none others same = record {
     gone = block_none g p (v p) none;
     others = λ b n. heap_same b (others b n) (λ k l h. same b k n l h);
@@ -120,9 +120,9 @@ module _ (f g u v : ℕ → ℕ) where
 
   -- a word of a block is written
   pub heap_written : (p i w : ℕ) → i < u p → v p ≡ u p → ((b : ℕ) → b ≢ p → v b ≡ u b) → g (p + i) ≡ w → ((k : ℕ) → k ≢ p + i → g k ≡ f k)
-      → ((b k : ℕ) → b ≢ p → b ≤ k → k < b + u b → k ≢ p + i) → IsWritten (heap f u) (heap g v) p i w
+      → ((b k : ℕ) → b ≢ p → b ≤ k → k < b + u b → k ≢ p + i) → IsWordWritten (heap f u) (heap g v) p i w
   heap_written p i w l size others here stays same = record {
-    here = ap (λ s. block_at g p s) size ∙ block_set f g p (u p) i w l here stays;
+    here = ap (λ s. sized_block g p s) size ∙ block_set f g p (u p) i w l here stays;
     others = λ b n. heap_same b (others b n) (λ k x y. stays k (same b k n x y));
   }
 
@@ -130,8 +130,8 @@ module _ (f g u v : ℕ → ℕ) where
 pub heap_split : (f u v : ℕ → ℕ) (p s : ℕ) → 0 < s → u p ≡ s + s → v p ≡ s → u (p + s) ≡ 0 → v (p + s) ≡ s → ((b : ℕ) → b ≢ p → b ≢ p + s → v b ≡ u b)
     → IsSplit (heap f u) (heap f v) p s
 heap_split f u v p s some size low none high others = record {
-  here = ap (λ x. block_at f p x) low ∙ block_first f p s (u p) some (omega arith);
+  here = ap (λ x. sized_block f p x) low ∙ block_first f p s (u p) some (omega arith);
   fresh = block_none f (p + s) (u (p + s)) none;
-  upper = size-block_at f (p + s) (v (p + s)) ∙ high;
-  others = λ b n m. ap (λ x. block_at f b x) (others b n m);
+  upper = size-sized_block f (p + s) (v (p + s)) ∙ high;
+  others = λ b n m. ap (λ x. sized_block f b x) (others b n m);
 }

@@ -5,7 +5,7 @@ use Rattle.std.proofs.Math.Nat.{ℕ_set, div-add-mod, add-mul, mul-add, mul-one,
 use Rattle.std.specs.Coded.{le_prop}
 use Rattle.std.proofs.lemmas.Bool.{cases_eq, cases_lt, eq-eqb, ne_eqb}
 use Rattle.std.proofs.lemmas.Nat.{pow_pos}
-use Rattle.word_pool.specs.Layout.{width, IsLaid}
+use Rattle.word_pool.specs.Layout.{free_size, IsLaid}
 
 -- a function with one value changed
 put : {A : Type 0} → (ℕ → A) → ℕ → A → ℕ → A
@@ -27,7 +27,7 @@ mod_halves b s h =
     let low : b % s ≡ 0 = ap (λ x. x % s) (sym e) ∙ mul-mod_right s (q + q) in
     (low, ap (λ x. (b + x) % s) (sym (mul-one s)) ∙ add-mul-mod_self_left b s 1 ∙ low)
 
-pub width_some : (i : ℕ) → 0 < width i
+pub width_some : (i : ℕ) → 0 < free_size i
 width_some i = omega (arith, pow_pos i)
 
 module _ (words : ℕ → ℕ) (count : ℕ) (first many used : ℕ → ℕ) (w : IsLaid words count first many used) where
@@ -94,7 +94,7 @@ module _ (words : ℕ → ℕ) (count : ℕ) (first many used : ℕ → ℕ) (w 
 
   -- the first block of a list is in use now
   module _ (first' many' used' : ℕ → ℕ) (i : ℕ) (few : i < 6) (some : first i ≢ 0) (next : first' i ≡ words (first i)) (lists : (j : ℕ) → j ≢ i → first' j ≡ first j)
-      (less : many i ≡ many' i + 1) (counts : (j : ℕ) → j ≢ i → many' j ≡ many j) (now : used' (first i) ≡ width i) (others : (b : ℕ) → b ≢ first i → used' b ≡ used b) where
+      (less : many i ≡ many' i + 1) (counts : (j : ℕ) → j ≢ i → many' j ≡ many j) (now : used' (first i) ≡ free_size i) (others : (b : ℕ) → b ≢ first i → used' b ≡ used b) where
     taken : first i ≡ w.place i (many' i + 1)
     taken = w.head i few ∙ ap (w.place i) less
 
@@ -134,7 +134,7 @@ module _ (words : ℕ → ℕ) (count : ℕ) (first many used : ℕ → ℕ) (w 
     }
 
   -- a block in use is the first of a list now
-  module _ (words' first' many' used' : ℕ → ℕ) (i b : ℕ) (few : i < 6) (some : b ≢ 0) (size : used b ≡ width i) (next : words' b ≡ first i) (same : (k : ℕ) → k ≢ b → words' k ≡ words k)
+  module _ (words' first' many' used' : ℕ → ℕ) (i b : ℕ) (few : i < 6) (some : b ≢ 0) (size : used b ≡ free_size i) (next : words' b ≡ first i) (same : (k : ℕ) → k ≢ b → words' k ≡ words k)
       (now : first' i ≡ b) (lists : (j : ℕ) → j ≢ i → first' j ≡ first j) (more : many' i ≡ many i + 1) (counts : (j : ℕ) → j ≢ i → many' j ≡ many j) (gone : used' b ≡ 0) (others : (a : ℕ) → a ≢ b → used' a ≡ used a) where
     place' : ℕ → ℕ → ℕ
     place' = put w.place i (put (w.place i) (many i + 1) b)
@@ -181,7 +181,7 @@ module _ (words : ℕ → ℕ) (count : ℕ) (first many used : ℕ → ℕ) (w 
           (λ x. ap words' (new_place j h x.0 x.1) ∙ next ∙ w.head i few ∙ sym (ap (λ y. w.place y h) x.0 ∙ ap (w.place i) x.1) ∙ sym (old_place j h (let q = ap many x.0 in omega (arith, q, x.1))))
           (λ x. ap words' (old_place j (h + 1) (omega (arith, x))) ∙ same (w.place j (h + 1)) (other' j h x) ∙ w.link j h x ∙ sym (old_place j h (omega (arith, x)))) (longer j h l);
       free = λ j h l. ⊎_elim
-          (λ x. ap w.size (new_place j h x.0 x.1) ∙ w.in_use b in_use ∙ size ∙ sym (ap width x.0))
+          (λ x. ap w.size (new_place j h x.0 x.1) ∙ w.in_use b in_use ∙ size ∙ sym (ap free_size x.0))
           (λ x. ap w.size (old_place j (h + 1) (omega (arith, x))) ∙ w.free j h x) (longer j h l);
       unused = λ j h l. ⊎_elim
           (λ x. ap used' (new_place j h x.0 x.1) ∙ gone)
@@ -364,14 +364,14 @@ module _ (words : ℕ → ℕ) (count : ℕ) (first many used : ℕ → ℕ) (la
   pub head_unused : (i : ℕ) → i < 6 → first i ≢ 0 → used (first i) ≡ 0
   head_unused i l n = ∥∥₁_elim laid (ℕ_set _ _) (λ w. let f = headed w i l n in ap used f.0 ∙ w.unused i (many i - 1) f.1)
 
-  pub head_within : (i : ℕ) → i < 6 → first i ≢ 0 → first i + width i ≤ count
+  pub head_within : (i : ℕ) → i < 6 → first i ≢ 0 → first i + free_size i ≤ count
   head_within i l n = ∥∥₁_elim laid le_prop (λ w. let f = headed w i l n in
       let s = w.free i (many i - 1) f.1 in let p = width_some i in let y = w.within (w.place i (many i - 1 + 1)) (omega (arith, s, p)) in omega (arith, f.0, s, y))
 
-  pub head_aligned : (i : ℕ) → i < 6 → first i ≢ 0 → first i % width i ≡ 0
+  pub head_aligned : (i : ℕ) → i < 6 → first i ≢ 0 → first i % free_size i ≡ 0
   head_aligned i l n = ∥∥₁_elim laid (ℕ_set _ _) (λ w. let f = headed w i l n in
       let s = w.free i (many i - 1) f.1 in let p = width_some i in
-      ap (λ x. x % width i) f.0 ∙ ap (λ x. w.place i (many i - 1 + 1) % x) (sym s) ∙ w.aligned (w.place i (many i - 1 + 1)) (omega (arith, s, p)))
+      ap (λ x. x % free_size i) f.0 ∙ ap (λ x. w.place i (many i - 1 + 1) % x) (sym s) ∙ w.aligned (w.place i (many i - 1 + 1)) (omega (arith, s, p)))
 
   pub upper_unused : (b s : ℕ) → 0 < s → used b ≡ s + s → used (b + s) ≡ 0
   upper_unused b s p e = ⊎_elim
@@ -388,7 +388,7 @@ module _ (words : ℕ → ℕ) (count : ℕ) (first many used : ℕ → ℕ) (la
   zero_word k l = ∥∥₁_elim laid (ℕ_set _ _) (λ w. w.zeros k l)
 
 -- a free block lies behind the others
-module _ (words : ℕ → ℕ) (count : ℕ) (first many used first' many' : ℕ → ℕ) (i s : ℕ) (w : IsLaid words count first many used) (few : i < 6) (size : s ≡ width i) (fits : count % s ≡ 0)
+module _ (words : ℕ → ℕ) (count : ℕ) (first many used first' many' : ℕ → ℕ) (i s : ℕ) (w : IsLaid words count first many used) (few : i < 6) (size : s ≡ free_size i) (fits : count % s ≡ 0)
     (next : words count ≡ first i) (now : first' i ≡ count) (lists : (j : ℕ) → j ≢ i → first' j ≡ first j) (more : many' i ≡ many i + 1) (counts : (j : ℕ) → j ≢ i → many' j ≡ many j) where
   pub laid_more : IsLaid words (count + s) first' many' used
   laid_more =

@@ -1,16 +1,16 @@
 -- What a pool's blocks are by its words and by what was noted of them, and what one step does to them.
 use Rattle.std.proofs.Common.{ℕ, ◌≡◌, ◌≢◌, ◌+◌, ◌-◌, ◌%◌, ◌<◌, ◌≤◌, List, [], ◌∷◌, length, set, get_or, Some, arith, refl, sym, ap, ◌∙◌, vec_len, get_or-set_same, get_or-set_other}
 use Rattle.std.proofs.Math.Logic.{∥∥₁_map}
-use Rattle.word_pool.specs.Heap.{size_of, word_of, IsEmpty, IsTaken, IsGiven, IsWritten, IsSplit}
-use Rattle.word_pool.specs.Layout.{entry, noted, width, IsLaid}
-use Rattle.word_pool.specs.Pool.{blocks, block_at, read}
+use Rattle.word_pool.specs.Heap.{size_of, word_of, HasOnlyZeros, IsAllocated, IsFreed, IsWordWritten, IsSplit}
+use Rattle.word_pool.specs.Layout.{entry, noted, free_size, IsLaid}
+use Rattle.word_pool.specs.Pool.{blocks, sized_block, read}
 use Rattle.word_pool.specs.declared.pool.Pool.{Pool}
-use Rattle.word_pool.proofs.Blocks.{noted_here, noted_other, noted_start, block_none, heap, heap_taken, heap_given, heap_written, heap_split, size-block_at, word-block_at}
+use Rattle.word_pool.proofs.Blocks.{noted_here, noted_other, noted_start, block_none, heap, heap_taken, heap_given, heap_written, heap_split, size-sized_block, word-sized_block}
 use Rattle.word_pool.proofs.Laid.{width_some, laid_set, laid_pop, laid_push, laid_split, laid_grow, used_within, used_disjoint, head_some, head_unused, head_aligned, upper_unused, beyond_unused, zero_used, zero_word}
 
 -- four zeros
-four_zeros : (f : ℕ → ℕ) → ((k : ℕ) → k < 4 → f k ≡ 0) → block_at f 0 4 ≡ Some (0 ∷ 0 ∷ 0 ∷ 0 ∷ [])
-unfolding block_at read
+four_zeros : (f : ℕ → ℕ) → ((k : ℕ) → k < 4 → f k ≡ 0) → sized_block f 0 4 ≡ Some (0 ∷ 0 ∷ 0 ∷ 0 ∷ [])
+unfolding sized_block read
 four_zeros f z = ap (λ xs. Some xs) (ap (λ x. x ∷ f 1 ∷ f 2 ∷ f 3 ∷ []) (z 0 (omega arith)) ∙ ap (λ x. 0 ∷ x ∷ f 2 ∷ f 3 ∷ []) (z 1 (omega arith))
     ∙ ap (λ x. 0 ∷ 0 ∷ x ∷ f 3 ∷ []) (z 2 (omega arith)) ∙ ap (λ x. 0 ∷ 0 ∷ 0 ∷ x ∷ []) (z 3 (omega arith)))
 
@@ -22,7 +22,7 @@ module _ {A : Type 0} (pool : Pool A) where
   -- a block's size is what was noted last
   pub size-blocks : (b : ℕ) → size_of (blocks pool b) ≡ noted pool.used.numbers b
   unfolding blocks
-  size-blocks b = size-block_at (entry pool.words.items) b (noted pool.used.numbers b)
+  size-blocks b = size-sized_block (entry pool.words.items) b (noted pool.used.numbers b)
 
   -- the words of a block lie in the pool
   pub within-blocks : (b i : ℕ) → i < size_of (blocks pool b) → b + i < vec_len pool.words
@@ -33,18 +33,18 @@ module _ {A : Type 0} (pool : Pool A) where
   -- they are a block's words
   pub word-blocks : (b i : ℕ) → i < size_of (blocks pool b) → word_of (blocks pool b) i ≡ entry pool.words.items (b + i)
   unfolding blocks
-  word-blocks b i l = let s = size-blocks b in word-block_at (entry pool.words.items) b (noted pool.used.numbers b) i (omega (arith, s, l))
+  word-blocks b i l = let s = size-blocks b in word-sized_block (entry pool.words.items) b (noted pool.used.numbers b) i (omega (arith, s, l))
 
   -- at 0 there is always the block of four zeros
   pub zero_block : blocks pool 0 ≡ Some (0 ∷ 0 ∷ 0 ∷ 0 ∷ [])
   unfolding blocks
   zero_block =
       let z = zero_word (entry pool.words.items) (vec_len pool.words) (entry pool.free) (entry pool.spare.numbers) (noted pool.used.numbers) pool.laid in
-      ap (λ s. block_at (entry pool.words.items) 0 s) (zero_used (entry pool.words.items) (vec_len pool.words) (entry pool.free) (entry pool.spare.numbers) (noted pool.used.numbers) pool.laid)
+      ap (λ s. sized_block (entry pool.words.items) 0 s) (zero_used (entry pool.words.items) (vec_len pool.words) (entry pool.free) (entry pool.spare.numbers) (noted pool.used.numbers) pool.laid)
       ∙ four_zeros (entry pool.words.items) z
 
   -- it is the one block of a pool where no other was noted
-  pub empty_blocks : pool.used.numbers ≡ 0 ∷ 4 ∷ [] → IsEmpty (blocks pool)
+  pub empty_blocks : pool.used.numbers ≡ 0 ∷ 4 ∷ [] → HasOnlyZeros (blocks pool)
   unfolding blocks
   empty_blocks e = record { zeros = zero_block; others = λ b n. block_none (entry pool.words.items) b (noted pool.used.numbers b) (noted_start pool.used.numbers b e n) }
 
@@ -58,14 +58,14 @@ module _ (xs : List ℕ) (count : ℕ) (free counts numbers : List ℕ) (laid : 
   set_laid b i v n l = ∥∥₁_map laid (λ w. laid_set (entry xs) count (entry free) (entry counts) (noted numbers) w (entry (set xs (b + i) v)) b (b + i) n (omega (arith, l)) (omega arith) (omega (arith, l))
       (λ j m. get_or-set_other xs (b + i) j v 0 m))
 
-  pub set_written : (b i v : ℕ) → count ≡ length xs → i < noted numbers b → IsWritten (heap (entry xs) (noted numbers)) (heap (entry (set xs (b + i) v)) (noted numbers)) b i v
+  pub set_written : (b i v : ℕ) → count ≡ length xs → i < noted numbers b → IsWordWritten (heap (entry xs) (noted numbers)) (heap (entry (set xs (b + i) v)) (noted numbers)) b i v
   set_written b i v len l =
       let w = used_within (entry xs) count (entry free) (entry counts) (noted numbers) laid b (omega (arith, l)) in
       heap_written (entry xs) (entry (set xs (b + i) v)) (noted numbers) (noted numbers) b i v l refl (λ c n. refl)
       (get_or-set_same xs (b + i) v 0 (omega (arith, w, l, len))) (λ k n. get_or-set_other xs (b + i) k v 0 n) (λ c k n p q. apart b i c k l n p q)
 
   -- the first block of a list is taken
-  module _ (i s : ℕ) (few : i < 6) (size : s ≡ width i) (len : length free ≡ 6) (many : length counts ≡ 6) (some : entry free i ≢ 0) (new : List ℕ) (e : new ≡ entry free i ∷ s ∷ numbers) where
+  module _ (i s : ℕ) (few : i < 6) (size : s ≡ free_size i) (len : length free ≡ 6) (many : length counts ≡ 6) (some : entry free i ≢ 0) (new : List ℕ) (e : new ≡ entry free i ∷ s ∷ numbers) where
     pub pop_laid : (next : ℕ) (fewer : List ℕ) → next ≡ entry xs (entry free i) → fewer ≡ set counts i (entry counts i - 1)
         → ∥ IsLaid (entry xs) count (entry (set free i next)) (entry fewer) (noted new) ∥₁
     pop_laid next fewer is less =
@@ -76,14 +76,14 @@ module _ (xs : List ℕ) (count : ℕ) (free counts numbers : List ℕ) (laid : 
         (omega (arith, p, c)) (λ j n. ap (λ l. entry l j) less ∙ get_or-set_other counts i j (entry counts i - 1) 0 n)
         (noted_here new numbers (entry free i) s e ∙ size) (λ b n. noted_other new numbers (entry free i) s b e n))
 
-    pub pop_taken : IsTaken (heap (entry xs) (noted numbers)) (heap (entry xs) (noted new)) (entry free i) s
+    pub pop_taken : IsAllocated (heap (entry xs) (noted numbers)) (heap (entry xs) (noted new)) (entry free i) s
     pop_taken = heap_taken (entry xs) (entry xs) (noted numbers) (noted new) (entry free i) s some
         (ap (λ x. entry free i % x) size ∙ head_aligned (entry xs) count (entry free) (entry counts) (noted numbers) laid i few some)
         (head_unused (entry xs) count (entry free) (entry counts) (noted numbers) laid i few some)
         (noted_here new numbers (entry free i) s e) (λ b n. noted_other new numbers (entry free i) s b e n) (λ b k n p q. refl)
 
   -- a block is given back to a list
-  module _ (b i : ℕ) (few : i < 6) (len : length free ≡ 6) (many : length counts ≡ 6) (long : count ≡ length xs) (some : b ≢ 0) (size : noted numbers b ≡ width i) (new : List ℕ) (e : new ≡ b ∷ 0 ∷ numbers) where
+  module _ (b i : ℕ) (few : i < 6) (len : length free ≡ 6) (many : length counts ≡ 6) (long : count ≡ length xs) (some : b ≢ 0) (size : noted numbers b ≡ free_size i) (new : List ℕ) (e : new ≡ b ∷ 0 ∷ numbers) where
     in_use : 0 < noted numbers b
     in_use = let p = width_some i in omega (arith, size, p)
 
@@ -97,7 +97,7 @@ module _ (xs : List ℕ) (count : ℕ) (free counts numbers : List ℕ) (laid : 
         (ap (λ l. entry l i) is ∙ get_or-set_same counts i (entry counts i + 1) 0 (omega (arith, many, few))) (λ j n. ap (λ l. entry l j) is ∙ get_or-set_other counts i j (entry counts i + 1) 0 n)
         (noted_here new numbers b 0 e) (λ a n. noted_other new numbers b 0 a e n))
 
-    pub push_given : IsGiven (heap (entry xs) (noted numbers)) (heap (entry (set xs b (entry free i))) (noted new)) b
+    pub push_given : IsFreed (heap (entry xs) (noted numbers)) (heap (entry (set xs b (entry free i))) (noted new)) b
     push_given = heap_given (entry xs) (entry (set xs b (entry free i))) (noted numbers) (noted new) b
         (noted_here new numbers b 0 e) (λ a n. noted_other new numbers b 0 a e n)
         (λ c k n p q. get_or-set_other xs b k (entry free i) 0 (λ z. apart b 0 c k in_use n p q (omega (arith, z))))
@@ -128,7 +128,7 @@ module _ (xs : List ℕ) (count : ℕ) (free counts numbers : List ℕ) (laid : 
     pub grow_laid : (count' : ℕ) → count' ≡ count + s → ∥ IsLaid (entry ys) count' (entry free) (entry counts) (noted new) ∥₁
     grow_laid count' more = ∥∥₁_map laid (λ w. laid_grow (entry xs) count (entry free) (entry counts) (noted numbers) w (entry ys) (noted new) count' s some fits more same now others')
 
-    pub grow_taken : IsTaken (heap (entry xs) (noted numbers)) (heap (entry ys) (noted new)) p s
+    pub grow_taken : IsAllocated (heap (entry xs) (noted numbers)) (heap (entry ys) (noted new)) p s
     grow_taken =
         let z = zero_used (entry xs) count (entry free) (entry counts) (noted numbers) laid in
         let w = used_within (entry xs) count (entry free) (entry counts) (noted numbers) laid 0 (omega (arith, z)) in

@@ -1,7 +1,7 @@
 -- What a block's size and words are after a write, and in a block of its first words.
 use Rattle.std.proofs.Common.{ℕ, ◌≡◌, ◌≢◌, ◌<◌, ◌≤◌, List, Option, Some, None, arith, refl, get_or-set_same, get_or-set_other}
 use Rattle.std.proofs.lemmas.List.{length-set, length-take, get_or-take}
-use Rattle.word_pool.specs.Heap.{size_of, word_of, with_word, first_of}
+use Rattle.word_pool.specs.Heap.{size_of, word_of, with_word, shortened}
 
 pub size-with_word : (block : Option (List ℕ)) (i word : ℕ) → size_of (with_word block i word) ≡ size_of block
 size-with_word None i word = refl
@@ -15,10 +15,10 @@ pub word-with_word_other : (block : Option (List ℕ)) (i word j : ℕ) → j �
 word-with_word_other None i word j n = refl
 word-with_word_other (Some words) i word j n = get_or-set_other words i j word 0 n
 
-pub size-first_of : (block : Option (List ℕ)) (n : ℕ) → n ≤ size_of block → size_of (first_of block n) ≡ n
-size-first_of None n l = omega arith
-size-first_of (Some words) n l = omega (arith, length-take n words)
+pub size-shortened : (block : Option (List ℕ)) (n : ℕ) → n ≤ size_of block → size_of (shortened block n) ≡ n
+size-shortened None n l = omega arith
+size-shortened (Some words) n l = omega (arith, length-take n words)
 
-pub word-first_of : (block : Option (List ℕ)) (n i : ℕ) → i < n → word_of (first_of block n) i ≡ word_of block i
-word-first_of None n i l = refl
-word-first_of (Some words) n i l = get_or-take n words i 0 l
+pub word-shortened : (block : Option (List ℕ)) (n i : ℕ) → i < n → word_of (shortened block n) i ≡ word_of block i
+word-shortened None n i l = refl
+word-shortened (Some words) n i l = get_or-take n words i 0 l

@@ -3,7 +3,7 @@ use Rattle.std.proofs.Common.{ℕ, ◌≡◌, ◌≢◌, ◌⊎◌, ⊎_elim, �
 use Rattle.std.proofs.lemmas.Bool.{cases_lt}
 use Rattle.std.proofs.lemmas.Bool.Decides.{nat_tests}
 use Rattle.word_pool.specs.Heap.{is_size}
-use Rattle.word_pool.specs.Layout.{entry, noted, width}
+use Rattle.word_pool.specs.Layout.{entry, noted, free_size}
 use Rattle.word_pool.specs.Pool.{list_of_size, spare, HasSpare}
 use Rattle.word_pool.specs.declared.pool.Pool.{Pool}
 use Rattle.word_pool.proofs.Laid.{head_none}
@@ -18,15 +18,15 @@ by_six P a b c d e f n h =
     (⊎_elim (λ x. subst P (sym x) d) (⊎_elim (λ x. subst P (sym x) e) (λ x. subst P (sym x) f))))) (six n h)
 
 -- the blocks of a list have its size
-pub width_of : (n : ℕ) → IsTrue (is_size n) → n ≡ width (list_of_size n)
-width_of = by_six (λ n. n ≡ width (list_of_size n)) refl refl refl refl refl refl
+pub width_of : (n : ℕ) → IsTrue (is_size n) → n ≡ free_size (list_of_size n)
+width_of = by_six (λ n. n ≡ free_size (list_of_size n)) refl refl refl refl refl refl
 
 pub few_lists : (n : ℕ) → IsTrue (is_size n) → list_of_size n < 6
 few_lists = by_six (λ n. list_of_size n < 6) (omega arith) (omega arith) (omega arith) (omega arith) (omega arith) (omega arith)
 
 -- each size has a list of its own
 pub own_list : (s n : ℕ) → IsTrue (is_size s) → IsTrue (is_size n) → s ≢ n → list_of_size s ≢ list_of_size n
-own_list s n h k d e = d (width_of s h ∙ ap width e ∙ sym (width_of n k))
+own_list s n h k d e = d (width_of s h ∙ ap free_size e ∙ sym (width_of n k))
 
 -- a larger size is twice as large
 pub twice : (s n : ℕ) → IsTrue (is_size s) → IsTrue (is_size n) → s < n → s + s ≤ n

@@ -21,9 +21,9 @@ with_word None i word = None
 with_word (Some words) i word = Some (slice_set words i word)
 
 -- the first words of a block
-abbrev pub first_of : Option (List ℕ) → ℕ → Option (List ℕ)
-first_of None count = None
-first_of (Some words) count = Some (take count words)
+abbrev pub shortened : Option (List ℕ) → ℕ → Option (List ℕ)
+shortened None count = None
+shortened (Some words) count = Some (take count words)
 
 -- one of the sizes of blocks
 abbrev pub is_size : ℕ → Bool
@@ -38,12 +38,12 @@ abbrev pub SameOthers : Heap → Heap → ℕ → Type 0
 SameOthers old new block = (b : ℕ) → b ≢ block → new b ≡ old b
 
 -- there is only the block of four zeros at 0
-pub record IsEmpty (heap : Heap) : Type 0 where
+pub record HasOnlyZeros (heap : Heap) : Type 0 where
   pub zeros : heap 0 ≡ Some (0 ∷ 0 ∷ 0 ∷ 0 ∷ [])
   pub others : (b : ℕ) → b ≢ 0 → heap b ≡ None
 
 -- a block is in use that was not; which words it has, nothing says
-pub record IsTaken (old new : Heap) (block size : ℕ) : Type 0 where
+pub record IsAllocated (old new : Heap) (block size : ℕ) : Type 0 where
   pub not_zero : block ≢ 0
   pub fresh : old block ≡ None
   pub aligned : block % size ≡ 0
@@ -51,23 +51,23 @@ pub record IsTaken (old new : Heap) (block size : ℕ) : Type 0 where
   pub others : SameOthers old new block
 
 -- a block is in use no more
-pub record IsGiven (old new : Heap) (block : ℕ) : Type 0 where
+pub record IsFreed (old new : Heap) (block : ℕ) : Type 0 where
   pub gone : new block ≡ None
   pub others : SameOthers old new block
 
 -- a word of a block is written
-pub record IsWritten (old new : Heap) (block i word : ℕ) : Type 0 where
+pub record IsWordWritten (old new : Heap) (block i word : ℕ) : Type 0 where
   pub here : new block ≡ with_word (old block) i word
   pub others : SameOthers old new block
 
 -- a block keeps its first words
 pub record IsShortened (old new : Heap) (block size : ℕ) : Type 0 where
-  pub here : new block ≡ first_of (old block) size
+  pub here : new block ≡ shortened (old block) size
   pub others : SameOthers old new block
 
 -- a block keeps its first words, and from there on another block is in use
 pub record IsSplit (old new : Heap) (block half : ℕ) : Type 0 where
-  pub here : new block ≡ first_of (old block) half
+  pub here : new block ≡ shortened (old block) half
   pub fresh : old (block + half) ≡ None
   pub upper : size_of (new (block + half)) ≡ half
   pub others : (b : ℕ) → b ≢ block → b ≢ block + half → new b ≡ old b

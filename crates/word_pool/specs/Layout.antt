@@ -12,8 +12,8 @@ noted (p ∷ []) b = 0
 noted (p ∷ size ∷ rest) b = if p == b then size else noted rest b
 
 -- the size of the free blocks of a list
-abbrev pub width : ℕ → ℕ
-width i = 4 * 2 ^ i
+abbrev pub free_size : ℕ → ℕ
+free_size i = 4 * 2 ^ i
 
 -- Words are in blocks that lie apart, each at a multiple of its size, in use (`used` is their size) or free. The list `i` links the `many i` free blocks of its size by their first words: they are numbered from the end, and the number 0 is the end. The block of four zeros at 0 is always in use.
 pub record IsLaid (words : ℕ → ℕ) (count : ℕ) (first many used : ℕ → ℕ) : Type 0 where
@@ -26,7 +26,7 @@ pub record IsLaid (words : ℕ → ℕ) (count : ℕ) (first many used : ℕ →
   pub head : (i : ℕ) → i < 6 → first i ≡ place i (many i)
   pub last : (i : ℕ) → place i 0 ≡ 0
   pub link : (i h : ℕ) → h < many i → words (place i (h + 1)) ≡ place i h
-  pub free : (i h : ℕ) → h < many i → size (place i (h + 1)) ≡ width i
+  pub free : (i h : ℕ) → h < many i → size (place i (h + 1)) ≡ free_size i
   pub unused : (i h : ℕ) → h < many i → used (place i (h + 1)) ≡ 0
   pub distinct : (i j g h : ℕ) → g < many i → h < many j → place i (g + 1) ≡ place j (h + 1) → (i ≡ j) × (g ≡ h)
   pub zero_used : used 0 ≡ 4

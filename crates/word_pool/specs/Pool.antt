@@ -10,9 +10,9 @@ read words b zero = []
 read words b (suc n) = words b ∷ read words (b + 1) n
 
 -- a block of a size; none where the size is 0
-unfoldable pub block_at : (ℕ → ℕ) → ℕ → ℕ → Option (List ℕ)
-block_at words b zero = None
-block_at words b (suc n) = Some (read words b (suc n))
+unfoldable pub sized_block : (ℕ → ℕ) → ℕ → ℕ → Option (List ℕ)
+sized_block words b zero = None
+sized_block words b (suc n) = Some (read words b (suc n))
 
 -- which list has the free blocks of a size
 abbrev pub list_of_size : ℕ → ℕ
@@ -21,7 +21,7 @@ list_of_size n = if n == 4 then 0 else (if n == 8 then 1 else (if n == 16 then 2
 module _ {A : Type 0} where
   -- the words of the block in use that begins at a place, or none
   unfoldable pub blocks : Pool A → Heap
-  blocks pool b = block_at (entry pool.words.items) b (noted pool.used.numbers b)
+  blocks pool b = sized_block (entry pool.words.items) b (noted pool.used.numbers b)
 
   -- how many free blocks of a size there are
   unfoldable pub spare : Pool A → ℕ → ℕ
@@ -44,13 +44,13 @@ module _ {A : Type 0} where
   capacity pool = min (vec_capacity pool.words) (2 ^ 32)
 
   -- how many groups of 128 words can be added without memory
-  abbrev pub room : Pool A → ℕ
-  room pool = (capacity pool - word_count pool) / 128
+  abbrev pub groups_left : Pool A → ℕ
+  groups_left pool = (capacity pool - word_count pool) / 128
 
   -- no word was added
-  pub record IsNoLarger (old new : Pool A) : Type 0 where
+  pub record AddsNoWord (old new : Pool A) : Type 0 where
     pub count : word_count new ≡ word_count old
-    pub same_room : room new ≡ room old
+    pub same_room : groups_left new ≡ groups_left old
 
   -- the free blocks stay, but those of one size
   abbrev pub SameSpare : Pool A → Pool A → ℕ → Type 0
@@ -61,7 +61,7 @@ module _ {A : Type 0} where
     pub same : SameBlocks (blocks old) (blocks new)
     pub free : (s : ℕ) → spare new s ≡ spare old s
     pub count : word_count new ≡ word_count old
-    pub no_less : room old ≤ room new
+    pub no_less : groups_left old ≤ groups_left new
 
   -- another pool has the same blocks in use and the same free blocks
   pub record HasSameBlocks (one other : Pool A) : Type 0 where

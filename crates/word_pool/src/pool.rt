@@ -1,8 +1,8 @@
 //! A pool of words, in which blocks are taken and given back.
 
 ghost use Rattle.std.specs.Prelude.{◌≡◌, ◌≢◌, ℕ, ◌+◌, ◌*◌, ◌/◌, ◌%◌, ◌<◌, ◌≤◌, ◌^◌, ◌↔◌, IsTrue, IfOk, OnOk, OnErr, IsOk, vec_len, vec_capacity, length};
-ghost use Rattle.word_pool.specs.Heap.{is_size, size_of, word_of, IsEmpty, IsTaken, IsGiven, IsWritten, IsShortened, IsSplit};
-ghost use Rattle.word_pool.specs.Layout.{entry, noted, width, IsLaid};
+ghost use Rattle.word_pool.specs.Heap.{is_size, size_of, word_of, HasOnlyZeros, IsAllocated, IsFreed, IsWordWritten, IsShortened, IsSplit};
+ghost use Rattle.word_pool.specs.Layout.{entry, noted, free_size, IsLaid};
 
 use crate::known::{again, first_block, first_group, note, one_fewer, one_more};
 use boxcar::tag::Tag;
@@ -47,12 +47,12 @@ impl<A: Allocator> fmt::Debug for Pool<A> {
 }
 
 impl<A: Allocator> Pool<A> {
-    ghost use Rattle.word_pool.specs.Pool.{blocks, spare, free_words, list_of_size, word_count, capacity, room};
-    ghost use Rattle.word_pool.specs.Pool.{HasSpare, IsNoLarger, SameSpare, KeepsBlocks, HasSameBlocks};
+    ghost use Rattle.word_pool.specs.Pool.{blocks, spare, free_words, list_of_size, word_count, capacity, groups_left};
+    ghost use Rattle.word_pool.specs.Pool.{HasSpare, AddsNoWord, SameSpare, KeepsBlocks, HasSameBlocks};
 
     /// A pool with no block in use but the one at 0. It has 128 words.
     pub fn new(alloc: A) -> Result<Self, NoMemory>
-        ensures empty { IfOk result (λ pool. IsEmpty (blocks pool)) }
+        ensures empty { IfOk result (λ pool. HasOnlyZeros (blocks pool)) }
         ensures free { IfOk result (λ pool. 4 + free_words pool ≡ word_count pool) }
     {
         let mut words = Vec::new(alloc);
@@ -119,8 +119,8 @@ impl<A: Allocator> Pool<A> {
     pub fn set_word(&mut self, block: u32, i: usize, word: u32)
         requires not_zero { block ≢ 0 }
         requires inside { i < size_of (blocks self.old block) }
-        ensures written { IsWritten (blocks self.old) (blocks self.new) block i word }
-        ensures no_larger { IsNoLarger self.old self.new }
+        ensures written { IsWordWritten (blocks self.old) (blocks self.new) block i word }
+        ensures no_larger { AddsNoWord self.old self.new }
         ensures free { (s : ℕ) → spare self.new s ≡ spare self.old s }
     {
         self.words[block as usize + i] = word;
@@ -130,16 +130,16 @@ impl<A: Allocator> Pool<A> {
     /// no word is added: a larger one is halved until it fits. Else the pool grows by 128 words.
     pub fn take(&mut self, size: usize) -> Result<u32, NoMemory>
         requires { IsTrue (is_size size) }
-        ensures ok { IfOk result (λ block. IsTaken (blocks self.old) (blocks self.new) block size) }
+        ensures ok { IfOk result (λ block. IsAllocated (blocks self.old) (blocks self.new) block size) }
         ensures err { OnErr result (KeepsBlocks self.old self.new) }
-        ensures again { HasSpare self.old size → IsOk result × IsNoLarger self.old self.new }
+        ensures again { HasSpare self.old size → IsOk result × AddsNoWord self.old self.new }
 
         // The words that were free, and those that were added, are in the block or free.
         ensures words { OnOk result (size + free_words self.new + word_count self.old
             ≡ free_words self.old + word_count self.new) }
 
         // Where 128 words more can be added without memory, a take succeeds.
-        ensures full { OnErr result (room self.old ≡ 0) }
+        ensures full { OnErr result (groups_left self.old ≡ 0) }
     {
         let list = Self::list_of(size);
         if self.free[list] != 0 {
@@ -158,8 +158,8 @@ impl<A: Allocator> Pool<A> {
         requires not_zero { block ≢ 0 }
         requires one_of_six { IsTrue (is_size size) }
         requires used { size_of (blocks self.old block) ≡ size }
-        ensures given { IsGiven (blocks self.old) (blocks self.new) block }
-        ensures no_larger { IsNoLarger self.old self.new }
+        ensures given { IsFreed (blocks self.old) (blocks self.new) block }
+        ensures no_larger { AddsNoWord self.old self.new }
         ensures one_more { spare self.new size ≡ spare self.old size + 1 }
         ensures others { SameSpare self.old self.new size }
         ensures words { free_words self.new ≡ free_words self.old + size }
@@ -178,7 +178,7 @@ impl<A: Allocator> Pool<A> {
         requires large { 4 < size }
         requires used { size_of (blocks self.old block) ≡ size }
         ensures shortened { IsShortened (blocks self.old) (blocks self.new) block (size / 2) }
-        ensures no_larger { IsNoLarger self.old self.new }
+        ensures no_larger { AddsNoWord self.old self.new }
         ensures one_more { spare self.new (size / 2) ≡ spare self.old (size / 2) + 1 }
         ensures others { SameSpare self.old self.new (size / 2) }
         ensures words { free_words self.new ≡ free_words self.old + size / 2 }
@@ -193,7 +193,7 @@ impl<A: Allocator> Pool<A> {
         requires { IsTrue (is_size size) }
         ensures few { result < 6 }
         ensures list { result ≡ list_of_size size }
-        ensures size { size ≡ width result }
+        ensures size { size ≡ free_size result }
     {
         match size {
             4 => 0,
@@ -210,8 +210,8 @@ impl<A: Allocator> Pool<A> {
         requires one_of_six { IsTrue (is_size size) }
         requires list { list ≡ list_of_size size }
         requires some { entry self.old.free list ≢ 0 }
-        ensures taken { IsTaken (blocks self.old) (blocks self.new) result size }
-        ensures no_larger { IsNoLarger self.old self.new }
+        ensures taken { IsAllocated (blocks self.old) (blocks self.new) result size }
+        ensures no_larger { AddsNoWord self.old self.new }
         ensures words { size + free_words self.new ≡ free_words self.old }
     {
         let block = self.free[list];
@@ -224,11 +224,11 @@ impl<A: Allocator> Pool<A> {
     // Adds a block of 128 words behind the others. Where there is no room for it, the pool gets more.
     #[tactic(auto, unfolding(crate::specs::Pool::spare))]
     fn grow(&mut self) -> Result<u32, NoMemory>
-        ensures ok { IfOk result (λ block. IsTaken (blocks self.old) (blocks self.new) block 128) }
+        ensures ok { IfOk result (λ block. IsAllocated (blocks self.old) (blocks self.new) block 128) }
         ensures err { OnErr result (KeepsBlocks self.old self.new) }
         ensures free { (s : ℕ) → spare self.new s ≡ spare self.old s }
         ensures longer { OnOk result (word_count self.new ≡ word_count self.old + 128) }
-        ensures full { OnErr result (room self.old ≡ 0) }
+        ensures full { OnErr result (groups_left self.old ≡ 0) }
     {
         let len = self.words.len();
         if MOST_WORDS - len < GROUP {
@@ -248,7 +248,7 @@ impl<A: Allocator> Pool<A> {
         requires used { size_of (blocks self.old block) ≡ half + half }
         ensures place { result ≡ block + half }
         ensures split { IsSplit (blocks self.old) (blocks self.new) block half }
-        ensures no_larger { IsNoLarger self.old self.new }
+        ensures no_larger { AddsNoWord self.old self.new }
         ensures free { (s : ℕ) → spare self.new s ≡ spare self.old s }
     {
         let upper = block + half as u32;

@@ -9,7 +9,7 @@ use Rattle.link_fifo.specs.declared.refusal.LinkRefusal.{LinkRefusal}
 use Rattle.link_fifo.specs.Refusals.{refusal_to_come_up, refusal_to_change, front_of, sent_in, step_refusal, IsDoneUnless, AnswersPut}
 use Rattle.link_fifo.proofs.Changes.{front_of-Some}
 use Rattle.router_core.specs.Router.{is_port_up, CanTake}
-use Rattle.world.specs.Kept.{LeadsTo, IsWorld}
+use Rattle.world.specs.Kept.{ItemsLead, IsWorld}
 use Rattle.router_core.specs.Room.{ItemNeedsMemory, MeetingNeedsMemory}
 use Rattle.world.specs.Steps.{DeliveryNeedsMemory, IsDoneOr, IsPort, port_refusal, prefix_refusal, is_stale, TakingNeedsMemory}
 use Rattle.world.proofs.Steps.{next-kept}
@@ -189,14 +189,14 @@ front_is : (e : End) (o : Option Link) (k : Link) (item : Item) → o ≡ Some k
 front_is e o k item is answer = front_of-Some e k item (sym (ap (front_of e) is) ∙ answer)
 
 -- a port takes the front item of what leads from it to its link
-takes : (ports : List Port) (q : ℕ) (x : Port) (link : Bool) (items : List Item) (item : Item) → slice_get ports q ≡ Some x → slice_get items 0 ≡ Some item → LeadsTo x.up link items → CanTake ports q item
+takes : (ports : List Port) (q : ℕ) (x : Port) (link : Bool) (items : List Item) (item : Item) → slice_get ports q ≡ Some x → slice_get items 0 ≡ Some item → ItemsLead x.up link items → CanTake ports q item
 takes ports q x link [] item at none leads = absurd (None_not_Some none)
 takes ports q x link (y ∷ ys) item at some leads = subst (λ z. CanTake ports q z) (Some_injective some) (by_item y leads)
   where
     up_is : is_port_up ports q ≡ x.up
     up_is = ap (λ o. option_map_or (λ (p : Port). p.up) o false) at
 
-    by_item : (y : Item) → LeadsTo x.up link (y ∷ ys) → CanTake ports q y
+    by_item : (y : Item) → ItemsLead x.up link (y ∷ ys) → CanTake ports q y
     by_item (Item.Up session cost) leads = up_is ∙ leads.0
     by_item (Item.Down session) leads = up_is ∙ leads.0
     by_item (Item.Cost session cost) leads = up_is ∙ leads.0

@@ -2,7 +2,7 @@
 use Rattle.std.proofs.Common.{refl, sym, ap, ◌∙◌, arith, add-one, ◌≡◌, ℕ, suc, ◌+◌, ◌<◌, ◌≤◌, Bool, true, false, not, ◌&&◌, nat_le, List, [], ◌∷◌, ◌++◌, take, drop, length, get_or, Option, Some, None, is_some, if◌then◌else◌, true≢false, lt-ltb, le-leb, length-take-le}
 use Rattle.std.proofs.Math.Seq.{take-suc, drop-cons}
 use Rattle.no_packet_loops.proofs.Common.{drop_all, list_any, has_same_ends, Prefix, LinkSpec, NetworkFault, BadRouters, BadLink, TooManyLinks, BadOwner, first_cause, link_causes, attachment_causes, is_bad_link, is_link_too_many, is_bad_attachment, network_fault, Limits, first_cause-some, first_cause-none}
-use Rattle.world.specs.Parts.{network_of}
+use Rattle.world.specs.Parts.{network_of_parts}
 
 -- ---- causes before others
 
@@ -101,12 +101,12 @@ attachment_causes_from-end limits routers attachments i past = ap (λ xs. first_
 
 -- with a number of routers that can be, the first fault is that of the links or, after them, of the attachments
 module _ (limits : Limits) (routers : ℕ) (links : List LinkSpec) (attachments : List (Prefix × ℕ × ℕ)) (some : 0 < routers) (few : routers ≤ limits.routers) where
-  fault_of_parts : network_fault limits (network_of routers links attachments) ≡ first_cause (link_causes limits routers [] links ++ attachment_causes limits routers [] attachments)
+  fault_of_parts : network_fault limits (network_of_parts routers links attachments) ≡ first_cause (link_causes limits routers [] links ++ attachment_causes limits routers [] attachments)
   fault_of_parts = ap (λ b. if not b then Some BadRouters else first_cause (link_causes limits routers [] links ++ attachment_causes limits routers [] attachments))
       (ap (λ b. b && nat_le routers limits.routers) (lt-ltb 0 routers some) ∙ le-leb routers limits.routers few)
 
-  pub fault_of_link : (fault : NetworkFault) → first_cause (link_causes limits routers [] links) ≡ Some fault → network_fault limits (network_of routers links attachments) ≡ Some fault
+  pub fault_of_link : (fault : NetworkFault) → first_cause (link_causes limits routers [] links) ≡ Some fault → network_fault limits (network_of_parts routers links attachments) ≡ Some fault
   fault_of_link fault is = fault_of_parts ∙ first_cause-some (link_causes limits routers [] links) (attachment_causes limits routers [] attachments) fault is
 
-  pub fault_of_attachments : first_cause (link_causes limits routers [] links) ≡ None → network_fault limits (network_of routers links attachments) ≡ first_cause (attachment_causes limits routers [] attachments)
+  pub fault_of_attachments : first_cause (link_causes limits routers [] links) ≡ None → network_fault limits (network_of_parts routers links attachments) ≡ first_cause (attachment_causes limits routers [] attachments)
   fault_of_attachments none = fault_of_parts ∙ first_cause-none (link_causes limits routers [] links) (attachment_causes limits routers [] attachments) none

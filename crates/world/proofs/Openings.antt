@@ -1,7 +1,7 @@
 -- A network that opens has ports and links that fit together.
 use Rattle.std.proofs.Common.{refl, sym, ap, subst, ◌∙◌, arith, ◌≡◌, ℕ, ◌<◌, false, List, [], map, length, Option, Some, None, slice_get, option_and_then, option_map, get_or}
 use Rattle.no_packet_loops.proofs.Common.{length-map, length-map-range_with_len, slice_get-map, slice_get-get_or, slice_get_within, End, A, B, LinkSpec, Place, Port, Link, Router, Network, side, place_at, places_from, opening, opening_link, opening_port, opening_router_of, costs_of, Some_injective, None_not_Some, listed_within, router_end, ports_before, IsPort, place_to_IsPort}
-use Rattle.world.specs.Kept.{LeadsTo, IsWorld}
+use Rattle.world.specs.Kept.{ItemsLead, IsWorld}
 
 -- a part of an option that is there
 part_of : {A B : Type 0} (f : A → Option B) (o : Option A) (y : B) → option_and_then f o ≡ Some y → (x : A) × (o ≡ Some x) × (f x ≡ Some y)
@@ -46,11 +46,11 @@ opening-kept n = record {
       let port : _ = mapped_of (opening_port (map opening_link n.links)) (slice_get (places_from 0 i n.links) q) x
       (sym (slice_get-map (opening_port (map opening_link n.links)) (places_from 0 i n.links) q) ∙ ap (λ (y : Router). slice_get y.ports q) (sym (opening_router_at n i r is_router)) ∙ is_port) in
       let link : _ = mapped_of opening_link (slice_get n.links p.link) k (sym (slice_get-map opening_link n.links p.link) ∙ is_link) in
-      subst (λ (y : Port). LeadsTo y.up k.up (side p.end k).inbox) (sym port.2)
-      (subst (λ (y : Link). LeadsTo false y.up (side p.end y).inbox) (sym link.2) (by_end p.end link.0));
+      subst (λ (y : Port). ItemsLead y.up k.up (side p.end k).inbox) (sym port.2)
+      (subst (λ (y : Link). ItemsLead false y.up (side p.end y).inbox) (sym link.2) (by_end p.end link.0));
 }
   where
-    by_end : (e : End) (s : LinkSpec) → LeadsTo false (opening_link s).up (side e (opening_link s)).inbox
+    by_end : (e : End) (s : LinkSpec) → ItemsLead false (opening_link s).up (side e (opening_link s)).inbox
     by_end A s = refl
     by_end B s = refl
 

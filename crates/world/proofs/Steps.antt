@@ -3,7 +3,7 @@ use Rattle.std.proofs.Common.{refl, sym, ap, subst, ◌∙◌, ◌≡◌, ℕ, z
 use Rattle.no_packet_loops.proofs.Common.{option_map_or, Item, End, Place, Port, changed_at, Side, Link, Router, Attachments, World, place_at, link_at, side, Lawful, next, link_come_up, link_gone_down, with_cost, with_message, with_front_taken, changed_link, changed_router, changed_attachments, with_delivered, with_noticed, with_released, with_attachment, without_attachment, with_notice_taken, router_accepting, router_at_home, router_publishing, router_releasing, front_at, notice_at, release_at, length-changed_at, slice_get-changed_at, slice_get-changed_at_other, option_map_or-ind, Some_injective, None_not_Some}
 use Rattle.network_model.specs.declared.step.Step.{Step}
 use Rattle.network_model.specs.declared.step.Step.TheVariants.{LinkUp, LinkDown, SetCost, Deliver, Publish, Release, Attach, Detach}
-use Rattle.world.specs.Kept.{LeadsTo, IsWorld}
+use Rattle.world.specs.Kept.{ItemsLead, IsWorld}
 use Rattle.world.proofs.Inboxes.{KeepsLeading, come_up-keeps, gone_down-keeps, with_cost-keeps, with_message-keeps}
 
 -- ---- what stands at a place of a changed list
@@ -49,19 +49,19 @@ with_link-kept l f w keeps h = record {
 }
   where
     by_link : (i q : ℕ) (r : Router) (x : Port) (p : Place) (k : Link) → slice_get w.routers i ≡ Some r → slice_get r.ports q ≡ Some x → place_at w i q ≡ Some p
-        → IsChanged f l p.link w.links k → LeadsTo x.up k.up (side p.end k).inbox
+        → IsChanged f l p.link w.links k → ItemsLead x.up k.up (side p.end k).inbox
     by_link i q r x p k is_router is_port at c = by_test (p.link == l) refl
       where
-        before : LeadsTo x.up c.old.up (side p.end c.old).inbox
+        before : ItemsLead x.up c.old.up (side p.end c.old).inbox
         before = h.inboxes i q r x p c.old is_router is_port at c.there
 
-        by_test : (b : Bool) → (p.link == l) ≡ b → LeadsTo x.up k.up (side p.end k).inbox
+        by_test : (b : Bool) → (p.link == l) ≡ b → ItemsLead x.up k.up (side p.end k).inbox
         by_test true same =
             let here : p.link ≡ l = eqb-true p.link l same in
-            subst (λ (y : Link). LeadsTo x.up y.up (side p.end y).inbox) (sym (c.here here)) (keeps c.old (ap (slice_get w.links) (sym here) ∙ c.there) p.end x.up before)
+            subst (λ (y : Link). ItemsLead x.up y.up (side p.end y).inbox) (sym (c.here here)) (keeps c.old (ap (slice_get w.links) (sym here) ∙ c.there) p.end x.up before)
         by_test false differ =
             let apart : p.link ≡ l → ⊥ = λ e. true≢false (sym (eq-eqb p.link l e) ∙ differ) in
-            subst (λ (y : Link). LeadsTo x.up y.up (side p.end y).inbox) (sym (c.elsewhere apart)) before
+            subst (λ (y : Link). ItemsLead x.up y.up (side p.end y).inbox) (sym (c.elsewhere apart)) before
 
 -- the world with the link at a port changed
 changed_link-kept : (i q : ℕ) (f : End → Link → Link) (w : World) → ((p : Place) (k : Link) → place_at w i q ≡ Some p → slice_get w.links p.link ≡ Some k → KeepsLeading (f p.end) k) → IsWorld w → IsWorld (changed_link i q f w)
@@ -125,7 +125,7 @@ ports-accepting q (Item.Cost session cost) r = refl
 ports-accepting q (Item.Message m) r = sym (changed_at-id q r.ports)
 
 -- the rest of the items leads on from the port as it is then
-leads_on : (x : Port) (link : Bool) (item : Item) (rest : List Item) → LeadsTo x.up link (item ∷ rest) → LeadsTo (port_taking item x).up link rest
+leads_on : (x : Port) (link : Bool) (item : Item) (rest : List Item) → ItemsLead x.up link (item ∷ rest) → ItemsLead (port_taking item x).up link rest
 leads_on x link (Item.Up session cost) rest h = h.1
 leads_on x link (Item.Down session) rest h = h.1
 leads_on x link (Item.Cost session cost) rest h = h.1
@@ -158,35 +158,35 @@ module _ (i q : ℕ) (p : Place) (item : Item) (w : World) (h : IsWorld w) (at :
 
   -- another place sees its link as before
   other_place : (port : Bool) (x : Place) (k : Link) → (x ≡ p → ⊥) → (c : IsChanged (with_front_taken p.end) p.link x.link w.links k)
-      → LeadsTo port c.old.up (side x.end c.old).inbox → LeadsTo port k.up (side x.end k).inbox
+      → ItemsLead port c.old.up (side x.end c.old).inbox → ItemsLead port k.up (side x.end k).inbox
   other_place port x k apart c before = by_test (x.link == p.link) refl
     where
-      by_test : (b : Bool) → (x.link == p.link) ≡ b → LeadsTo port k.up (side x.end k).inbox
+      by_test : (b : Bool) → (x.link == p.link) ≡ b → ItemsLead port k.up (side x.end k).inbox
       by_test true same =
           let links : x.link ≡ p.link = eqb-true x.link p.link same in
           let ends : x.end ≡ p.end → ⊥ = λ e. apart (same_place x links e) in
-          subst (λ (y : Link). LeadsTo port y.up (side x.end y).inbox) (sym (c.here links))
-          (subst (λ b. LeadsTo port b (side x.end (with_front_taken p.end c.old)).inbox) (sym (front_taken-up p.end c.old))
-          (subst (λ (s : Side). LeadsTo port c.old.up s.inbox) (sym (front_taken-across p.end x.end c.old ends)) before))
+          subst (λ (y : Link). ItemsLead port y.up (side x.end y).inbox) (sym (c.here links))
+          (subst (λ b. ItemsLead port b (side x.end (with_front_taken p.end c.old)).inbox) (sym (front_taken-up p.end c.old))
+          (subst (λ (s : Side). ItemsLead port c.old.up s.inbox) (sym (front_taken-across p.end x.end c.old ends)) before))
       by_test false differ =
           let elsewhere : x.link ≡ p.link → ⊥ = λ e. true≢false (sym (eq-eqb x.link p.link e) ∙ differ) in
-          subst (λ (y : Link). LeadsTo port y.up (side x.end y).inbox) (sym (c.elsewhere elsewhere)) before
+          subst (λ (y : Link). ItemsLead port y.up (side x.end y).inbox) (sym (c.elsewhere elsewhere)) before
 
   -- the port itself has the rest of the items before it
-  taken_rest : (x : Port) (link : Bool) (items : List Item) → slice_get items 0 ≡ Some item → LeadsTo x.up link items → LeadsTo (port_taking item x).up link (drop 1 items)
+  taken_rest : (x : Port) (link : Bool) (items : List Item) → slice_get items 0 ≡ Some item → ItemsLead x.up link items → ItemsLead (port_taking item x).up link (drop 1 items)
   taken_rest x link [] none leads = absurd (None_not_Some none)
-  taken_rest x link (y ∷ ys) some leads = leads_on x link item ys (subst (λ (z : Item). LeadsTo x.up link (z ∷ ys)) (Some_injective some) leads)
+  taken_rest x link (y ∷ ys) some leads = leads_on x link item ys (subst (λ (z : Item). ItemsLead x.up link (z ∷ ys)) (Some_injective some) leads)
 
-  own_place : (x : Port) (k : Link) → (c : IsChanged (with_front_taken p.end) p.link p.link w.links k) → LeadsTo x.up c.old.up (side p.end c.old).inbox
-      → LeadsTo (port_taking item x).up k.up (side p.end k).inbox
+  own_place : (x : Port) (k : Link) → (c : IsChanged (with_front_taken p.end) p.link p.link w.links k) → ItemsLead x.up c.old.up (side p.end c.old).inbox
+      → ItemsLead (port_taking item x).up k.up (side p.end k).inbox
   own_place x k c before =
-      subst (λ (y : Link). LeadsTo (port_taking item x).up y.up (side p.end y).inbox) (sym (c.here refl))
-      (subst (λ b. LeadsTo (port_taking item x).up b (side p.end (with_front_taken p.end c.old)).inbox) (sym (front_taken-up p.end c.old))
-      (subst (λ xs. LeadsTo (port_taking item x).up c.old.up xs) (sym (front_taken-here p.end c.old))
+      subst (λ (y : Link). ItemsLead (port_taking item x).up y.up (side p.end y).inbox) (sym (c.here refl))
+      (subst (λ b. ItemsLead (port_taking item x).up b (side p.end (with_front_taken p.end c.old)).inbox) (sym (front_taken-up p.end c.old))
+      (subst (λ xs. ItemsLead (port_taking item x).up c.old.up xs) (sym (front_taken-here p.end c.old))
       (taken_rest x c.old.up (side p.end c.old).inbox (front c.old c.there) before)))
 
   taking-inboxes : (j t : ℕ) (r : Router) (x : Port) (y : Place) (k : Link) → slice_get taking.routers j ≡ Some r → slice_get r.ports t ≡ Some x
-      → place_at w j t ≡ Some y → slice_get taking.links y.link ≡ Some k → LeadsTo x.up k.up (side y.end k).inbox
+      → place_at w j t ≡ Some y → slice_get taking.links y.link ≡ Some k → ItemsLead x.up k.up (side y.end k).inbox
   taking-inboxes j t r x y k is_router is_port at_y is_link = by_router (j == i) refl
     where
       c : IsChanged (router_accepting q item) i j w.routers r
@@ -195,24 +195,24 @@ module _ (i q : ℕ) (p : Place) (item : Item) (w : World) (h : IsWorld w) (at :
       l : IsChanged (with_front_taken p.end) p.link y.link w.links k
       l = changed_element (with_front_taken p.end) p.link y.link w.links k is_link
 
-      before : (z : Port) → slice_get c.old.ports t ≡ Some z → LeadsTo z.up l.old.up (side y.end l.old).inbox
+      before : (z : Port) → slice_get c.old.ports t ≡ Some z → ItemsLead z.up l.old.up (side y.end l.old).inbox
       before z there = h.inboxes j t c.old z y l.old c.there there at_y l.there
 
-      by_port : (here : j ≡ i) → (d : IsChanged (port_taking item) q t c.old.ports x) → (b : Bool) → (t == q) ≡ b → LeadsTo x.up k.up (side y.end k).inbox
+      by_port : (here : j ≡ i) → (d : IsChanged (port_taking item) q t c.old.ports x) → (b : Bool) → (t == q) ≡ b → ItemsLead x.up k.up (side y.end k).inbox
       by_port here d true same =
           let port_is : t ≡ q = eqb-true t q same in
           let place_is : y ≡ p = Some_injective (sym at_y ∙ ap (λ n. place_at w n t) here ∙ ap (place_at w i) port_is ∙ at) in
-          let own : (z : Place) → z ≡ p → (m : IsChanged (with_front_taken p.end) p.link z.link w.links k) → LeadsTo d.old.up m.old.up (side z.end m.old).inbox → LeadsTo x.up k.up (side z.end k).inbox
-          = λ z is. subst (λ (v : Place). (m : IsChanged (with_front_taken p.end) p.link v.link w.links k) → LeadsTo d.old.up m.old.up (side v.end m.old).inbox → LeadsTo x.up k.up (side v.end k).inbox) (sym is)
-          (λ m leads. subst (λ (z : Port). LeadsTo z.up k.up (side p.end k).inbox) (sym (d.here port_is)) (own_place d.old k m leads))
+          let own : (z : Place) → z ≡ p → (m : IsChanged (with_front_taken p.end) p.link z.link w.links k) → ItemsLead d.old.up m.old.up (side z.end m.old).inbox → ItemsLead x.up k.up (side z.end k).inbox
+          = λ z is. subst (λ (v : Place). (m : IsChanged (with_front_taken p.end) p.link v.link w.links k) → ItemsLead d.old.up m.old.up (side v.end m.old).inbox → ItemsLead x.up k.up (side v.end k).inbox) (sym is)
+          (λ m leads. subst (λ (z : Port). ItemsLead z.up k.up (side p.end k).inbox) (sym (d.here port_is)) (own_place d.old k m leads))
           in
           own y place_is l (before d.old d.there)
       by_port here d false differ =
           let apart : t ≡ q → ⊥ = λ e. true≢false (sym (eq-eqb t q e) ∙ differ) in
-          subst (λ (z : Port). LeadsTo z.up k.up (side y.end k).inbox) (sym (d.elsewhere apart))
+          subst (λ (z : Port). ItemsLead z.up k.up (side y.end k).inbox) (sym (d.elsewhere apart))
           (other_place d.old.up y k (λ e. apart (h.places_apart j t i q p (at_y ∙ ap Some e) at).1) l (before d.old d.there))
 
-      by_router : (b : Bool) → (j == i) ≡ b → LeadsTo x.up k.up (side y.end k).inbox
+      by_router : (b : Bool) → (j == i) ≡ b → ItemsLead x.up k.up (side y.end k).inbox
       by_router true same =
           let here : j ≡ i = eqb-true j i same in
           let ports : slice_get (changed_at q (port_taking item) c.old.ports) t ≡ Some x

@@ -11,8 +11,8 @@ use Rattle.network_model.specs.World.{Network, Link, Router, Attachments, World,
 use Rattle.network_model.specs.Network.{degree}
 
 -- a network of its parts
-abbrev pub network_of : ℕ → List LinkSpec → List (Prefix × ℕ × ℕ) → Network
-network_of routers links attachments = record { routers = routers; links = links; attachments = attachments }
+abbrev pub network_of_parts : ℕ → List LinkSpec → List (Prefix × ℕ × ℕ) → Network
+network_of_parts routers links attachments = record { routers = routers; links = links; attachments = attachments }
 
 -- the network has no more of anything than these limits allow: routers, links, links of one router, prefixes, attachments
 pub record HasAtMost (limits : Limits) (n : Network) : Type 0 where
@@ -27,5 +27,5 @@ abbrev pub attachments_of : List (Prefix × ℕ) → List Notice → Attachments
 attachments_of costs notices = record { costs = costs; notices = notices }
 
 -- a world of its parts
-abbrev pub world_of : {A : Type 0} → List (Vec Place A) → List Link → List Prefix → List Attachments → List Router → World
-world_of places links prefixes attachments routers = record { places = map (λ v. v.items) places; links = links; prefixes = prefixes; attachments = attachments; routers = routers }
+abbrev pub world_of_parts : {A : Type 0} → List (Vec Place A) → List Link → List Prefix → List Attachments → List Router → World
+world_of_parts places links prefixes attachments routers = record { places = map (λ v. v.items) places; links = links; prefixes = prefixes; attachments = attachments; routers = routers }

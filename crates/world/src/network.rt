@@ -5,7 +5,7 @@ ghost use Rattle.ipv4_prefix.specs.Prefix.{IsPrefix};
 ghost use Rattle.metric.specs.Distance.{IsCost};
 ghost use Rattle.network_model.specs.World.{prefixes_of};
 ghost use Rattle.network_model.specs.Network as valid;
-ghost use Rattle.world.specs.Parts.{network_of, HasAtMost};
+ghost use Rattle.world.specs.Parts.{network_of_parts, HasAtMost};
 
 use crate::attachment_faults::prefix_count;
 use crate::link_faults::link_fault;
@@ -27,13 +27,13 @@ impl Model for Network {
     ghost use Rattle.std.specs.Prelude.{◌≡◌, length};
     ghost use Rattle.network_model.specs.World.{Network as Parts, prefixes_of};
     ghost use Rattle.network_model.specs.Network.{IsNetwork};
-    ghost use Rattle.world.specs.Parts.{network_of};
+    ghost use Rattle.world.specs.Parts.{network_of_parts};
 
     ghost Value = { Parts };
 
-    ghost view = { λ n. network_of n.routers n.links.items n.attachments.items };
+    ghost view = { λ n. network_of_parts n.routers n.links.items n.attachments.items };
 
-    ghost invariant = { λ n. IsNetwork (network_of n.routers n.links.items n.attachments.items)
+    ghost invariant = { λ n. IsNetwork (network_of_parts n.routers n.links.items n.attachments.items)
         × (n.prefixes ≡ length (prefixes_of n.attachments.items)) };
 }
 
@@ -47,12 +47,12 @@ impl Network {
         links: Vec<LinkSpec>,
         attachments: Vec<(Prefix, u16, Cost)>,
     ) -> Result<Network, NetworkFault>
-        ensures made { IfOk result (λ n. n ≡ network_of routers links.items attachments.items) }
+        ensures made { IfOk result (λ n. n ≡ network_of_parts routers links.items attachments.items) }
         ensures cause { MatchOption (valid.network_fault valid.program_limits
-            (network_of routers links.items attachments.items)) (IsOk result)
+            (network_of_parts routers links.items attachments.items)) (IsOk result)
             (λ fault. result ≡ Err fault) }
         ensures few { OnOk result (HasAtMost valid.program_limits
-            (network_of routers links.items attachments.items)) }
+            (network_of_parts routers links.items attachments.items)) }
     {
         Network::within(Limits::PROGRAM, usize::from(routers), links, attachments)
     }
@@ -66,12 +66,12 @@ impl Network {
         attachments: Vec<(Prefix, u16, Cost)>,
     ) -> Result<Network, NetworkFault>
         requires { valid.AreWithin limits valid.widest_limits }
-        ensures made { IfOk result (λ n. n ≡ network_of routers links.items attachments.items) }
+        ensures made { IfOk result (λ n. n ≡ network_of_parts routers links.items attachments.items) }
         ensures cause { MatchOption (valid.network_fault limits
-            (network_of routers links.items attachments.items)) (IsOk result)
+            (network_of_parts routers links.items attachments.items)) (IsOk result)
             (λ fault. result ≡ Err fault) }
         ensures few { OnOk result (HasAtMost limits
-            (network_of routers links.items attachments.items)) }
+            (network_of_parts routers links.items attachments.items)) }
     {
         if routers == 0 || routers > limits.routers {
             return Err(NetworkFault::BadRouters);

@@ -49,15 +49,15 @@ pub struct World<A: SmallAllocator = Global> {
 
 impl<A: SmallAllocator> Model for World<A> {
     ghost use Rattle.network_model.specs.World.{World as NetworkWorld};
-    ghost use Rattle.world.specs.Parts.{world_of};
+    ghost use Rattle.world.specs.Parts.{world_of_parts};
     ghost use Rattle.world.specs.Kept.{IsWorld};
 
     ghost Value = { NetworkWorld };
 
-    ghost view = { λ w. world_of w.places.items w.links.links w.prefixes.items w.attachments.items w.routers.items };
+    ghost view = { λ w. world_of_parts w.places.items w.links.links w.prefixes.items w.attachments.items w.routers.items };
 
     ghost invariant = { λ w. IsWorld
-        (world_of w.places.items w.links.links w.prefixes.items w.attachments.items w.routers.items) };
+        (world_of_parts w.places.items w.links.links w.prefixes.items w.attachments.items w.routers.items) };
 }
 
 impl<A: SmallAllocator> World<A> {

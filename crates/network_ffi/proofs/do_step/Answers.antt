@@ -1,14 +1,14 @@
 use Rattle.std.proofs.Common.{rules, ◌≡◌, Result, Ok, Err, Option, None, Some, IfErr, inr, sym, ap, subst}
 use Rattle.simulation.specs.Simulation.{Simulation}
 use Rattle.network_calls.specs.Calls.{HeldNeedsMemory, IsDoneOrFails, StepNeedsMemory, running_fault, step_fault}
-use Rattle.network_calls.specs.Failures.{failure_number, IsStatusOnlyBy}
+use Rattle.network_calls.specs.Failures.{failure_number, IsStatusOnlyByFailure}
 use Rattle.network_calls.specs.Steps.{step_of}
 use Rattle.network_ffi.specs.Handles.{handle_network}
 use Rattle.network_calls.specs.declared.failure.Failure.{Failure}
 use Rattle.network_ffi.proofs.do_step.Goals as goal
 
 -- what a network refuses is told by its number
-status_of : (Needs : Type 0) (o : Option Failure) (r : Result (Unit {0}) Failure) → IsDoneOrFails o Needs r → IfErr r (λ f. IsStatusOnlyBy o Needs (failure_number f))
+status_of : (Needs : Type 0) (o : Option Failure) (r : Result (Unit {0}) Failure) → IsDoneOrFails o Needs r → IfErr r (λ f. IsStatusOnlyByFailure o Needs (failure_number f))
 status_of Needs None (Ok x) h = tt
 status_of Needs None (Err f) h = inr (ap failure_number h.0, h.1)
 status_of Needs (Some e) (Ok x) h = tt
@@ -19,7 +19,7 @@ pub returns-clause-err : goal.returns-clause-err
 returns-clause-err c =
     let b : Simulation = c.deref_mut.result.now in
     let is_held : handle_network c.args.network.now ≡ Some b = search rules in
-    subst (λ (o : Option Simulation). IfErr c.read_and_step-outcome.result (λ f. IsStatusOnlyBy (step_fault c.args.parts o) (HeldNeedsMemory (step_of c.args.parts) o) (failure_number f))) (sym is_held)
+    subst (λ (o : Option Simulation). IfErr c.read_and_step-outcome.result (λ f. IsStatusOnlyByFailure (step_fault c.args.parts o) (HeldNeedsMemory (step_of c.args.parts) o) (failure_number f))) (sym is_held)
     (status_of (StepNeedsMemory (step_of c.args.parts) b.world) (running_fault c.args.parts b) c.read_and_step-outcome.result c.read_and_step-outcome.ensures.cause)
 
 pub returns-in-Err-clause-stepped : goal.returns-in-Err-clause-stepped

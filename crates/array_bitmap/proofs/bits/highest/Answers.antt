@@ -2,8 +2,8 @@ use Rattle.std.proofs.Common.{ℕ, ◌≡◌, ◌-◌, ◌^◌, ◌<◌, ◌≤�
 use Rattle.std.specs.Int.Count.{count_leading_zeros, leading_unique}
 use Rattle.std.specs.Int.Bits.{or_zero_l}
 use Rattle.std.proofs.lemmas.Nat.{leading_top, leading_length, or_lt, le_or_l, le_or_r}
-use Rattle.array_bitmap.specs.Bits.{IsHighest}
-use Rattle.array_bitmap.proofs.Covering.{highest_bit}
+use Rattle.bitmaps.specs.Bits.{IsHighest}
+use Rattle.bitmaps.proofs.HighestBit.{highest_bit}
 use Rattle.array_bitmap.proofs.bits.highest.Goals as goal
 
 -- the lowest bit is set, so not all 64 are zeros
@@ -36,4 +36,4 @@ returns-clause-some c = λ n.
     let a = c.args.bits in
     let some : 0 < c.args.bits = omega (arith, n) in
     let small : c.args.bits < 2 ^ 64 = omega (arith, c.ranges.bits) in
-    subst (λ z. IsHighest a (Some (63 - z))) (sym (zeros_with_one c.args.bits some small)) (highest_bit c.args.bits some small)
+    subst (λ z. IsHighest 64 a (Some (63 - z))) (sym (zeros_with_one c.args.bits some small)) (highest_bit 64 c.args.bits some small)

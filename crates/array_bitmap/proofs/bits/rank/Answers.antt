@@ -1,6 +1,6 @@
 use Rattle.std.proofs.Common.{◌-◌, ◌≤◌, count_ones, bit_and, ap, ◌∙◌, subst, sym}
 use Rattle.std.proofs.lemmas.Nat.{one_shl, and_mask}
-use Rattle.array_bitmap.proofs.Ranks.{rank_small}
+use Rattle.bitmaps.proofs.Ranks.{rank_small}
 use Rattle.array_bitmap.proofs.bits.rank.Goals as goal
 
 pub returns : goal.returns

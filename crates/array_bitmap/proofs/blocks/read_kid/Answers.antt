@@ -2,37 +2,37 @@ use Rattle.std.proofs.Common.{◌≡◌, ◌+◌, arith, ap, sym, ◌∙◌, sli
 use Rattle.std.specs.Int.{bit_at}
 use Rattle.word_pool.specs.Heap.{size_of, word_of}
 use Rattle.word_pool.specs.Pool.{blocks}
-use Rattle.array_bitmap.specs.Bits.{rank}
-use Rattle.array_bitmap.specs.Blocks.{kids_of, kid_index}
-use Rattle.array_bitmap.specs.Tree.{words_of}
+use Rattle.bitmaps.specs.Bits.{rank}
+use Rattle.array_bitmap.specs.Blocks.{kid_map, kid_index}
+use Rattle.array_bitmap.specs.Tree.{words_in_block}
 use Rattle.array_bitmap.proofs.Picks.{times_one, picked_inside}
-use Rattle.array_bitmap.proofs.Ranks.{rank_lt}
+use Rattle.bitmaps.proofs.Ranks.{rank_lt}
 use Rattle.array_bitmap.proofs.Walks.{kid-set, kid-clear}
 use Rattle.array_bitmap.proofs.PoolWords.{block_head, block_holds, word_listed}
 use Rattle.array_bitmap.proofs.blocks.read_kid.Goals as goal
 
 pub word-requires : goal.word-requires
 word-requires g c =
-    let ws = words_of (blocks c.args.pool.now c.args.block) in
+    let ws = words_in_block (blocks c.args.pool.now c.args.block) in
     let some = block_head (blocks c.args.pool.now) c.args.block c.requires.is_block in
     picked_inside (3 + c.count.result + c.rank.result) c.bit-there.result (size_of (blocks c.args.pool.now c.args.block)) c.bit-there.ensures.bound (omega (arith, some))
     (λ one.
-    let set : bit_at (kids_of ws) c.args.five ≡ 1 = ap (λ n. bit_at n c.args.five) (sym c.requires.head.kids) ∙ sym c.bit-there.ensures.value ∙ one in
+    let set : bit_at (kid_map ws) c.args.five ≡ 1 = ap (λ n. bit_at n c.args.five) (sym c.requires.head.kids) ∙ sym c.bit-there.ensures.value ∙ one in
     omega (
       arith,
       c.count.ensures.value,
       ap count_ones c.requires.head.rows,
       c.rank.ensures.value,
       ap (λ n. rank n c.args.five) c.requires.head.kids,
-      rank_lt (kids_of ws) c.args.five set,
+      rank_lt (kid_map ws) c.args.five set,
       block_holds (blocks c.args.pool.now) c.args.block c.requires.is_block,
     ))
 
 pub returns-clause-some : goal.returns-clause-some
 returns-clause-some g c = λ one.
     let o = blocks c.args.pool.now c.args.block in
-    let ws = words_of (blocks c.args.pool.now c.args.block) in
-    let set : bit_at (kids_of ws) c.args.five ≡ 1 = ap (λ n. bit_at n c.args.five) (sym c.requires.head.kids) ∙ sym c.bit-there.ensures.value ∙ one in
+    let ws = words_in_block (blocks c.args.pool.now c.args.block) in
+    let set : bit_at (kid_map ws) c.args.five ≡ 1 = ap (λ n. bit_at n c.args.five) (sym c.requires.head.kids) ∙ sym c.bit-there.ensures.value ∙ one in
     let index : 3 + c.count.result + c.rank.result ≡ kid_index ws c.args.five =
     omega (arith, c.count.ensures.value, ap count_ones c.requires.head.rows, c.rank.ensures.value, ap (λ n. rank n c.args.five) c.requires.head.kids) in
     c.word.ensures ∙ ap (word_of (blocks c.args.pool.now c.args.block)) (times_one (3 + c.count.result + c.rank.result) c.bit-there.result one)
@@ -40,5 +40,5 @@ returns-clause-some g c = λ one.
 
 pub returns-clause-none : goal.returns-clause-none
 returns-clause-none g c = λ zero.
-    let ws = words_of (blocks c.args.pool.now c.args.block) in
+    let ws = words_in_block (blocks c.args.pool.now c.args.block) in
     kid-clear ws c.args.five (λ h. let one : c.bit-there.result ≡ 1 = c.bit-there.ensures.value ∙ ap (λ n. bit_at n c.args.five) c.requires.head.kids ∙ h in absurd (omega (arith, one, zero)))

@@ -1,10 +1,10 @@
 use Rattle.std.proofs.Common.{◌≡◌, ◌+◌, ◌≤◌, ◌^◌, arith, ap, ◌∙◌, count_ones}
 use Rattle.std.specs.Int.{bit_at}
 use Rattle.word_pool.specs.Pool.{blocks}
-use Rattle.array_bitmap.specs.Bits.{rank}
-use Rattle.array_bitmap.specs.Blocks.{kids_of, kid_index, used_words}
-use Rattle.array_bitmap.specs.Tree.{words_of}
-use Rattle.array_bitmap.proofs.Ranks.{rank_le, add_lt}
+use Rattle.bitmaps.specs.Bits.{rank}
+use Rattle.array_bitmap.specs.Blocks.{kid_map, kid_index, used_words}
+use Rattle.array_bitmap.specs.Tree.{words_in_block}
+use Rattle.bitmaps.proofs.Ranks.{rank_le, add_lt}
 use Rattle.array_bitmap.proofs.PoolWords.{block_head, few_kids, all_rows}
 use Rattle.array_bitmap.proofs.Puts.{kid_new}
 use Rattle.array_bitmap.proofs.blocks.with_kid.Goals as goal
@@ -39,8 +39,8 @@ overflow_cast-with_bit g c =
 pub returns-clause-ok : goal.returns-clause-ok
 returns-clause-ok g c =
     let old = blocks c.args.pool.now in
-    let ws = words_of (blocks c.args.pool.now c.args.block) in
-    let kids : c.kids_of-kids.result ≡ kids_of ws = c.kids_of-kids.ensures.value in
+    let ws = words_in_block (blocks c.args.pool.now c.args.block) in
+    let kids : c.kids_of-kids.result ≡ kid_map ws = c.kids_of-kids.ensures.value in
     let used : 3 + c.count-before.result + c.count.result ≡ used_words ws = omega (arith, c.count-before.ensures.value, c.count.ensures.value, ap count_ones c.rows_of.ensures, ap count_ones kids) in
     let few : 3 + c.count-before.result + c.count.result ≤ 96 =
     omega (arith, used, few_kids old c.args.block c.requires.is_block c.args.five c.requires.small c.requires.clear, all_rows old c.args.block c.requires.is_block) in

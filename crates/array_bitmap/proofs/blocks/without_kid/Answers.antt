@@ -1,9 +1,9 @@
 use Rattle.std.proofs.Common.{◌≡◌, ◌+◌, ◌-◌, ◌<◌, ◌≤◌, arith, ap, sym, ◌∙◌, count_ones}
 use Rattle.word_pool.specs.Pool.{blocks}
-use Rattle.array_bitmap.specs.Bits.{rank}
-use Rattle.array_bitmap.specs.Blocks.{kids_of, kid_index, used_words}
-use Rattle.array_bitmap.specs.Tree.{words_of}
-use Rattle.array_bitmap.proofs.Ranks.{rank_lt}
+use Rattle.bitmaps.specs.Bits.{rank}
+use Rattle.array_bitmap.specs.Blocks.{kid_map, kid_index, used_words}
+use Rattle.array_bitmap.specs.Tree.{words_in_block}
+use Rattle.bitmaps.proofs.Ranks.{rank_lt}
 use Rattle.array_bitmap.proofs.PoolWords.{block_head, few_words, size_least}
 use Rattle.array_bitmap.proofs.Takes.{kid_taken}
 use Rattle.array_bitmap.proofs.blocks.without_kid.Goals as goal
@@ -20,11 +20,11 @@ take_word-place-requires-clause-few g c =
 
 pub take_word-place-requires-clause-head : goal.take_word-place-requires-clause-head
 take_word-place-requires-clause-head g c =
-    omega (arith, c.count.ensures.value, ap count_ones c.kids_of-kids.ensures.value, rank_lt (kids_of (words_of (blocks c.args.pool.now c.args.block))) c.args.five c.requires.set)
+    omega (arith, c.count.ensures.value, ap count_ones c.kids_of-kids.ensures.value, rank_lt (kid_map (words_in_block (blocks c.args.pool.now c.args.block))) c.args.five c.requires.set)
 
 pub take_word-place-requires-clause-within : goal.take_word-place-requires-clause-within
 take_word-place-requires-clause-within g c =
-    omega (arith, c.rank.ensures.value, c.count.ensures.value, ap count_ones c.kids_of-kids.ensures.value, ap (λ n. rank n c.args.five) c.kids_of-kids.ensures.value, rank_lt (kids_of (words_of (blocks c.args.pool.now c.args.block))) c.args.five c.requires.set)
+    omega (arith, c.rank.ensures.value, c.count.ensures.value, ap count_ones c.kids_of-kids.ensures.value, ap (λ n. rank n c.args.five) c.kids_of-kids.ensures.value, rank_lt (kid_map (words_in_block (blocks c.args.pool.now c.args.block))) c.args.five c.requires.set)
 
 pub set_word-requires-clause-inside : goal.set_word-requires-clause-inside
 set_word-requires-clause-inside g c =
@@ -36,10 +36,10 @@ set_word-requires-clause-inside g c =
 pub returns : goal.returns
 returns g c =
     let old = blocks c.args.pool.now in
-    let ws = words_of (blocks c.args.pool.now c.args.block) in
+    let ws = words_in_block (blocks c.args.pool.now c.args.block) in
     let used : 3 + c.count-before.result + c.count.result ≡ used_words ws = omega (arith, c.count-before.ensures.value, c.count.ensures.value, ap count_ones c.rows_of.ensures, ap count_ones c.kids_of-kids.ensures.value) in
     let few : 3 + c.count-before.result + c.count.result ≤ 97 = omega (arith, used, few_words (blocks c.args.pool.now) c.args.block c.requires.is_block) in
-    let least : 3 < 3 + c.count-before.result + c.count.result = omega (arith, c.count.ensures.value, ap count_ones c.kids_of-kids.ensures.value, rank_lt (kids_of ws) c.args.five c.requires.set) in
+    let least : 3 < 3 + c.count-before.result + c.count.result = omega (arith, c.count.ensures.value, ap count_ones c.kids_of-kids.ensures.value, rank_lt (kid_map ws) c.args.five c.requires.set) in
     let index : 3 + c.count-before.result + c.rank.result ≡ kid_index ws c.args.five =
     omega (arith, c.count-before.ensures.value, ap count_ones c.rows_of.ensures, c.rank.ensures.value, ap (λ n. rank n c.args.five) c.kids_of-kids.ensures.value) in
     kid_taken old (blocks c.take_word-place.new.pool) (blocks c.set_word.new.self) c.args.block c.take_word-place.result c.args.five

@@ -1,10 +1,10 @@
 use Rattle.std.proofs.Common.{ℕ, ◌≡◌, ◌+◌, ◌-◌, ◌/◌, ◌%◌, ◌<◌, ◌≤◌, refl, arith, ap, sym, ◌∙◌, count_ones}
 use Rattle.word_pool.specs.Heap.{size_of}
 use Rattle.word_pool.specs.Pool.{blocks}
-use Rattle.array_bitmap.specs.Bits.{rank}
-use Rattle.array_bitmap.specs.Blocks.{rows_of, size_for, used_words}
-use Rattle.array_bitmap.specs.Tree.{words_of}
-use Rattle.array_bitmap.proofs.Ranks.{rank_lt}
+use Rattle.bitmaps.specs.Bits.{rank}
+use Rattle.array_bitmap.specs.Blocks.{row_map, size_for, used_words}
+use Rattle.array_bitmap.specs.Tree.{words_in_block}
+use Rattle.bitmaps.proofs.Ranks.{rank_lt}
 use Rattle.array_bitmap.proofs.PoolWords.{block_head, few_words, size_least, written_size}
 use Rattle.array_bitmap.proofs.Takes.{row_taken}
 use Rattle.array_bitmap.proofs.blocks.without_row.Goals as goal
@@ -21,11 +21,11 @@ take_word-place-requires-clause-few g c =
 
 pub take_word-place-requires-clause-head : goal.take_word-place-requires-clause-head
 take_word-place-requires-clause-head g c =
-    omega (arith, c.count.ensures.value, ap count_ones c.rows_of-rows.ensures, rank_lt (rows_of (words_of (blocks c.args.pool.now c.args.block))) c.args.bit c.requires.set)
+    omega (arith, c.count.ensures.value, ap count_ones c.rows_of-rows.ensures, rank_lt (row_map (words_in_block (blocks c.args.pool.now c.args.block))) c.args.bit c.requires.set)
 
 pub take_word-place-requires-clause-within : goal.take_word-place-requires-clause-within
 take_word-place-requires-clause-within g c =
-    omega (arith, c.rank.ensures.value, c.count.ensures.value, ap count_ones c.rows_of-rows.ensures, ap (λ n. rank n c.args.bit) c.rows_of-rows.ensures, rank_lt (rows_of (words_of (blocks c.args.pool.now c.args.block))) c.args.bit c.requires.set)
+    omega (arith, c.rank.ensures.value, c.count.ensures.value, ap count_ones c.rows_of-rows.ensures, ap (λ n. rank n c.args.bit) c.rows_of-rows.ensures, rank_lt (row_map (words_in_block (blocks c.args.pool.now c.args.block))) c.args.bit c.requires.set)
 
 -- the block has its first words
 head : (used size n : ℕ) → used ≤ 97 → size ≡ size_for (used - 1) → n < 4 → n < size
@@ -47,10 +47,10 @@ set_word-requires-2-clause-inside g c =
 pub returns : goal.returns
 returns g c =
     let old = blocks c.args.pool.now in
-    let ws = words_of (blocks c.args.pool.now c.args.block) in
+    let ws = words_in_block (blocks c.args.pool.now c.args.block) in
     let used : 3 + c.count.result + c.count-2.result ≡ used_words ws = omega (arith, c.count.ensures.value, c.count-2.ensures.value, ap count_ones c.rows_of-rows.ensures, ap count_ones c.kids_of.ensures.value) in
     let few : 3 + c.count.result + c.count-2.result ≤ 97 = omega (arith, used, few_words (blocks c.args.pool.now) c.args.block c.requires.is_block) in
-    let least : 3 < 3 + c.count.result + c.count-2.result = omega (arith, c.count.ensures.value, ap count_ones c.rows_of-rows.ensures, rank_lt (rows_of ws) c.args.bit c.requires.set) in
+    let least : 3 < 3 + c.count.result + c.count-2.result = omega (arith, c.count.ensures.value, ap count_ones c.rows_of-rows.ensures, rank_lt (row_map ws) c.args.bit c.requires.set) in
     row_taken old (blocks c.take_word-place.new.pool) (blocks c.set_word.new.self) (blocks c.set_word-2.new.self) c.args.block c.take_word-place.result c.args.bit
     (3 + c.count.result + c.count-2.result) (3 + c.rank.result) c.without_bit-rows.result (c.without_bit-rows.result % 4294967296) (c.without_bit-rows.result / 4294967296)
     c.requires.is_block c.without_bit-rows.ensures.clear least few used (ap (λ r. 3 + r) (c.rank.ensures.value ∙ ap (λ n. rank n c.args.bit) c.rows_of-rows.ensures))

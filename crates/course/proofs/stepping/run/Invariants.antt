@@ -1,6 +1,6 @@
 use Rattle.std.proofs.Common.{◌≡◌, take}
 use Rattle.network_model.specs.Run.{Runs}
-use Rattle.course.specs.Course.{Course, after_steps}
+use Rattle.course.specs.Course.{Course, course_after_all}
 use Rattle.course.proofs.stepping.run.Given as goal
 
 abbrev pub invariant-loop-done : goal.invariant-loop-done
@@ -8,5 +8,5 @@ invariant-loop-done g l =
     let course = g.M.Stepping.course in
     record {
       runs : Runs (course l.initial.mover).world (take l.done l.steps) (course l.mover).world;
-      after : course l.mover ≡ after_steps (course l.initial.mover) (take l.done l.steps);
+      after : course l.mover ≡ course_after_all (course l.initial.mover) (take l.done l.steps);
     }

@@ -1,8 +1,8 @@
 use Rattle.std.proofs.Common.{◌≡◌, ◌∙◌, sym, ap, subst}
 use Rattle.no_packet_loops.proofs.Common.{Lawful}
 use Rattle.world.specs.Steps.{CanBeRefused}
-use Rattle.course.specs.Course.{Course, after_step, course_refusal}
-use Rattle.course.specs.Turns.{IsStopped}
+use Rattle.course.specs.Course.{Course, course_after, course_refusal}
+use Rattle.course.specs.Turns.{IsCourseStopped}
 use Rattle.course.proofs.Courses.{refused_as}
 use Rattle.course.proofs.Turning.{stopped, turned_more}
 use Rattle.course.proofs.stepping.settle.Goals as goal
@@ -14,7 +14,7 @@ loop-done-preserved g c =
     let same = c.turn_from.ensures.same in
     let done = c.in_default-advance.ensures.ok in
     turned_more (course c.args.mover.now) (course c.loop-done.mover) (course c.advance.new.self) c.loop-done.done c.in-Some.step c.loop-done.invariant (c.in-Some.router, c.in-Some.ensures.some)
-    (subst (λ (s : Course). Lawful s.world c.in-Some.step) same done.0) (done.1 ∙ ap (λ s. after_step s c.in-Some.step) same)
+    (subst (λ (s : Course). Lawful s.world c.in-Some.step) same done.0) (done.1 ∙ ap (λ s. course_after s c.in-Some.step) same)
 
 -- the step was refused
 pub returns-in-Err-clause-stop : goal.returns-in-Err-clause-stop
@@ -22,6 +22,6 @@ returns-in-Err-clause-stop g c =
     let course = g.M.Stepping.course in
     let same = c.turn_from.ensures.same in
     let e = c.in-Err.refusal in
-    subst (λ s. IsStopped s e) (sym (c.in-Err.ensures.err ∙ same))
+    subst (λ s. IsCourseStopped s e) (sym (c.in-Err.ensures.err ∙ same))
     (stopped (course c.loop-done.mover) c.in-Some.step e (c.in-Some.router, c.in-Some.ensures.some)
     (subst (λ s. CanBeRefused (course_refusal s c.in-Some.step) e) same (refused_as _ (course_refusal (course c.turn_from.new.self) c.in-Some.step) e c.in-Err.ensures.cause)))

@@ -6,4 +6,4 @@ pub returns : goal.returns
 returns g c =
     c.put.ensures
     ∙ ap (set c.args.nodes.now.items c.args.node)
-        (c.lesser.ensures ∙ ap (λ a. lesser a c.at-right.result) c.at-left.ensures ∙ ap (lesser (node_at c.args.nodes.now.items (c.args.node + c.args.node))) c.at-right.ensures)
+    (c.lesser.ensures ∙ ap (λ a. lesser a c.at-right.result) c.at-left.ensures ∙ ap (lesser (node_at c.args.nodes.now.items (c.args.node + c.args.node))) c.at-right.ensures)

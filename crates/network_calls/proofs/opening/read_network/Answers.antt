@@ -1,4 +1,4 @@
-use Rattle.network_calls.specs.Parts.{attachment_fault, link_fault, network_failure}
+use Rattle.network_calls.specs.Parts.{attachment_parts_fault, link_fault, network_failure}
 use Rattle.network_calls.proofs.Lists.{lacks_memory, no_fault}
 use Rattle.network_calls.proofs.opening.read_network.Goals as goal
 
@@ -6,7 +6,7 @@ pub read_links-requires : goal.read_links-requires
 read_links-requires c = no_fault link_fault 0 c.args.links.now c.in_default.ensures.ok
 
 pub read_attachments-requires : goal.read_attachments-requires
-read_attachments-requires c = no_fault attachment_fault 0 c.args.attachments.now c.in_default-check_attachments.ensures.ok
+read_attachments-requires c = no_fault attachment_parts_fault 0 c.args.attachments.now c.in_default-check_attachments.ensures.ok
 
 pub returns-in_default-read_links-clause-err : goal.returns-in_default-read_links-clause-err
 returns-in_default-read_links-clause-err c =

@@ -5,7 +5,7 @@ use Rattle.crossbeam_channel.specs.Ends.{sends_on}
 use Rattle.packet_queue.specs.declared.taker.Taker.{Taker}
 use Rattle.packet_queue.specs.declared.rule.Hand.{Hand}
 use Rattle.packet_queue.specs.Hands.{one_job}
-use Rattle.packet_queue.specs.Ends.{named, takes_from, taken_by}
+use Rattle.packet_queue.specs.Ends.{queue_name, takes_from, taken_by}
 use Rattle.packet_queue.proofs.Fair.{merges, learns}
 use Rattle.packet_queue.specs.Jobs.{jobs_of}
 use Rattle.packet_queue.proofs.Jobs.{count_jobs, jobs_left}
@@ -20,7 +20,7 @@ loop-taker-preserved g c =
     let taker = c.in-Some.taker in
     let rest = c.pop.new.self.items in
     let e : c.loop-taker.takers.items ≡ rest ++ taker ∷ [] = c.in-Some.ensures.items in
-    let P : Taker _ _ → Type 0 = λ t. takes_from t ≡ named (sends_on c.args.injector.sender) in
+    let P : Taker _ _ → Type 0 = λ t. takes_from t ≡ queue_name (sends_on c.args.injector.sender) in
     let is = c.absorb.ensures.rule in
     let parts = ap (λ (v : Hand _). v.parts) is in
     let one = taker.one_part in

@@ -3,14 +3,14 @@ use Rattle.crossbeam_channel.specs.Claims.{view, IsSeatAt}
 use Rattle.crossbeam_channel.specs.Ends.{sends_on}
 use Rattle.packet_queue.specs.declared.message.Taken.{Taken}
 use Rattle.packet_queue.specs.Hands.{one_job}
-use Rattle.packet_queue.specs.Ends.{named, takes_from, put_by, taken_by}
+use Rattle.packet_queue.specs.Ends.{queue_name, takes_from, put_by, taken_by}
 use Rattle.packet_queue.proofs.reckoning.reckon.Given as goal
 
 -- the pass has the parts, and has taken the messages, of the takers that are gone
 abbrev pub invariant-loop-taker : goal.invariant-loop-taker
 invariant-loop-taker g l =
     IsSeatAt (sends_on l.sender) l.pass
-    × All (λ t. takes_from t ≡ named (sends_on l.sender)) l.takers.items
+    × All (λ t. takes_from t ≡ queue_name (sends_on l.sender)) l.takers.items
     × ((view l.pass).parts + vec_len l.takers ≡ 256)
     × (0 < (view l.pass).parts)
     × ((view l.pass).put ≡ put_by l.fn.injector)

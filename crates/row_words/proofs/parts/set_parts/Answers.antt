@@ -2,7 +2,7 @@ use Rattle.std.proofs.Common.{◌≡◌, ◌+◌, ◌<◌, ◌^◌, ◌++◌, �
 use Rattle.ipv4_prefix.specs.Prefix.{Prefix}
 use Rattle.network_model.specs.Publication.{Image, with_rows}
 use Rattle.network_model.specs.declared.route.Entry.{Entry}
-use Rattle.row_words.specs.Rows.{marked, numbered, AreKept}
+use Rattle.row_words.specs.Rows.{marked, with_slots, AreKept}
 use Rattle.row_words.specs.declared.cells.Marked.{Marked}
 use Rattle.row_words.proofs.Marks.{kept_set, marked_set}
 use Rattle.row_words.proofs.parts.set_parts.Goals as goal
@@ -13,8 +13,8 @@ returns-clause-kept g c =
     let rows = c.args.rows.now in
     let table = c.args.image.now.rows in
     let count : c.len-count.result ≡ length cells = omega (arith, c.len-count.ensures, c.args.cells.now.ok.0) in
-    let slots = c.deref.ensures.value ∙ c.in_ok-slots.ensures ∙ ap (λ n. numbered n rows) count in
-    let set : c.set_rows.new.image.rows ≡ with_rows (numbered (length cells) rows) table =
+    let slots = c.deref.ensures.value ∙ c.in_ok-slots.ensures ∙ ap (λ n. with_slots n rows) count in
+    let set : c.set_rows.new.image.rows ≡ with_rows (with_slots (length cells) rows) table =
     ap (λ (i : Image). i.rows) c.in_default.ensures.ok ∙ ap (λ ss. with_rows ss table) slots in
     let room : length cells + length rows < 2 ^ 24 = omega (arith, count, c.if-rows-count.false, c.requires.few) in
     subst (AreKept c.set_rows.new.image.rows) (sym c.in_ok-add_cells.ensures.ok)
@@ -26,8 +26,8 @@ returns-clause-ok g c =
     let rows = c.args.rows.now in
     let table = c.args.image.now.rows in
     let count : c.len-count.result ≡ length cells = omega (arith, c.len-count.ensures, c.args.cells.now.ok.0) in
-    let slots = c.deref.ensures.value ∙ c.in_ok-slots.ensures ∙ ap (λ n. numbered n rows) count in
-    let set : c.set_rows.new.image.rows ≡ with_rows (numbered (length cells) rows) table =
+    let slots = c.deref.ensures.value ∙ c.in_ok-slots.ensures ∙ ap (λ n. with_slots n rows) count in
+    let set : c.set_rows.new.image.rows ≡ with_rows (with_slots (length cells) rows) table =
     ap (λ (i : Image). i.rows) c.in_default.ensures.ok ∙ ap (λ ss. with_rows ss table) slots in
     ap (λ xs. marked xs c.set_rows.new.image.rows) c.in_ok-add_cells.ensures.ok
     ∙ ap (marked (cells ++ map (λ r. r.1) rows)) set

@@ -2,7 +2,7 @@ use Rattle.std.proofs.Common.{◌≡◌, ◌≢◌, ◌⊎◌, inl, inr, ◌<◌
 use Rattle.std.proofs.lemmas.Bool.{cases_eq}
 use Rattle.std.proofs.lemmas.Option.{get_or_from_slice_get, slice_get_within}
 use Rattle.ipv4_prefix.specs.Prefix.{Prefix}
-use Rattle.run_states.specs.Books.{covers}
+use Rattle.run_states.specs.Books.{matches_prefix}
 use Rattle.run_states.proofs.Books.{left_unmarked}
 use Rattle.run_states.proofs.router_book.set_marks.Goals as goal
 use Rattle.run_states.proofs.router_book.set_marks.Goals.{then-covers, else-covers}
@@ -18,11 +18,11 @@ loop-number-preserved c = λ j unmarked.
           (old.0, λ p less there. old.1 p (let apart = left.0 in omega (arith, less, apart)) there)
       | else-covers w ↦
           let old = c.loop-number.invariant j (subst (λ ms. slice_get ms j ≡ Some false) w.marks-is unmarked) in
-          let place : (p : Prefix) → (j ≡ n) ⊎ (j ≢ n) → j < n + 1 → slice_get c.args.prefixes.now j ≡ Some p → covers c.args.which.now p ≡ false
+          let place : (p : Prefix) → (j ≡ n) ⊎ (j ≢ n) → j < n + 1 → slice_get c.args.prefixes.now j ≡ Some p → matches_prefix c.args.which.now p ≡ false
           = λ p at less there. elim at [
             | inl e ↦
                 let same : c.index-prefixes-number.result ≡ p = c.index-prefixes-number.is ∙ get_or_from_slice_get c.args.prefixes.now n p c.index-prefixes-number.result (ap (slice_get c.args.prefixes.now) (sym e) ∙ there) in
-                ap (covers c.args.which.now) (sym same) ∙ sym c.covers.ensures ∙ w.if-covers.false
+                ap (matches_prefix c.args.which.now) (sym same) ∙ sym c.covers.ensures ∙ w.if-covers.false
             | inr d ↦ old.1 p (omega (arith, less, d)) there
           ] in
           (old.0, λ p less there. place p (cases_eq j n) less there)

@@ -1,7 +1,7 @@
 use Rattle.std.proofs.Common.{◌≡◌, [], ◌∷◌, map, take}
 use Rattle.serde_json.specs.View.{view}
-use Rattle.run_states.specs.Values.{count, list}
+use Rattle.run_states.specs.Values.{count_value, list}
 use Rattle.run_states.proofs.states.end_values.Given as goal
 
 abbrev pub invariant-loop-link : goal.invariant-loop-link
-invariant-loop-link l = map view (l.values).items ≡ map (λ k. list (count k.a ∷ count k.b ∷ [])) (take l.link-index l.links)
+invariant-loop-link l = map view (l.values).items ≡ map (λ k. list (count_value k.a ∷ count_value k.b ∷ [])) (take l.link-index l.links)

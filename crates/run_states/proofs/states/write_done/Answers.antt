@@ -8,7 +8,7 @@ use Rattle.texts.specs.Words.{Text}
 use Rattle.texts.proofs.Printed.{Appends-append}
 use Rattle.run_states.specs.Recorders.{IsCurrent}
 use Rattle.run_states.specs.Told.{IsStateLine}
-use Rattle.run_states.specs.Values.{line_text, opening_data, state_data}
+use Rattle.run_states.specs.Values.{value_line, opening_data, state_data}
 use Rattle.run_states.proofs.Plain.{opening_plain}
 use Rattle.run_states.proofs.Telling.{states_text}
 use Rattle.run_states.proofs.states.write_done.Goals as goal
@@ -34,12 +34,12 @@ returns g c =
     let line : Text = compact_text (state_data c.in_ok-world.world (after.prefixes).items 0 None None told.0) in
     let is_line : IsStateLine n d steps moments 0 blank after line
     = record { world = c.in_ok-world.world; runs = sym c.in_ok-world.ensures; changes = told.0; follows = told.1; shows = c.in_ok-write_state.ensures.shows; text = refl } in
-    let first = subst (λ x. Appends (out c.args.out.now) (out c.write_value.new.out) (line_text x)) opening_is c.in_ok-write_value.ensures in
+    let first = subst (λ x. Appends (out c.args.out.now) (out c.write_value.new.out) (value_line x)) opening_is c.in_ok-write_value.ensures in
     on_ok_weaker c.write_steps.result
     (λ rest. (
       lines_text (λ (t : Text). t) (compact_text opening ∷ line ∷ rest.0),
       states_text n d steps moments c.args.every blank after line rest.0 c.requires c.in_ok-recorder.ensures.blank c.in_ok-recorder.ensures.of c.in_ok-recorder.ensures.prefixes is_line rest.1,
-      Appends-append (out c.args.out.now) (out c.write_value.new.out) (out c.write_steps.new.out) (line_text opening) ((line ++ 10 ∷ []) ++ lines_text (λ (t : Text). t) rest.0) first
+      Appends-append (out c.args.out.now) (out c.write_value.new.out) (out c.write_steps.new.out) (value_line opening) ((line ++ 10 ∷ []) ++ lines_text (λ (t : Text). t) rest.0) first
           (Appends-append (out c.write_value.new.out) (out c.write_state.new.out) (out c.write_steps.new.out) (line ++ 10 ∷ []) (lines_text (λ (t : Text). t) rest.0) told.2 rest.2),
     ))
     c.write_steps.ensures

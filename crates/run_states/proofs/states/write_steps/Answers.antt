@@ -5,7 +5,7 @@ use Rattle.serde_json.specs.Written.{compact_text}
 use Rattle.journal.specs.Steps.{step_text}
 use Rattle.run_states.specs.Recorders.{IsCurrent, IsRecorderOf}
 use Rattle.run_states.specs.Told.{IsStateLine, moment_told, step_told}
-use Rattle.run_states.specs.Values.{line_text, state_data}
+use Rattle.run_states.specs.Values.{value_line, state_data}
 use Rattle.run_states.proofs.Rooms.{room_after, room_at_opening, shown_current}
 use Rattle.run_states.proofs.Telling.{Telling, ran_on, said, telling_all, telling_less, telling_more, telling_none}
 use Rattle.run_states.proofs.states.write_steps.Goals as goal
@@ -42,8 +42,8 @@ loop-before-preserved g c =
           let said_is : option_map string_bytes (Some x.in_ok-text.text) ≡ step_told d n.links steps (k + 1)
           = ap Some (x.in_ok-text.ensures ∙ ap (λ links. step_text d links s) c.links-links.ensures.links) ∙ sym (said d n.links steps k s at) in
           let line = compact_text (state_data v (next.prefixes).items (k + 1) (step_told d n.links steps (k + 1)) (moment_told moments (k + 1)) told.0) in
-          let at_moment = subst (λ m. Appends (out c.loop-before.out) (out x.write_state.new.out) (line_text (state_data v (next.prefixes).items (k + 1) (option_map string_bytes (Some x.in_ok-text.text)) m told.0))) x.moment_of-moment.ensures told.2 in
-          let more = subst (λ said. Appends (out c.loop-before.out) (out x.write_state.new.out) (line_text (state_data v (next.prefixes).items (k + 1) said (moment_told moments (k + 1)) told.0))) said_is at_moment in
+          let at_moment = subst (λ m. Appends (out c.loop-before.out) (out x.write_state.new.out) (value_line (state_data v (next.prefixes).items (k + 1) (option_map string_bytes (Some x.in_ok-text.text)) m told.0))) x.moment_of-moment.ensures told.2 in
+          let more = subst (λ said. Appends (out c.loop-before.out) (out x.write_state.new.out) (value_line (state_data v (next.prefixes).items (k + 1) said (moment_told moments (k + 1)) told.0))) said_is at_moment in
           let is_line : IsStateLine n d steps moments (k + 1) c.step.new.self next line
           = record { world = v; runs = runs; changes = told.0; follows = told.1; shows = x.in_ok-write_state.ensures.shows; text = refl } in
           record {

@@ -3,16 +3,16 @@ use Rattle.no_packet_loops.proofs.Common.{Lawful, Lawful_to_refusal, World, Refu
 use Rattle.network_model.specs.declared.step.Step.TheVariants.{Publish}
 use Rattle.world.specs.Steps.{IsDoneOr}
 use Rattle.world.proofs.Done.{memory_lacked}
-use Rattle.course.specs.Course.{Course, after_step, course_refusal}
+use Rattle.course.specs.Course.{Course, course_after, course_refusal}
 use Rattle.course.proofs.Elements.{read_at}
 use Rattle.course.specs.Images.{due_at}
-use Rattle.simulation.specs.Patches.{IsPatchDue}
+use Rattle.simulation.specs.Patches.{IsImagePatchDue}
 use Rattle.course.proofs.Images.{due_lawful, has_image}
 use Rattle.simulation.proofs.InForce.{due_there, patch_lawful, published_shown}
 use Rattle.simulation.proofs.images.publish.Given as given
 use Rattle.simulation.proofs.images.publish.Goals as goal
 
-due : (g : given.Over) (c : goal.After-from g) → IsPatchDue c.args.course.now.world c.args.router (Some c.in-Some.patch)
+due : (g : given.Over) (c : goal.After-from g) → IsImagePatchDue c.args.course.now.world c.args.router (Some c.in-Some.patch)
 due g c = due_there c.args.course.now.world c.world.result.now c.args.router c.in_ok-patch.field-0 c.in-Some.patch c.world.ensures c.in-Some.is c.in_ok-patch.ensures.due
 
 within : (g : given.Over) (c : goal.After-from g) → c.from.result < length c.args.images.now.items
@@ -50,12 +50,12 @@ unwrap-requires g c =
 pub returns-clause-in_force : goal.returns-clause-in_force
 returns-clause-in_force g c =
     let w : World = c.args.course.now.world in
-    let patch : IsPatchDue w c.args.router (Some c.in-Some.patch) =
+    let patch : IsImagePatchDue w c.args.router (Some c.in-Some.patch) =
     due_there w c.world.result.now c.args.router c.in_ok-patch.field-0 c.in-Some.patch c.world.ensures c.in-Some.is c.in_ok-patch.ensures.due in
     let there = has_image w c.args.router patch.0 c.args.images.now.items patch.1 c.requires.in_force in
     let at : slice_get c.args.images.now.items c.args.router ≡ Some c.index_mut.result.now =
     read_at c.args.images.now.items c.args.router c.from.result c.index_mut.result.now (omega (arith, there, c.from.ensures)) c.index_mut.ensures.value c.from.ensures in
-    let done : Lawful w (Publish c.args.router) × (c.step-2.new.self ≡ after_step c.args.course.now (Publish c.args.router)) = rw c.unwrap.ensures at c.step-2.ensures.ok in
+    let done : Lawful w (Publish c.args.router) × (c.step-2.new.self ≡ course_after c.args.course.now (Publish c.args.router)) = rw c.unwrap.ensures at c.step-2.ensures.ok in
     published_shown w c.step-2.new.self.world c.args.router c.from.result c.args.images.now.items c.index_mut.result.now c.apply.new.self c.in-Some.patch patch c.requires.in_force c.from.ensures at c.in_ok-apply.ensures.ok
     (ap (λ (x : Course). x.world) done.1)
 

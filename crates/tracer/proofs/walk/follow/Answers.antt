@@ -1,7 +1,7 @@
 use Rattle.std.proofs.Common.{rules, ◌≡◌, ◌∙◌, ◌+◌, ◌-◌, ◌<◌, length, ◌++◌, [], ◌∷◌, Some, sym, ap, subst, suc, arith}
 use Rattle.no_packet_loops.proofs.Common.{Ends, Goes, onward}
 use Rattle.fabric.specs.Fabric.{Fabric}
-use Rattle.tracer.specs.Tracing.{onward_of}
+use Rattle.tracer.specs.Tracing.{traced_onward}
 use Rattle.tracer.specs.Following.{followed_from, kept_prefix}
 use Rattle.tracer.proofs.Walks.{behind, ends_here, goes_on, goes_known}
 use Rattle.tracer.proofs.walk.follow.Goals as goal
@@ -13,7 +13,7 @@ returns-in-Ends-clause-ok g c =
     let one_more : c.router_count-routers.result - c.loop.counter ≡ suc left = omega arith in
     let pushed : c.push.new.self.items ≡ c.loop.path.items ++ c.loop.at ∷ [] = search rules in
     let is : onward w c.args.addr c.loop.first c.loop.at ≡ Ends c.in-Ends.end
-    = sym (subst (λ (f : Fabric). onward_of c.in_ok-next.next ≡ onward f.world c.args.addr c.loop.first c.loop.at) c.loop.invariant.same c.in_ok-next.ensures.ok) ∙ ap onward_of c.in-Ends.is in
+    = sym (subst (λ (f : Fabric). traced_onward c.in_ok-next.next ≡ onward f.world c.args.addr c.loop.first c.loop.at) c.loop.invariant.same c.in_ok-next.ensures.ok) ∙ ap traced_onward c.in-Ends.is in
     let known : c.args.router < length w.routers = search rules in (
       known,
       ap (λ xs. record { path = xs; end = Some c.in-Ends.end }) pushed
@@ -29,7 +29,7 @@ loop-preserved g c =
     let one_more : c.router_count-routers.result - c.loop.counter ≡ suc left = omega arith in
     let pushed : c.push.new.self.items ≡ c.loop.path.items ++ c.loop.at ∷ [] = search rules in
     let is : onward w c.args.addr c.loop.first c.loop.at ≡ Goes c.in-Goes.prefix c.in-Goes.router
-    = sym (subst (λ (f : Fabric). onward_of c.in_ok-next.next ≡ onward f.world c.args.addr c.loop.first c.loop.at) c.loop.invariant.same c.in_ok-next.ensures.ok) ∙ ap onward_of c.in-Goes.is in
+    = sym (subst (λ (f : Fabric). traced_onward c.in_ok-next.next ≡ onward f.world c.args.addr c.loop.first c.loop.at) c.loop.invariant.same c.in_ok-next.ensures.ok) ∙ ap traced_onward c.in-Goes.is in
     record {
       same = c.ask.ensures.same ∙ c.loop.invariant.same;
       known = goes_known w c.router_count-routers.ensures.routers c.args.addr c.loop.first c.loop.at c.in-Goes.prefix c.in-Goes.router is;

@@ -5,7 +5,7 @@ use Rattle.no_packet_loops.proofs.Common.{IfOk-weaker, meets_twice}
 use Rattle.fabric.specs.Headline.{IsImageWay, none_published}
 use Rattle.all_packets.specs.Packets.{IsWay}
 use Rattle.all_packets.specs.Through.{through}
-use Rattle.tracer.specs.Following.{followed}
+use Rattle.tracer.specs.Following.{followed_way}
 use Rattle.tracer.proofs.Walks.{is_through, through_ended, through_twice, through_way, way_in_force}
 use Rattle.tracer.proofs.walk.trace_through.Goals as goal
 
@@ -14,7 +14,7 @@ returns-clause-ok g c =
     let w = c.args.fabric.now.world in
     let i = c.args.router in
     let addr = c.args.addr in
-    IfOk-weaker c.follow.result (λ t. (i < length w.routers) × (trace_of t ≡ followed true w i addr)) (λ t. trace_of t ≡ through w i addr)
+    IfOk-weaker c.follow.result (λ t. (i < length w.routers) × (trace_of t ≡ followed_way true w i addr)) (λ t. trace_of t ≡ through w i addr)
     (λ t is. is.1 ∙ is_through w i addr) c.follow.ensures.ok
 
 pub returns-clause-way : goal.returns-clause-way
@@ -22,7 +22,7 @@ returns-clause-way g c =
     let w = c.args.fabric.now.world in
     let i = c.args.router in
     let addr = c.args.addr in
-    IfOk-weaker c.follow.result (λ t. (i < length w.routers) × (trace_of t ≡ followed true w i addr)) (λ t. IsWay w addr t.path.items)
+    IfOk-weaker c.follow.result (λ t. (i < length w.routers) × (trace_of t ≡ followed_way true w i addr)) (λ t. IsWay w addr t.path.items)
     (λ t is. through_way w i addr c.router_count-routers.ensures.through t is.1) c.follow.ensures.ok
 
 pub returns-clause-in_force : goal.returns-clause-in_force
@@ -37,7 +37,7 @@ returns-clause-no_loop g c =
     let w = c.args.fabric.now.world in
     let i = c.args.router in
     let addr = c.args.addr in
-    IfOk-weaker c.follow.result (λ t. (i < length w.routers) × (trace_of t ≡ followed true w i addr)) (λ t. meets_twice t.path.items ≡ false)
+    IfOk-weaker c.follow.result (λ t. (i < length w.routers) × (trace_of t ≡ followed_way true w i addr)) (λ t. meets_twice t.path.items ≡ false)
     (λ t is. through_twice w i addr c.router_count-routers.ensures.through t is.1) c.follow.ensures.ok
 
 pub returns-clause-ended : goal.returns-clause-ended
@@ -45,5 +45,5 @@ returns-clause-ended g c =
     let w = c.args.fabric.now.world in
     let i = c.args.router in
     let addr = c.args.addr in
-    IfOk-weaker c.follow.result (λ t. (i < length w.routers) × (trace_of t ≡ followed true w i addr)) (λ t. t.end ≢ Ending.Crossed)
+    IfOk-weaker c.follow.result (λ t. (i < length w.routers) × (trace_of t ≡ followed_way true w i addr)) (λ t. t.end ≢ Ending.Crossed)
     (λ t is. through_ended w i addr c.router_count-routers.ensures.through t is.1 is.0) c.follow.ensures.ok

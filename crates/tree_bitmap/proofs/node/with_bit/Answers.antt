@@ -1,6 +1,6 @@
 use Rattle.std.proofs.Common.{bit_or, ap, ◌∙◌}
 use Rattle.std.proofs.lemmas.Nat.{one_shl}
-use Rattle.tree_bitmap.proofs.Ranks.{or_is_add}
+use Rattle.bitmaps.proofs.Ranks.{or_is_add}
 use Rattle.tree_bitmap.proofs.node.with_bit.Goals as goal
 
 pub returns : goal.returns

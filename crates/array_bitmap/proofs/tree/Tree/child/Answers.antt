@@ -1,10 +1,10 @@
 use Rattle.std.proofs.Common.{◌+◌, ◌-◌, ◌^◌, arith, ap, sym, subst, ◌∙◌}
 use Rattle.word_pool.specs.Pool.{blocks}
 use Rattle.array_bitmap.specs.Bits.{depth_of}
-use Rattle.array_bitmap.specs.Tree.{IsSound}
+use Rattle.array_bitmap.specs.Tree.{IsSoundCells}
 use Rattle.array_bitmap.specs.Image.{cells_of}
 use Rattle.array_bitmap.proofs.Lookups.{next_block}
-use Rattle.array_bitmap.proofs.Refusals.{refused}
+use Rattle.bitmaps.proofs.Options.{refused}
 use Rattle.array_bitmap.proofs.Stands.{holder_index, same_cells, kid_stand, kid_holder_block, kid_holder_bit, kid_put_words, kid_put_sound, kid_put_stand}
 use Rattle.array_bitmap.proofs.tree.Tree.child.Goals as goal
 
@@ -15,7 +15,7 @@ returns-then-kid-ne0-clause-ok g c =
 
 pub returns-in_err-made-clause-sound : goal.returns-in_err-made-clause-sound
 returns-in_err-made-clause-sound g c = record {
-  cells = subst IsSound (sym (same_cells (cells_of c.args.self.now) (blocks c.with_new_kid.new.pool) c.in_err-made.ensures.err)) c.requires.sound.cells;
+  cells = subst IsSoundCells (sym (same_cells (cells_of c.args.self.now) (blocks c.with_new_kid.new.pool) c.in_err-made.ensures.err)) c.requires.sound.cells;
   shorts = c.requires.sound.shorts;
   tops = c.requires.sound.tops;
 }

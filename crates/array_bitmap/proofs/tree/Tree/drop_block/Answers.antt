@@ -2,7 +2,7 @@ use Rattle.std.proofs.Common.{◌+◌, ◌-◌, ◌^◌, arith, ap, sym, ◌∙�
 use Rattle.word_pool.specs.Heap.{size_of}
 use Rattle.word_pool.specs.Pool.{blocks}
 use Rattle.array_bitmap.specs.Bits.{depth_of}
-use Rattle.array_bitmap.specs.Tree.{words_of, block_at}
+use Rattle.array_bitmap.specs.Tree.{words_in_block, block_at}
 use Rattle.array_bitmap.specs.Image.{cells_of}
 use Rattle.array_bitmap.proofs.PoolWords.{block_head, size_listed}
 use Rattle.array_bitmap.proofs.Stands.{stand_is, dropped_size, dropped_sound, dropped_words, dropped_gone}
@@ -23,7 +23,7 @@ unname-requires-clause-no_kids g c = sym c.kids_of.ensures.value ∙ c.if-kids_o
 pub give-requires-clause-used : goal.give-requires-clause-used
 give-requires-clause-used g c =
     ap size_of c.unname.ensures.lost.stays ∙ size_listed (blocks c.args.self.now.pool c.in-Some.stand.block)
-    ∙ dropped_size (words_of (blocks c.args.self.now.pool c.in-Some.stand.block)) (stand_is (cells_of c.args.self.now) c.requires.sound.cells c.args.path (c.args.level - c.args.self.now.first) c.in-Some.stand c.in-Some.ensures (omega (arith, c.requires.low, c.requires.deep)))
+    ∙ dropped_size (words_in_block (blocks c.args.self.now.pool c.in-Some.stand.block)) (stand_is (cells_of c.args.self.now) c.requires.sound.cells c.args.path (c.args.level - c.args.self.now.first) c.in-Some.stand c.in-Some.ensures (omega (arith, c.requires.low, c.requires.deep)))
     (sym c.rows_of.ensures ∙ c.if-rows_of-ne0.false) (sym c.kids_of.ensures.value ∙ c.if-kids_of-ne0.false)
 
 pub returns-clause-sound : goal.returns-clause-sound

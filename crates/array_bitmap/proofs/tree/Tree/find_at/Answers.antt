@@ -1,5 +1,5 @@
 use Rattle.std.proofs.Common.{◌≡◌, ◌-◌, ◌*◌, ◌∙◌, option_map, ap, sym, subst, arith}
-use Rattle.array_bitmap.specs.Words.{entry_of, shown}
+use Rattle.array_bitmap.specs.Words.{word_entry, shown}
 use Rattle.array_bitmap.specs.Cursor.{IsFoundAt}
 use Rattle.array_bitmap.specs.Tree.{block_at, word_at, entry_in}
 use Rattle.array_bitmap.specs.Image.{cells_of}
@@ -25,4 +25,4 @@ returns-then-word-eq-NOTHING-clause-found g c =
     let word : word_at t (c.args.at.addr * 4) c.args.at.len ≡ shown c.short_word-word.result =
     ap (λ p. word_at t p c.args.at.len) (sym path) ∙ ap (word_at t c.path_of-path.result) (sym len) ∙ c.short_word-word.ensures in
     subst (IsFoundAt (entry_in t) c.args.at) (sym c.none_until.ensures)
-    (none_until_next t c.requires.cells c.args.at c.next_prefix.result (ap (option_map entry_of) (word ∙ nothing_shown c.short_word-word.result c.if-word-eq-NOTHING.true)) c.next_prefix.ensures)
+    (none_until_next t c.requires.cells c.args.at c.next_prefix.result (ap (option_map word_entry) (word ∙ nothing_shown c.short_word-word.result c.if-word-eq-NOTHING.true)) c.next_prefix.ensures)

@@ -2,17 +2,18 @@ use Rattle.std.proofs.Common.{◌≡◌, ◌+◌, ◌-◌, ◌*◌, ◌/◌, ◌
 use Rattle.std.specs.Int.{bit_at}
 use Rattle.std.proofs.lemmas.Bool.{both_ways}
 use Rattle.word_pool.specs.Pool.{blocks}
-use Rattle.array_bitmap.specs.Bits.{depth_of, five_bits, path_start, rank, row_bit}
-use Rattle.array_bitmap.specs.Blocks.{rows_of, row_index}
+use Rattle.bitmaps.specs.Bits.{rank}
+use Rattle.array_bitmap.specs.Bits.{depth_of, five_bits, path_start, row_bit}
+use Rattle.array_bitmap.specs.Blocks.{row_map, row_index}
 use Rattle.array_bitmap.specs.Cursor.{IsFoundAt}
-use Rattle.array_bitmap.specs.Tree.{words_of, block_at, word_at, entry_in}
+use Rattle.array_bitmap.specs.Tree.{words_in_block, block_at, word_at, entry_in}
 use Rattle.array_bitmap.specs.Image.{cells_of}
-use Rattle.array_bitmap.specs.Words.{entry_of}
+use Rattle.array_bitmap.specs.Words.{word_entry}
 use Rattle.array_bitmap.proofs.BlockSteps.{no_five_after, none_until_block_end, none_until_spot}
 use Rattle.array_bitmap.proofs.Covering.{row-set}
 use Rattle.array_bitmap.proofs.Lookups.{block_is}
 use Rattle.array_bitmap.proofs.PoolWords.{block_head, block_holds, word_listed}
-use Rattle.array_bitmap.proofs.Ranks.{rank_lt}
+use Rattle.bitmaps.proofs.Ranks.{rank_lt}
 use Rattle.array_bitmap.proofs.Stands.{word_of_len}
 use Rattle.array_bitmap.proofs.tree.Tree.find_in.Goals as goal
 
@@ -22,21 +23,21 @@ head_of-head-requires g c =
 
 pub word-requires : goal.word-requires
 word-requires g c =
-    let ws = words_of (blocks c.args.self.now.pool c.args.block) in
-    let set : bit_at (rows_of ws) c.row_bit-bit.result ≡ 1 = ap (λ n. bit_at n c.row_bit-bit.result) (sym c.head_of-head.ensures.rows) ∙ c.is_set.ensures.0 c.if-is_set.true in
+    let ws = words_in_block (blocks c.args.self.now.pool c.args.block) in
+    let set : bit_at (row_map ws) c.row_bit-bit.result ≡ 1 = ap (λ n. bit_at n c.row_bit-bit.result) (sym c.head_of-head.ensures.rows) ∙ c.is_set.ensures.0 c.if-is_set.true in
     omega (
       arith,
       c.rank.ensures.value,
       ap (λ n. rank n c.row_bit-bit.result) c.head_of-head.ensures.rows,
-      rank_lt (rows_of ws) c.row_bit-bit.result set,
+      rank_lt (row_map ws) c.row_bit-bit.result set,
       block_holds (blocks c.args.self.now.pool) c.args.block (block_is (cells_of c.args.self.now) c.requires.sound.cells (c.args.at.addr * 4) (c.args.level - c.args.self.now.first) c.args.block (sym c.requires.block)),
     )
 
 pub returns-then-is_set : goal.returns-then-is_set
 returns-then-is_set g c =
     let t = cells_of c.args.self.now in
-    let ws = words_of (blocks c.args.self.now.pool c.args.block) in
-    let set : bit_at (rows_of ws) c.row_bit-bit.result ≡ 1 = ap (λ n. bit_at n c.row_bit-bit.result) (sym c.head_of-head.ensures.rows) ∙ c.is_set.ensures.0 c.if-is_set.true in
+    let ws = words_in_block (blocks c.args.self.now.pool c.args.block) in
+    let set : bit_at (row_map ws) c.row_bit-bit.result ≡ 1 = ap (λ n. bit_at n c.row_bit-bit.result) (sym c.head_of-head.ensures.rows) ∙ c.is_set.ensures.0 c.if-is_set.true in
     let path : c.path_of.result ≡ c.args.at.addr * 4 = c.path_of.ensures.value ∙ ap (λ a. a * 4) c.addr-addr.ensures.value in
     let len : c.from.result ≡ c.args.at.len = c.from.ensures ∙ c.len.ensures.value in
     let at : block_at t (c.args.at.addr * 4) ((c.args.at.len - 5) / 5 - c.args.self.now.first) ≡ c.args.block = ap (λ l. block_at t (c.args.at.addr * 4) (l - c.args.self.now.first)) (sym c.requires.level) ∙ c.requires.block in
@@ -47,7 +48,7 @@ returns-then-is_set g c =
     sym (c.word.ensures ∙ word_listed (blocks c.args.self.now.pool c.args.block) (3 + c.rank.result) ∙ ap (slice_index ws) index) in
     let is : word_at t (c.args.at.addr * 4) c.args.at.len ≡ Some c.word.result =
     word_of_len t (c.args.at.addr * 4) c.args.at.len c.args.block c.five_bits-five.result c.row_bit-bit.result c.requires.long at five bit ∙ row-set ws c.row_bit-bit.result set ∙ ap Some word in
-    ap (option_map entry_of) is ∙ ap Some (sym c.entry_of.ensures)
+    ap (option_map word_entry) is ∙ ap Some (sym c.entry_of.ensures)
 
 pub next_spot-next-requires-clause-start : goal.next_spot-next-requires-clause-start
 next_spot-next-requires-clause-start g c =

@@ -2,7 +2,7 @@ use Rattle.std.proofs.Common.{ℕ, ◌≡◌, ◌+◌, ◌-◌, ◌*◌, ◌/◌
 use Rattle.std.proofs.Math.Nat.{pow-le-pow_right}
 use Rattle.word_pool.specs.Pool.{blocks}
 use Rattle.array_bitmap.specs.Bits.{depth_of, path_start}
-use Rattle.array_bitmap.specs.Tree.{IsSound}
+use Rattle.array_bitmap.specs.Tree.{IsSoundCells}
 use Rattle.array_bitmap.specs.Image.{cells_of}
 use Rattle.array_bitmap.proofs.ShortRows.{start_small}
 use Rattle.array_bitmap.proofs.Stands.{same_cells, first_stand_there, first_put_sound, first_put_words, first_put_stand}
@@ -28,7 +28,7 @@ returns-then-top-ne0-clause-ok g c =
 
 pub returns-in_err-block-clause-sound : goal.returns-in_err-block-clause-sound
 returns-in_err-block-clause-sound g c = record {
-  cells = subst IsSound (sym (same_cells (cells_of c.args.self.now) (blocks c.blank.new.pool) c.in_err-block.ensures.err)) c.requires.sound.cells;
+  cells = subst IsSoundCells (sym (same_cells (cells_of c.args.self.now) (blocks c.blank.new.pool) c.in_err-block.ensures.err)) c.requires.sound.cells;
   shorts = c.requires.sound.shorts;
   tops = c.requires.sound.tops;
 }

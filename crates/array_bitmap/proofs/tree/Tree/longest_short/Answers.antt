@@ -1,7 +1,7 @@
 use Rattle.std.proofs.Common.{◌≡◌, ◌+◌, ◌*◌, ◌/◌, ◌%◌, ◌^◌, ◌-◌, ◌≤◌, arith, ap, sym, subst, rules}
 use Rattle.array_bitmap.specs.Bits.{depth_of, path_start}
 use Rattle.array_bitmap.specs.Words.{found}
-use Rattle.array_bitmap.specs.Greatest.{GreatestBelow}
+use Rattle.bitmaps.specs.Greatest.{GreatestBelow}
 use Rattle.array_bitmap.specs.Tree.{word_at}
 use Rattle.array_bitmap.specs.Image.{cells_of}
 use Rattle.array_bitmap.proofs.ShortSet.{longer_short, same_short, read_short}

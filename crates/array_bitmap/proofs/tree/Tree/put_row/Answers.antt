@@ -2,9 +2,9 @@ use Rattle.std.proofs.Common.{◌≡◌, ◌+◌, ◌-◌, ◌^◌, ℕ, arith, 
 use Rattle.word_pool.specs.Pool.{blocks}
 use Rattle.array_bitmap.specs.Bits.{depth_of, five_bits, row_bit}
 use Rattle.array_bitmap.specs.Blocks.{row_in}
-use Rattle.array_bitmap.specs.Tree.{words_of, words_at, IsSound}
+use Rattle.array_bitmap.specs.Tree.{words_in_block, words_at, IsSoundCells}
 use Rattle.array_bitmap.specs.Image.{cells_of}
-use Rattle.array_bitmap.proofs.Refusals.{refused}
+use Rattle.bitmaps.proofs.Options.{refused}
 use Rattle.array_bitmap.proofs.Stands.{holder_stays_block, holder_stays_bit, holder_index, put_sets, put_sound, same_cells, word_of_stand}
 use Rattle.array_bitmap.proofs.tree.Tree.put_row.Goals as goal
 
@@ -15,12 +15,12 @@ bit_is path level more five bit f b = b ∙ ap (λ v. row_bit v more) f
 pub rename-requires-clause-is_block : goal.rename-requires-clause-is_block
 rename-requires-clause-is_block g c =
     holder_stays_block (cells_of c.args.self.now) c.requires.sound.cells c.args.path (c.args.level - c.args.self.now.first) c.args.stand c.requires.stand (omega (arith, c.requires.low, c.requires.deep))
-    (blocks c.with_row.new.pool) c.in_ok-place.place (words_of (blocks c.with_row.new.pool c.in_ok-place.place)) c.in_ok-place.ensures.ok.reworded
+    (blocks c.with_row.new.pool) c.in_ok-place.place (words_in_block (blocks c.with_row.new.pool c.in_ok-place.place)) c.in_ok-place.ensures.ok.reworded
 
 pub rename-requires-clause-kid : goal.rename-requires-clause-kid
 rename-requires-clause-kid g c =
     holder_stays_bit (cells_of c.args.self.now) c.requires.sound.cells c.args.path (c.args.level - c.args.self.now.first) c.args.stand c.requires.stand (omega (arith, c.requires.low, c.requires.deep))
-    (blocks c.with_row.new.pool) c.in_ok-place.place (words_of (blocks c.with_row.new.pool c.in_ok-place.place)) c.in_ok-place.ensures.ok.reworded
+    (blocks c.with_row.new.pool) c.in_ok-place.place (words_in_block (blocks c.with_row.new.pool c.in_ok-place.place)) c.in_ok-place.ensures.ok.reworded
 
 pub rename-requires-clause-five : goal.rename-requires-clause-five
 rename-requires-clause-five g c =
@@ -28,7 +28,7 @@ rename-requires-clause-five g c =
 
 pub returns-in_err-place-clause-sound : goal.returns-in_err-place-clause-sound
 returns-in_err-place-clause-sound g c = record {
-  cells = subst IsSound (sym (same_cells (cells_of c.args.self.now) (blocks c.with_row.new.pool) c.in_err-place.ensures.err)) c.requires.sound.cells;
+  cells = subst IsSoundCells (sym (same_cells (cells_of c.args.self.now) (blocks c.with_row.new.pool) c.in_err-place.ensures.err)) c.requires.sound.cells;
   shorts = c.requires.sound.shorts;
   tops = c.requires.sound.tops;
 }

@@ -3,7 +3,7 @@ use Rattle.std.specs.Int.{bit_at}
 use Rattle.std.proofs.lemmas.Bool.{both_ways}
 use Rattle.word_pool.specs.Pool.{blocks}
 use Rattle.array_bitmap.specs.Bits.{depth_of, row_bit}
-use Rattle.array_bitmap.specs.Tree.{Cells, words_at, block_at, word_at, IsSound, words_of}
+use Rattle.array_bitmap.specs.Tree.{Cells, words_at, block_at, word_at, IsSoundCells, words_in_block}
 use Rattle.array_bitmap.specs.Image.{cells_of}
 use Rattle.array_bitmap.proofs.Covering.{row-set, row-clear}
 use Rattle.array_bitmap.proofs.PoolWords.{block_head}
@@ -13,7 +13,7 @@ use Rattle.array_bitmap.proofs.Stands.{stand_is, holder_stays_block, holder_stay
 use Rattle.array_bitmap.proofs.tree.Tree.remove_long.Goals as goal
 
 -- where there is no block, a path has no long word
-none_here : (c : Cells) (sound : IsSound c) (path len : ℕ) → depth_of c.first < len → block_at c path ((len - 5) / 5 - c.first) ≡ 0 → word_at c path len ≡ None
+none_here : (c : Cells) (sound : IsSoundCells c) (path len : ℕ) → depth_of c.first < len → block_at c path ((len - 5) / 5 - c.first) ≡ 0 → word_at c path len ≡ None
 none_here c sound path len long none = no_word_below c sound path len ((len - 5) / 5) (omega (arith, long)) (omega (arith, long)) none
 
 pub returns-in_default-clause-gone : goal.returns-in_default-clause-gone
@@ -46,12 +46,12 @@ returns-then-not-is_set-clause-found g c =
 pub rename-requires-clause-is_block : goal.rename-requires-clause-is_block
 rename-requires-clause-is_block g c =
     holder_stays_block (cells_of c.args.self.now) c.requires.sound.cells c.args.path ((c.args.len - 5) / 5 - c.args.self.now.first) c.in-Some.stand c.in-Some.ensures (omega (arith, c.requires.long, c.requires.short))
-    (blocks c.without_row-place.new.pool) c.without_row-place.result (words_of (blocks c.without_row-place.new.pool c.without_row-place.result)) c.without_row-place.ensures.reworded
+    (blocks c.without_row-place.new.pool) c.without_row-place.result (words_in_block (blocks c.without_row-place.new.pool c.without_row-place.result)) c.without_row-place.ensures.reworded
 
 pub rename-requires-clause-kid : goal.rename-requires-clause-kid
 rename-requires-clause-kid g c =
     holder_stays_bit (cells_of c.args.self.now) c.requires.sound.cells c.args.path ((c.args.len - 5) / 5 - c.args.self.now.first) c.in-Some.stand c.in-Some.ensures (omega (arith, c.requires.long, c.requires.short))
-    (blocks c.without_row-place.new.pool) c.without_row-place.result (words_of (blocks c.without_row-place.new.pool c.without_row-place.result)) c.without_row-place.ensures.reworded
+    (blocks c.without_row-place.new.pool) c.without_row-place.result (words_in_block (blocks c.without_row-place.new.pool c.without_row-place.result)) c.without_row-place.ensures.reworded
 
 pub rename-requires-clause-five : goal.rename-requires-clause-five
 rename-requires-clause-five g c =

@@ -2,7 +2,7 @@ use Rattle.std.proofs.Common.{ℕ, List, get_or, ◌≡◌, ◌+◌, ◌-◌, �
 use Rattle.std.proofs.lemmas.List.{get_or_read}
 use Rattle.array_bitmap.specs.Bits.{depth_of, path_start}
 use Rattle.array_bitmap.specs.Words.{nothing, found}
-use Rattle.array_bitmap.specs.Greatest.{GreatestBelow}
+use Rattle.bitmaps.specs.Greatest.{GreatestBelow}
 use Rattle.array_bitmap.specs.Tree.{word_at}
 use Rattle.array_bitmap.specs.Image.{cells_of, top_at}
 use Rattle.array_bitmap.specs.declared.tree.Top.{Top}

@@ -1,8 +1,8 @@
 use Rattle.std.proofs.Common.{ℕ, ◌≡◌, ◌≢◌, ◌+◌, ◌-◌, ◌≤◌, arith, ap, sym, subst, ◌∙◌}
 use Rattle.std.specs.Int.{bit_at}
 use Rattle.word_pool.specs.Pool.{blocks}
-use Rattle.array_bitmap.specs.Blocks.{kids_of}
-use Rattle.array_bitmap.specs.Tree.{Cells, IsSound, words_of, block_at}
+use Rattle.array_bitmap.specs.Blocks.{kid_map}
+use Rattle.array_bitmap.specs.Tree.{Cells, IsSoundCells, words_in_block, block_at}
 use Rattle.array_bitmap.specs.Changes.{WritesName}
 use Rattle.array_bitmap.specs.Image.{cells_of, IsStand}
 use Rattle.array_bitmap.specs.declared.tree.Stand.{Stand}
@@ -10,7 +10,7 @@ use Rattle.array_bitmap.proofs.Stands.{stand_is, holder_bit, holder_index, holde
 use Rattle.array_bitmap.proofs.tree.Tree.unname.Goals as goal
 
 -- the block above, by its level
-above_at : (c : Cells) (sound : IsSound c) (path level : ℕ) (stand : Stand) → IsStand c path (level - c.first) stand → stand.holder ≢ 0
+above_at : (c : Cells) (sound : IsSoundCells c) (path level : ℕ) (stand : Stand) → IsStand c path (level - c.first) stand → stand.holder ≢ 0
     → (c.first + 1 ≤ level) × (block_at c path (level - 1 - c.first) ≡ stand.holder)
 above_at c sound path level stand st some =
     let h = holder_above c sound path (level - c.first) stand st some in
@@ -37,25 +37,25 @@ without_kid-place-requires-clause-small g c =
     holder_index (cells_of c.args.self.now) c.requires.sound.cells c.args.path (c.args.level - c.args.self.now.first) c.args.stand c.requires.stand (omega (arith, c.requires.deep, c.requires.low)) c.if-stand-eq0.false
 
 -- the holder is the block above
-held : (c : Cells) (sound : IsSound c) (path level : ℕ) (stand above : Stand) → IsStand c path (level - c.first) stand → stand.holder ≢ 0 → IsStand c path (level - 1 - c.first) above → stand.holder ≡ above.block
+held : (c : Cells) (sound : IsSoundCells c) (path level : ℕ) (stand above : Stand) → IsStand c path (level - c.first) stand → stand.holder ≢ 0 → IsStand c path (level - 1 - c.first) above → stand.holder ≡ above.block
 held c sound path level stand above st some sa = let at = sa.at in sym (above_at c sound path level stand st some).1 ∙ at
 
 pub without_kid-place-requires-clause-set : goal.without_kid-place-requires-clause-set
 without_kid-place-requires-clause-set g c =
     let t = cells_of c.args.self.now in
-    subst (λ p. bit_at (kids_of (words_of (blocks c.args.self.now.pool p))) c.args.stand.index ≡ 1)
+    subst (λ p. bit_at (kid_map (words_in_block (blocks c.args.self.now.pool p))) c.args.stand.index ≡ 1)
     (held t c.requires.sound.cells c.args.path c.args.level c.args.stand c.in-Some.above c.requires.stand c.if-stand-eq0.false c.in-Some.ensures)
     (holder_bit t c.requires.sound.cells c.args.path (c.args.level - c.args.self.now.first) c.args.stand c.requires.stand (omega (arith, c.requires.deep, c.requires.low)) c.if-stand-eq0.false)
 
 pub rename-requires-clause-is_block : goal.rename-requires-clause-is_block
 rename-requires-clause-is_block g c =
     holder_stays_block (cells_of c.args.self.now) c.requires.sound.cells c.args.path (c.args.level - 1 - c.args.self.now.first) c.in-Some.above c.in-Some.ensures (omega (arith, c.requires.deep, c.requires.low))
-    (blocks c.without_kid-place.new.pool) c.without_kid-place.result (words_of (blocks c.without_kid-place.new.pool c.without_kid-place.result)) c.without_kid-place.ensures.reworded
+    (blocks c.without_kid-place.new.pool) c.without_kid-place.result (words_in_block (blocks c.without_kid-place.new.pool c.without_kid-place.result)) c.without_kid-place.ensures.reworded
 
 pub rename-requires-clause-kid : goal.rename-requires-clause-kid
 rename-requires-clause-kid g c =
     holder_stays_bit (cells_of c.args.self.now) c.requires.sound.cells c.args.path (c.args.level - 1 - c.args.self.now.first) c.in-Some.above c.in-Some.ensures (omega (arith, c.requires.deep, c.requires.low))
-    (blocks c.without_kid-place.new.pool) c.without_kid-place.result (words_of (blocks c.without_kid-place.new.pool c.without_kid-place.result)) c.without_kid-place.ensures.reworded
+    (blocks c.without_kid-place.new.pool) c.without_kid-place.result (words_in_block (blocks c.without_kid-place.new.pool c.without_kid-place.result)) c.without_kid-place.ensures.reworded
 
 pub rename-requires-clause-five : goal.rename-requires-clause-five
 rename-requires-clause-five g c =

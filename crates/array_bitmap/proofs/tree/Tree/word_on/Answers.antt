@@ -2,11 +2,11 @@ use Rattle.std.proofs.Common.{◌≡◌, ◌+◌, ◌-◌, ◌/◌, Some, arith,
 use Rattle.std.specs.Int.{bit_at}
 use Rattle.std.proofs.lemmas.Bool.{both_ways}
 use Rattle.word_pool.specs.Pool.{blocks}
-use Rattle.array_bitmap.specs.Bits.{rank}
-use Rattle.array_bitmap.specs.Blocks.{rows_of, row_index}
-use Rattle.array_bitmap.specs.Tree.{words_of, words_at, word_at}
+use Rattle.bitmaps.specs.Bits.{rank}
+use Rattle.array_bitmap.specs.Blocks.{row_map, row_index}
+use Rattle.array_bitmap.specs.Tree.{words_in_block, words_at, word_at}
 use Rattle.array_bitmap.specs.Image.{cells_of}
-use Rattle.array_bitmap.proofs.Ranks.{rank_lt}
+use Rattle.bitmaps.proofs.Ranks.{rank_lt}
 use Rattle.array_bitmap.proofs.Covering.{row-set, row-clear}
 use Rattle.array_bitmap.proofs.Lookups.{block_is}
 use Rattle.array_bitmap.proofs.PoolWords.{block_head, block_holds, word_listed}
@@ -28,13 +28,13 @@ returns-then-not-is_set-clause-word g c =
 
 pub word-requires : goal.word-requires
 word-requires g c =
-    let ws = words_of (blocks c.args.self.now.pool c.in_ok-block.block) in
-    let set : bit_at (rows_of ws) c.row_bit-bit.result ≡ 1 = ap (λ n. bit_at n c.row_bit-bit.result) (sym c.rows_of-rows.ensures) ∙ c.is_set.ensures.0 c.if-not-is_set.false in
+    let ws = words_in_block (blocks c.args.self.now.pool c.in_ok-block.block) in
+    let set : bit_at (row_map ws) c.row_bit-bit.result ≡ 1 = ap (λ n. bit_at n c.row_bit-bit.result) (sym c.rows_of-rows.ensures) ∙ c.is_set.ensures.0 c.if-not-is_set.false in
     omega (
       arith,
       c.rank.ensures.value,
       ap (λ n. rank n c.row_bit-bit.result) c.rows_of-rows.ensures,
-      rank_lt (rows_of ws) c.row_bit-bit.result set,
+      rank_lt (row_map ws) c.row_bit-bit.result set,
       block_holds (blocks c.args.self.now.pool) c.in_ok-block.block
           (block_is (cells_of c.args.self.now) c.requires.sound.cells c.args.path ((c.args.len - 5) / 5 - c.args.self.now.first) c.in_ok-block.block (sym c.in_ok-block.ensures.block)),
     )
@@ -42,8 +42,8 @@ word-requires g c =
 pub returns-clause-word : goal.returns-clause-word
 returns-clause-word g c =
     let t = cells_of c.args.self.now in
-    let ws = words_of (blocks c.args.self.now.pool c.in_ok-block.block) in
-    let set : bit_at (rows_of ws) c.row_bit-bit.result ≡ 1 = ap (λ n. bit_at n c.row_bit-bit.result) (sym c.rows_of-rows.ensures) ∙ c.is_set.ensures.0 c.if-not-is_set.false in
+    let ws = words_in_block (blocks c.args.self.now.pool c.in_ok-block.block) in
+    let set : bit_at (row_map ws) c.row_bit-bit.result ≡ 1 = ap (λ n. bit_at n c.row_bit-bit.result) (sym c.rows_of-rows.ensures) ∙ c.is_set.ensures.0 c.if-not-is_set.false in
     let index : 3 + c.rank.result ≡ row_index ws c.row_bit-bit.result = ap (λ r. 3 + r) (c.rank.ensures.value ∙ ap (λ n. rank n c.row_bit-bit.result) c.rows_of-rows.ensures) in
     let word : slice_index ws (row_index ws c.row_bit-bit.result) ≡ c.word.result =
     sym (c.word.ensures ∙ word_listed (blocks c.args.self.now.pool c.in_ok-block.block) (3 + c.rank.result) ∙ ap (slice_index ws) index) in

@@ -29,7 +29,7 @@ none_spec 𝓤 𝓛 𝓜 𝓡 wired =
     f.Key.name code.function (code.unfolded 𝓤 𝓛.H 𝓜 𝓡 wired)
     (λ κs. ((λ _. heap_bits ∷ []), tt)) (λ κs. (heap_laws.lowers.val_is, tt)) (λ κs qs bounds a _ are.
     let y : (walk_of 𝓛 f.ended stayed c).Ghost = ((κs, qs, bounds, a, (heap_bits ∷ [], tt)), tt) in
-    let empty : Handle.Denot = record { writer = null_ptr; holds = false; alloc = a.0; value = record { book = record { number = 0; log_name = 0; cells_name = 0 }; images = [] } } in
+    let empty : Handle.Denot = record { writer = null_ptr; holds = false; alloc = a.0; value = record { book = record { number = 0; log_name = 0; cells_name = 0 }; elements = [] } } in
     qed 𝓛 (raw (on_entry 𝓛 f.signature κs qs a y.0.4) ∷ raw (emp 𝓤) ∷ []) ∵ drop ! $ drop ! $
     enter ! _ _ _ _ _ $ alloc_all ! (λ l. pass_all ! refl (heap_fits, tt) $
     sets ! (agg ! (and_then ! (lit ! tt) (and_then ! (false_lit !) (and_then ! (get ! refl) (no_more !))))) refl (fits null_ptr false) $

@@ -1,5 +1,5 @@
 use Rattle.std.proofs.Common.{◌-◌, arith, rules}
-use Rattle.node_pool.specs.FreeLists.{list_at}
+use Rattle.node_pool.specs.FreeLists.{free_list}
 use Rattle.node_pool.specs.declared.cells.Cell.TheVariants.{Free}
 use Rattle.node_pool.proofs.Blocks.{used_within, filled_put, few_spare, give_linked}
 use Rattle.node_pool.proofs.pool.Pool.give.Goals as goal
@@ -19,7 +19,7 @@ invariant_of-self-clause-linked g c =
 
 pub returns-clause-freed : goal.returns-clause-freed
 returns-clause-freed g c =
-    filled_put c.args.self.now.cells c.as_mut_slice.result.now c.fill.new.cells c.args.base c.args.size (Free (list_at c.args.self.now.free (c.args.size - 1)).first)
+    filled_put c.args.self.now.cells c.as_mut_slice.result.now c.fill.new.cells c.args.base c.args.size (Free (free_list c.args.self.now.free (c.args.size - 1)).first)
     c.as_mut_slice.ensures.value c.fill.auto.cells c.as_mut_slice.ensures.len c.fill.ensures
 
 pub returns-clause-one_more : goal.returns-clause-one_more

@@ -1,6 +1,6 @@
 use Rattle.std.proofs.Common.{◌+◌, ◌-◌, is_some, ap, arith, ◌∙◌, is_ok, vec_len, if◌then◌else◌}
-use Rattle.node_pool.specs.Cell.{value_of, link_of}
-use Rattle.node_pool.specs.FreeLists.{list_at}
+use Rattle.node_pool.specs.Cell.{value_of, next_free}
+use Rattle.node_pool.specs.FreeLists.{free_list}
 use Rattle.node_pool.specs.declared.cells.Cell.TheVariants.{Used}
 use Rattle.node_pool.proofs.Blocks.{head_within, head_read, head_free, head_fresh, filled_put, take_linked, longer_or_same, more_linked}
 use Rattle.node_pool.proofs.pool.Pool.take.Goals as goal
@@ -8,7 +8,7 @@ use Rattle.node_pool.proofs.pool.Pool.take.Goals as goal
 pub next_of-first-requires : goal.next_of-first-requires
 next_of-first-requires g c =
     ap (λ x. is_some (value_of x)) (head_read c.args.self.now.cells.items c.args.self.now.free c.args.size c.index.result.now c.requires.some c.if-list-gt0.true c.index.ensures c.args.self.now.linked)
-    ∙ head_free c.args.self.now.cells.items c.args.self.now.free c.args.size (list_at c.args.self.now.free (c.args.size - 1)).first c.requires.some c.if-list-gt0.true
+    ∙ head_free c.args.self.now.cells.items c.args.self.now.free c.args.size (free_list c.args.self.now.free (c.args.size - 1)).first c.requires.some c.if-list-gt0.true
     (omega arith) (omega arith) c.args.self.now.linked
 
 pub fill-requires : goal.fill-requires
@@ -20,13 +20,13 @@ pub invariant_of-self-clause-linked : goal.invariant_of-self-clause-linked
 invariant_of-self-clause-linked g c =
     take_linked c.args.self.now.cells c.as_mut_slice.result.now c.fill.new.cells c.args.self.now.free c.args.size c.next_of-first.result c.args.value
     c.requires.some (let h = c.before.before.fill.type_inv in omega arith) c.if-list-gt0.true c.as_mut_slice.ensures.value c.fill.auto.cells c.as_mut_slice.ensures.len
-    (c.next_of-first.ensures ∙ ap link_of (head_read c.args.self.now.cells.items c.args.self.now.free c.args.size c.index.result.now c.requires.some c.if-list-gt0.true c.index.ensures c.args.self.now.linked))
+    (c.next_of-first.ensures ∙ ap next_free (head_read c.args.self.now.cells.items c.args.self.now.free c.args.size c.index.result.now c.requires.some c.if-list-gt0.true c.index.ensures c.args.self.now.linked))
     c.fill.ensures c.args.self.now.linked
 
 pub returns-then-list-gt0-clause-ok : goal.returns-then-list-gt0-clause-ok
 returns-then-list-gt0-clause-ok g c = record {
   fresh = λ k l h. head_fresh c.args.self.now.cells.items c.args.self.now.free c.args.size k c.requires.some c.if-list-gt0.true l h c.args.self.now.linked;
-  filled = filled_put c.args.self.now.cells c.as_mut_slice.result.now c.fill.new.cells (list_at c.args.self.now.free (c.args.size - 1)).first c.args.size (Used c.args.value)
+  filled = filled_put c.args.self.now.cells c.as_mut_slice.result.now c.fill.new.cells (free_list c.args.self.now.free (c.args.size - 1)).first c.args.size (Used c.args.value)
       c.as_mut_slice.ensures.value c.fill.auto.cells c.as_mut_slice.ensures.len c.fill.ensures;
 }
 

@@ -3,7 +3,7 @@ use Rattle.std.specs.Vec.{vec_capacity}
 use Rattle.crossbeam_channel.specs.Claims.{view, IsSeatAt}
 use Rattle.crossbeam_channel.specs.Ends.{sends_on, receives_on}
 use Rattle.packet_queue.specs.Hands.{hand}
-use Rattle.packet_queue.specs.Ends.{named, IsFresh}
+use Rattle.packet_queue.specs.Ends.{queue_name, IsFresh}
 use Rattle.packet_queue.proofs.queue.PacketQueue.new.Given as goal
 
 -- each taker has a part, and the rest is the injector's
@@ -15,4 +15,4 @@ invariant-loop-i g l =
     × (vec_len l.takers ≡ l._i)
     × (l._i ≤ l.workers)
     × (l.workers ≤ vec_capacity l.takers)
-    × All (IsFresh (named (sends_on l.sender))) l.takers.items
+    × All (IsFresh (queue_name (sends_on l.sender))) l.takers.items

@@ -1,7 +1,7 @@
 use Rattle.std.proofs.Common.{◌≡◌, false, refl, ap, sym, subst, ◌∙◌}
 use Rattle.network_model.specs.declared.step.Step.TheVariants.{Deliver, Publish, Release, Attach, Detach}
-use Rattle.run_states.specs.Books.{covers}
-use Rattle.run_states.specs.Marks.{StepMarked, touches}
+use Rattle.run_states.specs.Books.{matches_prefix}
+use Rattle.run_states.specs.Marks.{StepMarked, may_touch}
 use Rattle.run_states.proofs.Marked.{one_marked, spares_also}
 use Rattle.run_states.proofs.recorder.Recorder.mark_touched_router.Goals as goal
 
@@ -14,7 +14,7 @@ returns-in-Deliver c =
     let s = Deliver i c.in-Deliver.port in
     subst (λ t. StepMarked w t before after) (sym c.in-Deliver.is)
     (one_marked w s i before after refl
-    (spares_also i (λ p. covers c.next_message.result p ≡ false) (λ p. touches w s p ≡ false) before after (λ p so. ap (λ o. covers o p) (sym c.next_message.ensures) ∙ so) c.mark_machines.ensures))
+    (spares_also i (λ p. matches_prefix c.next_message.result p ≡ false) (λ p. may_touch w s p ≡ false) before after (λ p so. ap (λ o. matches_prefix o p) (sym c.next_message.ensures) ∙ so) c.mark_machines.ensures))
 
 pub returns-in-Publish : goal.returns-in-Publish
 returns-in-Publish c =

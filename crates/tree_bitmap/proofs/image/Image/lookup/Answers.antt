@@ -1,7 +1,7 @@
 use Rattle.std.proofs.Common.{◌∙◌, sym, slice_index_or}
 use Rattle.std.proofs.lemmas.List.Elements.{All-contains_itself}
 use Rattle.ipv4_prefix.proofs.LongestMatches.{longest_match-none}
-use Rattle.tree_bitmap.proofs.PrefixRows.{longest_where_some}
+use Rattle.bitmaps.proofs.RowsSet.{longest_where_some}
 use Rattle.tree_bitmap.proofs.image.Image.lookup.Goals as goal
 
 pub returns-clause-longest : goal.returns-clause-longest

@@ -1,6 +1,7 @@
 use Rattle.std.proofs.Common.{◌≡◌, ◌+◌, ◌*◌, ◌∙◌, sym, ap, subst, is_some, true, Some, None}
 use Rattle.node_pool.specs.Pool.{cell}
-use Rattle.tree_bitmap.specs.Bits.{rank, length_of}
+use Rattle.bitmaps.specs.Bits.{rank}
+use Rattle.tree_bitmap.specs.Bits.{length_of}
 use Rattle.tree_bitmap.proofs.LongestRow.{best_row, no_row, place_used}
 use Rattle.tree_bitmap.proofs.Descent.{lane_best}
 use Rattle.tree_bitmap.proofs.lanes.Lane.found.Goals as goal

@@ -1,9 +1,10 @@
 use Rattle.std.proofs.Common.{inr, ap, Some, arith, subst, ◌∙◌, sym}
 use Rattle.node_pool.specs.Pool.{cell}
 use Rattle.tree_bitmap.specs.Tree.{IsLaidOut}
-use Rattle.tree_bitmap.proofs.Ranks.{rank_le}
+use Rattle.bitmaps.proofs.Ranks.{rank_le}
 use Rattle.tree_bitmap.proofs.Paths.{node_used}
-use Rattle.tree_bitmap.proofs.Calls.{few_from, child_place_after, child_used, same_cells, made_sound, made_rows, made_place, made_blank, blank_count, on_err_from}
+use Rattle.bitmaps.proofs.Options.{refused}
+use Rattle.tree_bitmap.proofs.Calls.{few_from, child_place_after, child_used, same_cells, made_sound, made_rows, made_place, made_blank, blank_count}
 use Rattle.std.proofs.lemmas.Bool.{both_ways}
 use Rattle.tree_bitmap.proofs.tree.Tree.child.Goals as goal
 
@@ -64,7 +65,7 @@ place-requires g c =
 pub returns-in_err-base-clause-full : goal.returns-in_err-base-clause-full
 returns-in_err-base-clause-full g c =
     let few = (few_from c.get-node.result.external c.nibble-four.result c.with_bit-external.result c.with_bit-external.type_inv c.with_bit-external.ensures (λ h. both_ways c.is_set.result c.if-is_set.false (c.is_set.ensures.1 h))) in
-    on_err_from c.from_residual.result (omega (arith, few, c.count.ensures.value, c.in_err-base.ensures.full))
+    refused c.from_residual.result (omega (arith, few, c.count.ensures.value, c.in_err-base.ensures.full))
 
 pub returns-clause-cost : goal.returns-clause-cost
 returns-clause-cost g c =

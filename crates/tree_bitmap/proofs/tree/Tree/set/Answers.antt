@@ -2,7 +2,8 @@ use Rattle.std.proofs.Common.{inl, Some, ◌≡◌, ◌+◌, ◌*◌, ◌/◌, �
 use Rattle.std.proofs.lemmas.Result.{on_ok_weaker, on_err_weaker}
 use Rattle.tree_bitmap.specs.Tree.{rows}
 use Rattle.tree_bitmap.proofs.Paths.{root_at}
-use Rattle.tree_bitmap.proofs.Calls.{on_err_from, sets_from}
+use Rattle.bitmaps.proofs.Options.{refused}
+use Rattle.tree_bitmap.proofs.Calls.{sets_from}
 use Rattle.node_pool.specs.Pool.{cell}
 use Rattle.tree_bitmap.proofs.tree.Tree.set.Goals as goal
 
@@ -10,7 +11,7 @@ pub loop-d-init : goal.loop-d-init
 loop-d-init g c = record { sound = c.requires.sound; at = root_at (cell c.args.self.now.pool.nodes) c.args.path; results = refl; cost = inl (omega arith); same = λ q m. refl }
 
 pub returns-in_err-index-clause-err : goal.returns-in_err-index-clause-err
-returns-in_err-index-clause-err g c = on_err_from c.from_residual.result (λ q m. c.child.ensures.rows q m ∙ c.loop-d.invariant.same q m)
+returns-in_err-index-clause-err g c = refused c.from_residual.result (λ q m. c.child.ensures.rows q m ∙ c.loop-d.invariant.same q m)
 
 pub returns-clause-ok : goal.returns-clause-ok
 returns-clause-ok g c =

@@ -1,9 +1,10 @@
 use Rattle.std.proofs.Common.{Some, arith, subst}
-use Rattle.node_pool.specs.Pool.{cell, IsWritten}
+use Rattle.node_pool.specs.Pool.{cell, IsCellWritten}
 use Rattle.tree_bitmap.specs.Tree.{with_result}
-use Rattle.tree_bitmap.proofs.Ranks.{rank_le}
+use Rattle.bitmaps.proofs.Ranks.{rank_le}
 use Rattle.tree_bitmap.proofs.Paths.{node_used}
-use Rattle.tree_bitmap.proofs.Calls.{few_results, sets_row, put_sound, put_sets, result_used, over_sound, over_sets, on_err_from}
+use Rattle.bitmaps.proofs.Options.{refused}
+use Rattle.tree_bitmap.proofs.Calls.{few_results, sets_row, put_sound, put_sets, result_used, over_sound, over_sets}
 use Rattle.std.proofs.lemmas.Bool.{both_ways}
 use Rattle.tree_bitmap.proofs.tree.Tree.set_at.Goals as goal
 
@@ -31,7 +32,7 @@ returns-then-is_set-clause-ok g c =
     c.requires.sound c.requires.deep c.requires.short c.requires.fits c.requires.at c.requires.bit
     (over_sets N G G' c.args.index c.args.bit c.args.entry c.get-node.result c.rank-below.result
     c.requires.sound c.get-node.ensures c.rank-below.ensures.value (c.is_set.ensures.0 c.if-is_set.true)
-    (subst (λ k. IsWritten G G' k c.args.entry) c.place-place.ensures c.set.ensures.written))
+    (subst (λ k. IsCellWritten G G' k c.args.entry) c.place-place.ensures c.set.ensures.written))
 
 pub grow-requires-clause-gap_in : goal.grow-requires-clause-gap_in
 grow-requires-clause-gap_in g c =
@@ -68,12 +69,12 @@ returns-then-is_set-clause-sound g c =
     let G' = cell c.set.new.self in
     over_sound (cell c.args.self.now.pool.nodes) G G' c.args.index c.args.bit c.args.entry c.get-node.result c.rank-below.result
     c.requires.sound c.get-node.ensures c.rank-below.ensures.value (c.is_set.ensures.0 c.if-is_set.true)
-    (subst (λ k. IsWritten G G' k c.args.entry) c.place-place.ensures c.set.ensures.written)
+    (subst (λ k. IsCellWritten G G' k c.args.entry) c.place-place.ensures c.set.ensures.written)
 
 pub returns-in_err-base-clause-full : goal.returns-in_err-base-clause-full
 returns-in_err-base-clause-full g c =
     let few = (few_results c.get-node.result.internal c.args.bit (c.requires.sound.fifteen_bits c.args.index c.get-node.result c.get-node.ensures) c.requires.small (λ h. both_ways c.is_set.result c.if-is_set.false (c.is_set.ensures.1 h))) in
-    on_err_from c.from_residual.result (omega (arith, few, c.count.ensures.value, c.in_err-base.ensures.full))
+    refused c.from_residual.result (omega (arith, few, c.count.ensures.value, c.in_err-base.ensures.full))
 
 pub returns-in_err-base-clause-cost : goal.returns-in_err-base-clause-cost
 returns-in_err-base-clause-cost g c =

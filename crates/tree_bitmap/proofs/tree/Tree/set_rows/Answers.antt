@@ -2,8 +2,8 @@ use Rattle.std.proofs.Common.{◌≡◌, ◌∙◌, length, take, arith, refl, s
 use Rattle.std.specs.FinMap.{put}
 use Rattle.ipv4_prefix.specs.Prefix.{prefix_cmp}
 use Rattle.network_model.specs.Publication.{with_rows}
-use Rattle.tree_bitmap.specs.Tree.{rows_in}
-use Rattle.tree_bitmap.proofs.PrefixRows.{with_one_more, with_all, not_ok}
+use Rattle.tree_bitmap.specs.Tree.{tree_rows}
+use Rattle.bitmaps.proofs.RowsSet.{with_one_more, with_all, not_ok}
 use Rattle.tree_bitmap.proofs.tree.Tree.set_rows.Goals as goal
 
 pub loop-prefix-init : goal.loop-prefix-init
@@ -22,7 +22,7 @@ returns-in_err-set_row-clause-full g c = λ nodes results.
 pub loop-prefix-preserved : goal.loop-prefix-preserved
 loop-prefix-preserved g c =
     let row = c.loop-prefix-item.result in
-    let table = rows_in c.args.self.now in
+    let table = tree_rows c.args.self.now in
     record {
       sound = c.in_ok-set_row.ensures.sound;
       nodes = omega (arith, c.in_ok-set_row.ensures.nodes_cost, c.loop-prefix.invariant.nodes);
@@ -37,4 +37,4 @@ returns-clause-sound g c = c.loop-prefix.invariant.sound
 pub returns-clause-ok : goal.returns-clause-ok
 returns-clause-ok g c =
     let at : c.loop-prefix.prefix-index ≡ length c.args.rows.now = omega (arith, c.loop-prefix-test.false, c.loop-prefix.auto.prefix-index-end) in
-    c.loop-prefix.invariant.rows ∙ ap (λ n. with_rows (take n c.args.rows.now) (rows_in c.args.self.now)) at ∙ with_all c.args.rows.now (rows_in c.args.self.now)
+    c.loop-prefix.invariant.rows ∙ ap (λ n. with_rows (take n c.args.rows.now) (tree_rows c.args.self.now)) at ∙ with_all c.args.rows.now (tree_rows c.args.self.now)

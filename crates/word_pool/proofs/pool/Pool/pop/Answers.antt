@@ -1,6 +1,6 @@
 use Rattle.std.proofs.Common.{◌<◌, arith, vec_len, ◌∙◌, ap, sym}
 use Rattle.std.proofs.lemmas.List.{get_or_default}
-use Rattle.word_pool.specs.Layout.{entry, noted, width}
+use Rattle.word_pool.specs.Layout.{entry, noted, free_size}
 use Rattle.word_pool.specs.Pool.{blocks, spare}
 use Rattle.word_pool.proofs.Laid.{head_within, head_some, width_some}
 use Rattle.word_pool.proofs.Pools.{pop_laid, pop_taken}
@@ -19,7 +19,7 @@ invariant_of-self-clause-laid g c =
     let w = head_within (entry c.args.self.now.words.items) (vec_len c.args.self.now.words) (entry c.args.self.now.free) (entry c.args.self.now.spare.numbers) (noted c.args.self.now.used.numbers) c.args.self.now.laid c.args.list few c.requires.some in
     let p = width_some c.args.list in
     pop_laid c.args.self.now.words.items (vec_len c.args.self.now.words) c.args.self.now.free c.args.self.now.spare.numbers c.args.self.now.used.numbers c.args.self.now.laid
-    c.args.list c.args.size few (width_of c.args.size c.requires.one_of_six ∙ sym (ap width c.requires.list)) (let k = c.index.type_inv in omega arith) c.args.self.now.lists c.requires.some c.note.result.numbers c.note.ensures
+    c.args.list c.args.size few (width_of c.args.size c.requires.one_of_six ∙ sym (ap free_size c.requires.list)) (let k = c.index.type_inv in omega arith) c.args.self.now.lists c.requires.some c.note.result.numbers c.note.ensures
     c.index.result.now c.one_fewer.result.numbers (c.index.ensures ∙ get_or_default c.args.self.now.words.items (entry c.args.self.now.free c.args.list) c.index.result.now 0 (omega (arith, w, p, c.args.self.now.words.ok.0))) c.one_fewer.ensures
 
 pub returns-clause-taken : goal.returns-clause-taken
@@ -27,7 +27,7 @@ unfolding blocks
 returns-clause-taken g c =
     let few : c.args.list < 6 = omega (arith, few_lists c.args.size c.requires.one_of_six, c.requires.list) in
     pop_taken c.args.self.now.words.items (vec_len c.args.self.now.words) c.args.self.now.free c.args.self.now.spare.numbers c.args.self.now.used.numbers c.args.self.now.laid
-    c.args.list c.args.size few (width_of c.args.size c.requires.one_of_six ∙ sym (ap width c.requires.list)) (let k = c.index.type_inv in omega arith) c.args.self.now.lists c.requires.some c.note.result.numbers c.note.ensures
+    c.args.list c.args.size few (width_of c.args.size c.requires.one_of_six ∙ sym (ap free_size c.requires.list)) (let k = c.index.type_inv in omega arith) c.args.self.now.lists c.requires.some c.note.result.numbers c.note.ensures
 
 pub returns-clause-words : goal.returns-clause-words
 unfolding spare

@@ -1,6 +1,6 @@
 use Rattle.std.proofs.Common.{◌≡◌, true, false, [], length, Some, None, Option, Err, Result, refl, sym, ap, subst, ◌∙◌, arith, All, MatchOption, IsOk}
 use Rattle.no_packet_loops.proofs.Common.{err_from_is_err_and, IsPrefix, IsCost, prefixes_of, HasCosts, first_cause, link_causes, attachment_causes, widest_limits}
-use Rattle.world.specs.Parts.{network_of}
+use Rattle.world.specs.Parts.{network_of_parts}
 use Rattle.world.proofs.Done.{no_cause, only_cause}
 use Rattle.world.proofs.Faults.{fault_of_link, fault_of_attachments}
 use Rattle.world.proofs.Degrees.{within_limits}
@@ -34,7 +34,7 @@ invariant_of-result c =
     let attachments_fine : first_cause (attachment_causes c.args.limits c.args.routers [] given) ≡ None
     = ap (λ xs. first_cause (attachment_causes c.args.limits c.args.routers [] xs)) (sym c.deref-4.ensures.value) ∙ no_cause _ (first_cause (attachment_causes c.args.limits c.args.routers [] c.deref-4.result.now)) c.in_ok-prefixes.prefixes c.in_ok-prefixes.ensures.cause in (
       record {
-        no_fault = wider c.args.limits widest_limits c.requires (network_of c.args.routers c.args.links.items given) (omega arith) (omega arith) links_fine attachments_fine;
+        no_fault = wider c.args.limits widest_limits c.requires (network_of_parts c.args.routers c.args.links.items given) (omega arith) (omega arith) links_fine attachments_fine;
         costs = subst (λ xs. All HasCosts xs) c.deref.ensures.value c.read_links.ensures;
         prefixes = subst (λ xs. All (λ a. IsPrefix a.0) xs) c.deref-2.ensures.value c.read_attachments.ensures.prefixes;
         attachment_costs = subst (λ xs. All (λ a. IsCost a.2) xs) c.deref-2.ensures.value c.read_attachments.ensures.costs;
@@ -56,5 +56,5 @@ returns-clause-few c =
     = ap (λ xs. first_cause (link_causes c.args.limits c.args.routers [] xs)) (sym c.deref-3.ensures.value) ∙ sym c.in_default.ensures in
     let attachments_fine : first_cause (attachment_causes c.args.limits c.args.routers [] c.args.attachments.items) ≡ None
     = ap (λ xs. first_cause (attachment_causes c.args.limits c.args.routers [] xs)) (sym c.deref-4.ensures.value) ∙ no_cause _ (first_cause (attachment_causes c.args.limits c.args.routers [] c.deref-4.result.now)) c.in_ok-prefixes.prefixes c.in_ok-prefixes.ensures.cause in
-    within_limits c.args.limits (network_of c.args.routers c.args.links.items c.args.attachments.items)
+    within_limits c.args.limits (network_of_parts c.args.routers c.args.links.items c.args.attachments.items)
     (fault_of_attachments c.args.limits c.args.routers c.args.links.items c.args.attachments.items (omega arith) (omega arith) links_fine ∙ attachments_fine)

@@ -1,6 +1,6 @@
 use Rattle.std.proofs.Common.{◌≡◌, sym, ap, subst, ◌∙◌, map}
 use Rattle.world.specs.Kept.{IsWorld}
-use Rattle.world.specs.Parts.{world_of}
+use Rattle.world.specs.Parts.{world_of_parts}
 use Rattle.world.proofs.Insides.{world_in}
 use Rattle.world.proofs.world.World.copy.Goals as goal
 
@@ -11,6 +11,6 @@ invariant_of-result g c =
     let prefixes = c.in_ok-prefixes.ensures.items ∙ c.deref-2.ensures.value in
     let attachments = c.in_ok-attachments.ensures ∙ c.deref-3.ensures.value in
     let routers = c.in_ok-routers.ensures ∙ c.deref-4.ensures.value in
-    let same : world_of c.in_ok-places.places.items c.in_ok-links.links.links c.in_ok-prefixes.prefixes.items c.in_ok-attachments.attachments.items c.in_ok-routers.routers.items ≡ world_in c.self.inside
+    let same : world_of_parts c.in_ok-places.places.items c.in_ok-links.links.links c.in_ok-prefixes.prefixes.items c.in_ok-attachments.attachments.items c.in_ok-routers.routers.items ≡ world_in c.self.inside
     = λ i. record { places = places i; links = links i; prefixes = prefixes i; attachments = attachments i; routers = routers i } in
     subst IsWorld (sym same) c.self.invariant

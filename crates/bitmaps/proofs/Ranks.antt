@@ -1,13 +1,19 @@
--- Bitmaps.
-use Rattle.std.proofs.Common.{ℕ, ◌≡◌, ◌≢◌, ◌+◌, ◌-◌, ◌*◌, ◌/◌, ◌%◌, ◌^◌, ◌<◌, ◌≤◌, max, bit_or, arith, sym, ap, subst, ◌∙◌}
+-- How ranks grow, and how they move when a bit is set.
+use Rattle.std.proofs.Common.{ℕ, zero, suc, ◌≡◌, ◌≢◌, inl, inr, ◌+◌, ◌-◌, ◌*◌, ◌/◌, ◌%◌, ◌^◌, ◌<◌, ◌≤◌, max, bit_or, arith, refl, sym, ap, subst, pow-suc, ◌∙◌}
 use Rattle.std.specs.Int.{bit_at}
 use Rattle.std.specs.Int.RustNames.{count_ones}
 use Rattle.std.specs.Int.Count.{ones_step}
-use Rattle.std.proofs.lemmas.Nat.{ones_cat, ones-le, pow_pos, pow-add, pow_below, shr_split, mod_below, mod_low, or_disjoint, or_lt}
-use Rattle.std.proofs.lemmas.Nat.Bits.{and_pow, bit_at_or, bit_at-pow_same, bit_at-pow_other, bit_at_cat_low}
+use Rattle.std.proofs.lemmas.Nat.{ones_cat, ones-le, ones_le_self, pow_pos, mod-pow-add, pow-add, pow_below, shr_split, mod_below, mod_low, or_disjoint, or_lt}
+use Rattle.std.proofs.lemmas.Nat.Bits.{and_pow, bit_at-lt, bit_at_or, bit_at-pow_same, bit_at-pow_other, bit_at_cat_low}
+use Rattle.std.proofs.lemmas.Bool.{cases_lt}
 use Rattle.std.proofs.Math.Pow.{mod-mod-pow}
 use Rattle.std.proofs.Math.Nat.{add-div_right, add-mul-mod_self_right}
-use Rattle.array_bitmap.specs.Bits.{rank}
+use Rattle.bitmaps.specs.Bits.{rank}
+
+-- no bit of 0 is set
+pub ones_of_zero : count_ones 0 ≡ 0
+unfolding count_ones
+ones_of_zero = refl
 
 -- all bits are those above and those below
 pub ones_split_at : (n k : ℕ) → count_ones n ≡ count_ones (n / 2 ^ k) + rank n k
@@ -107,3 +113,38 @@ rank-add_above n k i h l =
     let cut : (n + 2 ^ k) % 2 ^ i ≡ n % 2 ^ i + 2 ^ k =
     ap (λ m. m % 2 ^ i) (omega (arith, shr_split n i)) ∙ mod_low (n / 2 ^ i) i (n % 2 ^ i + 2 ^ k) fits in
     ap count_ones cut ∙ ones-add (n % 2 ^ i) k clear
+
+-- ---- the bit of a rank
+
+-- a bit counts as itself
+ones_of_bit : (b : ℕ) → b < 2 → count_ones b ≡ b
+ones_of_bit b l = let half : b / 2 ≡ 0 = omega arith in omega (arith, ones_step b, ap count_ones half, ones_le_self 0)
+
+-- the next rank counts the bit
+rank_next : (n k : ℕ) → rank n (1 + k) ≡ bit_at n k + rank n k
+rank_next n k =
+    ap count_ones (mod-pow-add n 1 k) ∙ ones_cat k (bit_at n k) (n % 2 ^ k) (mod_below n (2 ^ k) (pow_pos k))
+    ∙ ap (λ b. b + rank n k) (ones_of_bit (bit_at n k) (bit_at-lt n k))
+
+-- of the bits below a place, one has each rank below that of the place
+select_below : (n t m : ℕ) → t < rank n m → (k : ℕ) × (bit_at n k ≡ 1) × (rank n k ≡ t)
+select_below n t zero l = absurd (omega (arith, l, rank_small n 0))
+select_below n t (suc m) l =
+    let next : suc m ≡ 1 + m = omega arith in
+    let step = ap (rank n) next ∙ rank_next n m in
+    elim (cases_lt t (rank n m)) [
+      | inl below ↦ select_below n t m below
+      | inr past ↦ (m, omega (arith, l, step, past, bit_at-lt n m), omega (arith, l, step, past, bit_at-lt n m))
+    ]
+
+-- a number has no more bits than it counts
+below_pow : (n : ℕ) → n < 2 ^ n
+below_pow zero = omega arith
+below_pow (suc n) = omega (arith, below_pow n, pow-suc 2 n)
+
+-- each rank below the number of set bits is that of a set bit
+pub select : (n t : ℕ) → t < count_ones n → (k : ℕ) × (bit_at n k ≡ 1) × (rank n k ≡ t)
+select n t l =
+    let whole : 0 * 2 ^ n + n ≡ n = omega arith in
+    let all : n % 2 ^ n ≡ n = ap (λ m. m % 2 ^ n) (sym whole) ∙ mod_low 0 n n (below_pow n) in
+    select_below n t n (subst (λ m. t < count_ones m) (sym all) l)

@@ -1,0 +1,5 @@
+pub mod Options
+pub mod Ranks
+pub mod HighestBit
+pub mod Finds
+pub mod RowsSet
