@@ -41,7 +41,7 @@ ghost use Rattle.network_calls.specs.Parts.{limits_of, list_fault, network_failu
 ghost use Rattle.network_calls.specs.Steps.{step_of};
 ghost use Rattle.timed_simulation.specs.Events.{next_event};
 ghost use Rattle.timed_simulation.specs.Runs.{IsAtRest};
-ghost use Rattle.timed_simulation.specs.Timed.{with_change};
+ghost use Rattle.timed_simulation.specs.Timed.{with_timed_change};
 ghost use Rattle.timed_reports.specs.Recordings.{with_timed, without_first, GoesOn, IsOpened};
 ghost use Rattle.timed_ffi.specs.Handles.{handle_recording, handle_timed, timed_network};
 ghost use Rattle.timed_ffi.specs.Parts.{is_counted, opening_parts, parts_of_event, IsTimedNotOpened};
@@ -124,7 +124,7 @@ pub extern "C" fn tuhvondi_timed_at(
 ) -> u32
     ensures status { IsNumberBy (given_number moment change.now (handle_timed timed.old)) result }
     ensures done { result ≡ 0 → handle_recording timed.new ≡ option_map
-        (with_timed (with_change (record { moment = moment; step = step_of change.now })))
+        (with_timed (with_timed_change (record { moment = moment; step = step_of change.now })))
         (handle_recording timed.old) }
     ensures refused { result ≢ 0 → handle_recording timed.new ≡ handle_recording timed.old }
 {

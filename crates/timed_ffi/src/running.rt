@@ -3,7 +3,7 @@
 ghost use Rattle.std.specs.Prelude.{◌≡◌, ◌≢◌, ◌<◌, ◌≤◌, ◌⊎◌, None, Some, false, IfOk, IfSome, MatchOption, length};
 ghost use Rattle.coming_to_rest.specs.Worlds.{is_own};
 ghost use Rattle.network_calls.specs.Headline.{HasHeadline};
-ghost use Rattle.timed_simulation.specs.Timed.{opening_timed, with_change};
+ghost use Rattle.timed_simulation.specs.Timed.{opening_timed, with_timed_change};
 ghost use Rattle.timed_simulation.specs.Events.{next_event};
 ghost use Rattle.timed_simulation.specs.Due.{IsDoneUntil, NothingIsLate};
 ghost use Rattle.timed_simulation.specs.Runs.{IsAtRest, IsStoppedAt, IsStoppedShort, IsTimedRun};
@@ -111,7 +111,7 @@ impl RunningTimed {
         requires { is_own change ≡ false }
         ensures status { IsNumberBy (moment_number moment (timed_in self.old)) result }
         ensures done { result ≡ 0 → self.new
-            ≡ with_timed (with_change (record { moment = moment; step = change })) self.old }
+            ≡ with_timed (with_timed_change (record { moment = moment; step = change })) self.old }
         ensures refused { result ≢ 0 → self.new ≡ self.old }
     {
         match self.recording.at(moment, change) {

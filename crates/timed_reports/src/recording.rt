@@ -2,7 +2,7 @@
 
 ghost use Rattle.std.specs.Prelude.{◌≡◌, ◌<◌, ◌≤◌, ◌⊎◌, None, Some, false, length, slice_get, IfOk, IfSome, MatchOption, OnErr, OnOk};
 ghost use Rattle.coming_to_rest.specs.Worlds.{is_own};
-ghost use Rattle.timed_simulation.specs.Timed.{opening_timed, with_change};
+ghost use Rattle.timed_simulation.specs.Timed.{opening_timed, with_timed_change};
 ghost use Rattle.timed_simulation.specs.Due.{IsDoneUntil, NothingIsLate};
 ghost use Rattle.timed_simulation.specs.Runs.{IsAtRest, IsGivenOr, IsStoppedAt, IsStoppedShort, IsTimedRun};
 ghost use Rattle.timed_reports.specs.Recordings.{report_in, timed_in, with_timed, without_first, GoesOn, IsOpened};
@@ -70,7 +70,7 @@ impl Recording {
     pub fn at(&mut self, moment: u64, change: Step) -> Result<(), TimeFault>
         requires { is_own change ≡ false }
         ensures ok { OnOk result (self.new
-            ≡ with_timed (with_change (record { moment = moment; step = change })) self.old) }
+            ≡ with_timed (with_timed_change (record { moment = moment; step = change })) self.old) }
         ensures err { OnErr result (self.new ≡ self.old) }
         ensures cause { IsGivenOr (timed_in self.old).clock moment result }
     {

@@ -3,7 +3,7 @@
 ghost use Rattle.std.specs.Prelude.{Err, [], ◌≡◌, ◌+◌, ◌<◌, ◌≤◌, ◌⊎◌, false, true, Some, drop, length, slice_get, IfOk, IfErr, IfSome, OnOk, OnErr, MatchOption};
 ghost use Rattle.std.specs.Vec.{vec_capacity, vec_len};
 ghost use Rattle.coming_to_rest.specs.Worlds.{is_own};
-ghost use Rattle.timed_simulation.specs.Timed.{after_event, opening_timed, with_change, world_of};
+ghost use Rattle.timed_simulation.specs.Timed.{after_event, opening_timed, with_timed_change, world_of};
 ghost use Rattle.timed_simulation.specs.Events.{next_event};
 ghost use Rattle.timed_simulation.specs.Due.{IsDoneUntil, NothingIsLate};
 ghost use Rattle.timed_simulation.specs.Runs.{IsAtRest, IsGivenOr, IsNext, IsStoppedAt, IsStoppedShort, IsTimed};
@@ -231,7 +231,7 @@ impl<A: SmallAllocator> Report<A> {
     pub fn at(&mut self, moment: u64, change: Step) -> Result<(), TimeFault>
         requires { is_own change ≡ false }
         ensures ok { OnOk result (self.new ≡ record self.old {
-          timed = with_change (record { moment = moment; step = change }) (self.old).timed;
+          timed = with_timed_change (record { moment = moment; step = change }) (self.old).timed;
         }) }
         ensures err { OnErr result (self.new ≡ self.old) }
         ensures cause { IsGivenOr ((self.old).timed).clock moment result }

@@ -12,7 +12,7 @@ use Rattle.timed_simulation.specs.declared.events.RouterTime.{RouterTime}
 use Rattle.timed_simulation.specs.declared.links.Arrival.{Arrival}
 use Rattle.timed_simulation.specs.declared.links.Motion.{Motion}
 use Rattle.timed_simulation.specs.declared.links.Motion.TheVariants.{Told, Cut, Put, Taken}
-use Rattle.timed_simulation.specs.Links.{TimedLink, later, links_after, motion_of, moved, towards}
+use Rattle.timed_simulation.specs.Links.{TimedLink, later, links_after, motion_of, link_moved, towards}
 use Rattle.timed_simulation.specs.Timed.{Timed, after_event, begins_at, is_due_at, routers_after, world_of}
 use Rattle.timed_simulation.specs.Events.{arrival_event, arrival_moment, event_now, home_event, own_event, publication_event, publication_moment, release_event, router_event, sooner, soonest, waiting_event}
 use Rattle.timed_simulation.specs.Due.{IsOwnDue}
@@ -45,12 +45,12 @@ time_untouched now w (Detach j p) xs i apart = refl
 moved_other : (now : ℕ) (motion : Place → Motion) (o : Option Place) (ks : List TimedLink) (l : ℕ) → option_map (λ (p : Place). p.link) o ≢ Some l
     → slice_get (links_after now (option_map (λ (p : Place). (p.link, motion p)) o) ks) l ≡ slice_get ks l
 moved_other now motion None ks l apart = refl
-moved_other now motion (Some p) ks l apart = slice_get-changed_at_other (moved now (motion p)) p.link l ks (λ e. apart (ap Some (sym e)))
+moved_other now motion (Some p) ks l apart = slice_get-changed_at_other (link_moved now (motion p)) p.link l ks (λ e. apart (ap Some (sym e)))
 
 -- so does a link that a step does not touch
 link_time_untouched : (now : ℕ) (w : World) (s : Step) (ks : List TimedLink) (l : ℕ) → (touched_by s w).link ≢ Some l → slice_get (links_after now (motion_of w s) ks) l ≡ slice_get ks l
-link_time_untouched now w (LinkUp k) ks l apart = slice_get-changed_at_other (moved now Told) k l ks (λ e. apart (ap Some (sym e)))
-link_time_untouched now w (LinkDown k) ks l apart = slice_get-changed_at_other (moved now Cut) k l ks (λ e. apart (ap Some (sym e)))
+link_time_untouched now w (LinkUp k) ks l apart = slice_get-changed_at_other (link_moved now Told) k l ks (λ e. apart (ap Some (sym e)))
+link_time_untouched now w (LinkDown k) ks l apart = slice_get-changed_at_other (link_moved now Cut) k l ks (λ e. apart (ap Some (sym e)))
 link_time_untouched now w (SetCost i q cost) ks l apart = moved_other now (λ p. Put p.end true) (place_at w i q) ks l apart
 link_time_untouched now w (Deliver i q) ks l apart = moved_other now (λ p. Taken p.end) (place_at w i q) ks l apart
 link_time_untouched now w (Publish i) ks l apart = refl

@@ -16,7 +16,7 @@ use Rattle.timed_simulation.specs.declared.events.Change.{Change}
 use Rattle.timed_simulation.specs.declared.events.Event.{Event}
 use Rattle.timed_simulation.specs.declared.fault.TimeFault.{TimeFault}
 use Rattle.timed_simulation.specs.declared.links.LinkDelays.{LinkDelays}
-use Rattle.timed_simulation.specs.Timed.{Timed, after_event, opening_timed, with_change, world_of}
+use Rattle.timed_simulation.specs.Timed.{Timed, after_event, opening_timed, with_timed_change, world_of}
 use Rattle.timed_simulation.specs.Events.{router_event, sooner, soonest}
 use Rattle.timed_simulation.specs.Due.{IsDue}
 use Rattle.timed_simulation.specs.Runs.{IsAtRest, IsNext, IsTimed, steps_of}
@@ -115,8 +115,8 @@ module _ (t : Timed) (moments : List (Option ℕ)) (K : KeepsMoments t moments) 
   kept_changes cs = record { as_many = K.as_many; each = K.each }
 
 -- a change that was given, or not
-pub kept_given : (t u : Timed) (c : Change) (moments : List (Option ℕ)) (r : Result (Unit {0}) TimeFault) → OnOk r (u ≡ with_change c t) → OnErr r (u ≡ t) → KeepsMoments t moments → KeepsMoments u moments
-kept_given t u c moments (Ok x) given failed K = subst (λ v. KeepsMoments v moments) (sym given) (kept_changes t moments K (with_change c t).changes)
+pub kept_given : (t u : Timed) (c : Change) (moments : List (Option ℕ)) (r : Result (Unit {0}) TimeFault) → OnOk r (u ≡ with_timed_change c t) → OnErr r (u ≡ t) → KeepsMoments t moments → KeepsMoments u moments
+kept_given t u c moments (Ok x) given failed K = subst (λ v. KeepsMoments v moments) (sym given) (kept_changes t moments K (with_timed_change c t).changes)
 kept_given t u c moments (Err e) given failed K = subst (λ v. KeepsMoments v moments) (sym failed) K
 
 -- ---- the opening

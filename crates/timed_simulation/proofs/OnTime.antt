@@ -12,8 +12,8 @@ use Rattle.timed_simulation.specs.declared.links.Arrival.{Arrival}
 use Rattle.timed_simulation.specs.declared.links.LinkDelays.{LinkDelays}
 use Rattle.timed_simulation.specs.declared.events.Change.{Change}
 use Rattle.timed_simulation.specs.declared.events.Event.{Event}
-use Rattle.timed_simulation.specs.Links.{TimedLink, last_moment, later, links_after, motion_of, towards, opening_link as opening_times}
-use Rattle.timed_simulation.specs.Timed.{Timed, begins_at, opening_router as opening_time, routers_after, world_of}
+use Rattle.timed_simulation.specs.Links.{TimedLink, last_moment, later, links_after, motion_of, towards, opening_directions as opening_times}
+use Rattle.timed_simulation.specs.Timed.{Timed, begins_at, opening_router_time as opening_time, routers_after, world_of}
 use Rattle.timed_simulation.specs.Events.{next_event}
 use Rattle.timed_simulation.specs.Due.{AreTimelyLinks, AreTimelyRouters, IsFirst, IsOnTime, IsTimelyLink, RisesFrom}
 use Rattle.timed_simulation.proofs.Rising.{rises_later, rises_tail}

@@ -9,8 +9,8 @@ use Rattle.timed_simulation.specs.declared.events.Event.{Event}
 use Rattle.timed_simulation.specs.declared.events.RouterTime.{RouterTime}
 use Rattle.timed_simulation.specs.declared.fault.TimeFault.{TimeFault}
 use Rattle.timed_simulation.specs.declared.links.LinkDelays.{LinkDelays}
-use Rattle.timed_simulation.specs.Links.{TimedLink, last_moment, links_after, motion_of, opening_link}
-use Rattle.timed_simulation.specs.Timed.{Timed, after_event, after_events, begins_at, opening_router, opening_timed, routers_after, timed_of, world_of}
+use Rattle.timed_simulation.specs.Links.{TimedLink, last_moment, links_after, motion_of, opening_directions}
+use Rattle.timed_simulation.specs.Timed.{Timed, after_event, after_events, begins_at, opening_router_time, opening_timed, routers_after, timed_of, world_of}
 use Rattle.timed_simulation.specs.Events.{next_event}
 use Rattle.timed_simulation.specs.Due.{IsDue, IsFirst, NothingIsDue, RisesFrom}
 use Rattle.timed_simulation.specs.Runs.{Ascends, IsNext, IsStoppedShort, IsTimed, IsTimedRun, LeadsTo, steps_of}
@@ -112,12 +112,12 @@ fewer_done moment most done t (Some f) short = short.few
 
 -- ---- the parts of an opening
 
-pub opened_parts : (n : Network) (delays : List LinkDelays) (waits : List ℕ) (s : Simulation) (ks : List TimedLink) (rs : List RouterTime) (cs : List Change) → s ≡ opening_simulation n → ks ≡ map opening_link delays → rs ≡ map opening_router waits → cs ≡ [] → timed_of s 0 ks rs cs ≡ opening_timed n delays waits
+pub opened_parts : (n : Network) (delays : List LinkDelays) (waits : List ℕ) (s : Simulation) (ks : List TimedLink) (rs : List RouterTime) (cs : List Change) → s ≡ opening_simulation n → ks ≡ map opening_directions delays → rs ≡ map opening_router_time waits → cs ≡ [] → timed_of s 0 ks rs cs ≡ opening_timed n delays waits
 opened_parts n delays waits s ks rs cs simulation links routers changes =
     ap (λ x. timed_of x 0 ks rs cs) simulation
     ∙ ap (λ x. timed_of (opening_simulation n) 0 x rs cs) links
-    ∙ ap (λ x. timed_of (opening_simulation n) 0 (map opening_link delays) x cs) routers
-    ∙ ap (timed_of (opening_simulation n) 0 (map opening_link delays) (map opening_router waits)) changes
+    ∙ ap (λ x. timed_of (opening_simulation n) 0 (map opening_directions delays) x cs) routers
+    ∙ ap (timed_of (opening_simulation n) 0 (map opening_directions delays) (map opening_router_time waits)) changes
 
 -- ---- the parts of an event
 

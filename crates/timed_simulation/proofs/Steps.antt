@@ -6,7 +6,7 @@ use Rattle.network_model.specs.declared.step.Step.TheVariants.{LinkUp, LinkDown,
 use Rattle.world.specs.Steps.{is_stale}
 use Rattle.timed_simulation.specs.declared.links.Motion.TheVariants.{Told, Cut, Put, Taken}
 use Rattle.timed_simulation.specs.declared.events.RouterTime.{RouterTime}
-use Rattle.timed_simulation.specs.Links.{TimedLink, last_moment, later, links_after, motion_of, moved, without_messages}
+use Rattle.timed_simulation.specs.Links.{TimedLink, last_moment, later, links_after, motion_of, link_moved, without_messages}
 use Rattle.timed_simulation.specs.Timed.{begins_at, is_due_at, routers_after}
 use Rattle.timed_simulation.specs.Due.{IsTimelyLink, AreTimelyLinks, AreTimelyRouters}
 use Rattle.timed_simulation.proofs.Ports.{port_of_notice, port_of_place}
@@ -18,18 +18,18 @@ module _ (w : World) (m : ℕ) (fits : m ≤ last_moment) (xs : List TimedLink) 
   -- an end is told of a cost
   told_cost : (i q cost : ℕ) (o : Option Place) → AreTimelyLinks m (option_map_or (λ (p : Place). record w { links = changed_at p.link (with_cost cost p.end) w.links }) o w).links (links_after m (option_map (λ (p : Place). (p.link, Put p.end true)) o) xs)
   told_cost i q cost None = T
-  told_cost i q cost (Some p) = changed_both m p.link w.links xs T (with_cost cost p.end) (moved m (Put p.end true)) (λ k x _ K. at_end p.end k x K)
+  told_cost i q cost (Some p) = changed_both m p.link w.links xs T (with_cost cost p.end) (link_moved m (Put p.end true)) (λ k x _ K. at_end p.end k x K)
     where
-      at_end : (e : End) (k : Link) (x : TimedLink) → IsTimelyLink m k x → IsTimelyLink m (with_cost cost e k) (moved m (Put e true) x)
+      at_end : (e : End) (k : Link) (x : TimedLink) → IsTimelyLink m k x → IsTimelyLink m (with_cost cost e k) (link_moved m (Put e true) x)
       at_end A k x K = record { to_a = put_timely m (k.a).inbox (Item.Cost k.session cost) x.to_a fits K.to_a; to_b = K.to_b }
       at_end B k x K = record { to_a = K.to_a; to_b = put_timely m (k.b).inbox (Item.Cost k.session cost) x.to_b fits K.to_b }
 
   -- an item is taken
   taken : (o : Option Place) → AreTimelyLinks m (option_map_or (λ (p : Place). record w { links = changed_at p.link (with_front_taken p.end) w.links }) o w).links (links_after m (option_map (λ (p : Place). (p.link, Taken p.end)) o) xs)
   taken None = T
-  taken (Some p) = changed_both m p.link w.links xs T (with_front_taken p.end) (moved m (Taken p.end)) (λ k x _ K. at_end p.end k x K)
+  taken (Some p) = changed_both m p.link w.links xs T (with_front_taken p.end) (link_moved m (Taken p.end)) (λ k x _ K. at_end p.end k x K)
     where
-      at_end : (e : End) (k : Link) (x : TimedLink) → IsTimelyLink m k x → IsTimelyLink m (with_front_taken e k) (moved m (Taken e) x)
+      at_end : (e : End) (k : Link) (x : TimedLink) → IsTimelyLink m k x → IsTimelyLink m (with_front_taken e k) (link_moved m (Taken e) x)
       at_end A k x K = record { to_a = taken_timely m (k.a).inbox x.to_a K.to_a; to_b = K.to_b }
       at_end B k x K = record { to_a = K.to_a; to_b = taken_timely m (k.b).inbox x.to_b K.to_b }
 
@@ -59,16 +59,16 @@ module _ (w : World) (m : ℕ) (fits : m ≤ last_moment) (xs : List TimedLink) 
   released i h None = T
   released i h (Some p) = by_link (slice_get w.links p.link) refl
     where
-      put_over : (e : End) (k : Link) (x : TimedLink) → is_up_in h.session k ≡ true → IsTimelyLink m k x → IsTimelyLink m (with_message h e k) (moved m (Put (other e) false) x)
-      put_over A k x up K = subst (λ (b : Bool). IsTimelyLink m (if b then record k { b = with_item (Item.Message h.message) k.b } else k) (moved m (Put B false) x)) (sym up) (record { to_a = K.to_a; to_b = put_timely m (k.b).inbox (Item.Message h.message) x.to_b fits K.to_b })
-      put_over B k x up K = subst (λ (b : Bool). IsTimelyLink m (if b then record k { a = with_item (Item.Message h.message) k.a } else k) (moved m (Put A false) x)) (sym up) (record { to_a = put_timely m (k.a).inbox (Item.Message h.message) x.to_a fits K.to_a; to_b = K.to_b })
+      put_over : (e : End) (k : Link) (x : TimedLink) → is_up_in h.session k ≡ true → IsTimelyLink m k x → IsTimelyLink m (with_message h e k) (link_moved m (Put (other e) false) x)
+      put_over A k x up K = subst (λ (b : Bool). IsTimelyLink m (if b then record k { b = with_item (Item.Message h.message) k.b } else k) (link_moved m (Put B false) x)) (sym up) (record { to_a = K.to_a; to_b = put_timely m (k.b).inbox (Item.Message h.message) x.to_b fits K.to_b })
+      put_over B k x up K = subst (λ (b : Bool). IsTimelyLink m (if b then record k { a = with_item (Item.Message h.message) k.a } else k) (link_moved m (Put A false) x)) (sym up) (record { to_a = put_timely m (k.a).inbox (Item.Message h.message) x.to_a fits K.to_a; to_b = K.to_b })
 
       left_off : (e : End) (k : Link) (x : TimedLink) → is_up_in h.session k ≡ false → IsTimelyLink m k x → IsTimelyLink m (with_message h e k) x
       left_off A k x down K = subst (λ (b : Bool). IsTimelyLink m (if b then record k { b = with_item (Item.Message h.message) k.b } else k) x) (sym down) K
       left_off B k x down K = subst (λ (b : Bool). IsTimelyLink m (if b then record k { a = with_item (Item.Message h.message) k.a } else k) x) (sym down) K
 
       by_session : (k : Link) → slice_get w.links p.link ≡ Some k → (b : Bool) → is_up_in h.session k ≡ b → AreTimelyLinks m (changed_at p.link (with_message h p.end) w.links) (links_after m (if not b then None else Some (p.link, Put (other p.end) false)) xs)
-      by_session k at true up = changed_both m p.link w.links xs T (with_message h p.end) (moved m (Put (other p.end) false)) (λ y x there K. put_over p.end y x (ap (is_up_in h.session) (Some_injective (sym there ∙ at)) ∙ up) K)
+      by_session k at true up = changed_both m p.link w.links xs T (with_message h p.end) (link_moved m (Put (other p.end) false)) (λ y x there K. put_over p.end y x (ap (is_up_in h.session) (Some_injective (sym there ∙ at)) ∙ up) K)
       by_session k at false down = changed_alone m p.link w.links xs T (with_message h p.end) (λ y x there K. left_off p.end y x (ap (is_up_in h.session) (Some_injective (sym there ∙ at)) ∙ down) K)
 
       by_link : (o : Option Link) → slice_get w.links p.link ≡ o → AreTimelyLinks m (changed_at p.link (with_message h p.end) w.links) (links_after m (if not (option_map_or (is_up_in h.session) o false) then None else Some (p.link, Put (other p.end) false)) xs)
@@ -76,11 +76,11 @@ module _ (w : World) (m : ℕ) (fits : m ≤ last_moment) (xs : List TimedLink) 
       by_link (Some k) at = by_session k at (is_up_in h.session k) refl
 
   pub links_next : (s : Step) → Lawful w s → AreTimelyLinks m (next w s).links (links_after m (motion_of w s) xs)
-  links_next (LinkUp l) L = changed_both m l w.links xs T link_come_up (moved m Told) (λ k x _ K. record {
+  links_next (LinkUp l) L = changed_both m l w.links xs T link_come_up (link_moved m Told) (λ k x _ K. record {
     to_a = put_timely m (k.a).inbox (Item.Up (k.session + 1) (k.a).cost) x.to_a fits K.to_a;
     to_b = put_timely m (k.b).inbox (Item.Up (k.session + 1) (k.b).cost) x.to_b fits K.to_b;
   })
-  links_next (LinkDown l) L = changed_both m l w.links xs T link_gone_down (moved m Cut) (λ k x _ K. record {
+  links_next (LinkDown l) L = changed_both m l w.links xs T link_gone_down (link_moved m Cut) (λ k x _ K. record {
     to_a = put_timely m (filter is_notice (k.a).inbox) (Item.Down k.session) (without_messages x.to_a) fits (cut_timely m (k.a).inbox x.to_a K.to_a);
     to_b = put_timely m (filter is_notice (k.b).inbox) (Item.Down k.session) (without_messages x.to_b) fits (cut_timely m (k.b).inbox x.to_b K.to_b);
   })

@@ -3,13 +3,13 @@ use Rattle.std.proofs.Common.{refl, sym, ap, subst, ◌∙◌, arith, inl, inr, 
 use Rattle.no_packet_loops.proofs.Common.{cases_eq, map-append, length-changed_at, slice_get-changed_at, slice_get-changed_at_other, None_not_Some, Some_injective, changed_at, is_notice, Item, Link}
 use Rattle.timed_simulation.specs.declared.links.Arrival.{Arrival}
 use Rattle.timed_simulation.specs.Links.{Direction, TimedLink, last_moment, later, with_put, with_taken, without_messages}
-use Rattle.timed_simulation.specs.Due.{IsTimely, IsTimelyLink, AreTimelyLinks}
+use Rattle.timed_simulation.specs.Due.{AreTimely, IsTimelyLink, AreTimelyLinks}
 use Rattle.timed_simulation.proofs.Rising.{rises_later, rises_tail, rises_push, rises_filter, up_to_later, up_to_tail, up_to_push, up_to_filter}
 
 -- ---- one direction
 
 -- an item is put at the back
-pub put_timely : (now : ℕ) (items : List Item) (item : Item) (d : Direction) → now ≤ last_moment → IsTimely now items d → IsTimely now (items ++ item ∷ []) (with_put now (is_notice item) d)
+pub put_timely : (now : ℕ) (items : List Item) (item : Item) (d : Direction) → now ≤ last_moment → AreTimely now items d → AreTimely now (items ++ item ∷ []) (with_put now (is_notice item) d)
 put_timely now items item d fits T = record {
   kinds = map-append (λ (a : Arrival). a.notice) d.arrivals (record { moment = later now d.delay; notice = is_notice item } ∷ []) ∙ ap (λ ks. ks ++ is_notice item ∷ []) T.kinds ∙ sym (map-append is_notice items (item ∷ []));
   rises = rises_push (λ (a : Arrival). a.moment) now d.arrivals (record { moment = later now d.delay; notice = is_notice item }) T.rises T.up_to (omega (arith, fits));
@@ -21,7 +21,7 @@ map_tail f [] = refl
 map_tail f (x ∷ xs) = refl
 
 -- the front item is taken
-pub taken_timely : (now : ℕ) (items : List Item) (d : Direction) → IsTimely now items d → IsTimely now (drop 1 items) (with_taken d)
+pub taken_timely : (now : ℕ) (items : List Item) (d : Direction) → AreTimely now items d → AreTimely now (drop 1 items) (with_taken d)
 taken_timely now items d T = record {
   kinds = map_tail (λ (a : Arrival). a.notice) d.arrivals ∙ ap (drop 1) T.kinds ∙ sym (map_tail is_notice items);
   rises = rises_tail (λ (a : Arrival). a.moment) now d.arrivals T.rises;
@@ -37,7 +37,7 @@ passing f (x ∷ xs) = by_test (f x) (passing f xs)
     by_test false rest = rest
 
 -- the messages are lost
-pub cut_timely : (now : ℕ) (items : List Item) (d : Direction) → IsTimely now items d → IsTimely now (filter is_notice items) (without_messages d)
+pub cut_timely : (now : ℕ) (items : List Item) (d : Direction) → AreTimely now items d → AreTimely now (filter is_notice items) (without_messages d)
 cut_timely now items d T = record {
   kinds = passing (λ (a : Arrival). a.notice) d.arrivals ∙ ap (filter (λ b. b)) T.kinds ∙ sym (passing is_notice items);
   rises = rises_filter (λ (a : Arrival). a.moment) (λ (a : Arrival). a.notice) now d.arrivals T.rises;
@@ -45,7 +45,7 @@ cut_timely now items d T = record {
 }
 
 -- the clock goes on, and passes no arrival
-pub later_timely : (now m : ℕ) (items : List Item) (d : Direction) → now ≤ m → ((a : Arrival) → slice_get d.arrivals 0 ≡ Some a → m ≤ a.moment) → IsTimely now items d → IsTimely m items d
+pub later_timely : (now m : ℕ) (items : List Item) (d : Direction) → now ≤ m → ((a : Arrival) → slice_get d.arrivals 0 ≡ Some a → m ≤ a.moment) → AreTimely now items d → AreTimely m items d
 later_timely now m items d le first T = record {
   kinds = T.kinds;
   rises = rises_later (λ (a : Arrival). a.moment) now m d.arrivals first T.rises;

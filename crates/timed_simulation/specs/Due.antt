@@ -108,15 +108,15 @@ UpTo moment to [] = Unit {0}
 UpTo moment to (x ∷ xs) = (moment x ≤ to) × UpTo moment to xs
 
 -- there is an arrival for each item of a direction, in their order, a notice for a notice. They are no sooner than now, and no later than of an item that is put now
-pub record IsTimely (now : ℕ) (items : List Item) (d : Direction) : Type 0 where
+pub record AreTimely (now : ℕ) (items : List Item) (d : Direction) : Type 0 where
   pub kinds : map (λ a. a.notice) d.arrivals ≡ map is_notice items
   pub rises : RisesFrom (λ a. a.moment) now d.arrivals
   pub up_to : UpTo (λ a. a.moment) (later now d.delay) d.arrivals
 
 -- both directions of a link are timely
 pub record IsTimelyLink (now : ℕ) (k : Link) (x : TimedLink) : Type 0 where
-  pub to_a : IsTimely now (k.a).inbox x.to_a
-  pub to_b : IsTimely now (k.b).inbox x.to_b
+  pub to_a : AreTimely now (k.a).inbox x.to_a
+  pub to_b : AreTimely now (k.b).inbox x.to_b
 
 -- so it is on each link
 pub record AreTimelyLinks (now : ℕ) (ks : List Link) (xs : List TimedLink) : Type 0 where

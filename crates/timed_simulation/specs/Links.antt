@@ -47,8 +47,8 @@ abbrev pub opening_direction : ℕ → Direction
 opening_direction delay = record { delay = delay; arrivals = [] }
 
 -- a link on which nothing is yet, in both directions
-abbrev pub opening_link : LinkDelays → TimedLink
-opening_link d = record { to_a = opening_direction d.to_a; to_b = opening_direction d.to_b }
+abbrev pub opening_directions : LinkDelays → TimedLink
+opening_directions d = record { to_a = opening_direction d.to_a; to_b = opening_direction d.to_b }
 
 -- towards this end
 abbrev pub towards : End → TimedLink → Direction
@@ -75,16 +75,16 @@ abbrev pub without_messages : Direction → Direction
 without_messages d = record d { arrivals = filter (λ x. x.notice) d.arrivals }
 
 -- a link to whose items this happens at this moment
-abbrev pub moved : ℕ → Motion → TimedLink → TimedLink
-moved now Told k = record { to_a = with_put now true k.to_a; to_b = with_put now true k.to_b }
-moved now Cut k = record { to_a = with_put now true (without_messages k.to_a); to_b = with_put now true (without_messages k.to_b) }
-moved now (Put to notice) k = changed_towards to (with_put now notice) k
-moved now (Taken at) k = changed_towards at with_taken k
+abbrev pub link_moved : ℕ → Motion → TimedLink → TimedLink
+link_moved now Told k = record { to_a = with_put now true k.to_a; to_b = with_put now true k.to_b }
+link_moved now Cut k = record { to_a = with_put now true (without_messages k.to_a); to_b = with_put now true (without_messages k.to_b) }
+link_moved now (Put to notice) k = changed_towards to (with_put now notice) k
+link_moved now (Taken at) k = changed_towards at with_taken k
 
 -- the same of the link of a number; nothing happens where there is none
 abbrev pub links_after : ℕ → Option (ℕ × Motion) → List TimedLink → List TimedLink
 links_after now None ks = ks
-links_after now (Some m) ks = changed_at m.0 (moved now m.1) ks
+links_after now (Some m) ks = changed_at m.0 (link_moved now m.1) ks
 
 -- which link's items a step moves, and how: both ends are told that the link comes up, or goes down; an end is told of a cost, or is sent a message, unless that is stale; an item is taken. A notice of an attachment is on no link
 abbrev pub motion_of : World → Step → Option (ℕ × Motion)
@@ -100,11 +100,11 @@ motion_of w (Detach i p) = None
 -- ---- room
 
 -- there is memory for one more item towards each end
-pub record HasRoom {A : Type 0} (k : LinkTimes A) : Type 0 where
+pub record HasLinkRoom {A : Type 0} (k : LinkTimes A) : Type 0 where
   pub to_a : deque_len k.to_a.arrivals < deque_capacity k.to_a.arrivals
   pub to_b : deque_len k.to_b.arrivals < deque_capacity k.to_b.arrivals
 
 -- so on the link whose items are moved
-abbrev pub HasRoomFor : {A : Type 0} → List (LinkTimes A) → Option (ℕ × Motion) → Type 0
-HasRoomFor ks None = ⊤
-HasRoomFor {A} ks (Some m) = (k : LinkTimes A) → slice_get ks m.0 ≡ Some k → HasRoom k
+abbrev pub HasLinkRoomFor : {A : Type 0} → List (LinkTimes A) → Option (ℕ × Motion) → Type 0
+HasLinkRoomFor ks None = ⊤
+HasLinkRoomFor {A} ks (Some m) = (k : LinkTimes A) → slice_get ks m.0 ≡ Some k → HasLinkRoom k

@@ -11,7 +11,7 @@ use Rattle.timed_simulation.specs.declared.links.LinkDelays.{LinkDelays}
 use Rattle.timed_simulation.specs.declared.events.Change.{Change}
 use Rattle.timed_simulation.specs.declared.events.Event.{Event}
 use Rattle.timed_simulation.specs.declared.events.RouterTime.{RouterTime}
-use Rattle.timed_simulation.specs.Links.{TimedLink, links_after, motion_of, opening_link}
+use Rattle.timed_simulation.specs.Links.{TimedLink, links_after, motion_of, opening_directions}
 
 -- the simulation, the moment of its last step (the clock), when the items on each link arrive, how long each router takes to publish and since when it has something to publish, and the changes that are given and not yet done, by their moments
 pub record Timed : Type 0 where
@@ -30,12 +30,12 @@ abbrev pub world_of : Timed → World
 world_of t = (t.simulation).world
 
 -- a router that has had nothing to publish yet
-abbrev pub opening_router : ℕ → RouterTime
-opening_router delay = record { delay = delay; since = 0 }
+abbrev pub opening_router_time : ℕ → RouterTime
+opening_router_time delay = record { delay = delay; since = 0 }
 
 -- a network at its opening, with the delays of its links and of its routers' publications
 abbrev pub opening_timed : Network → List LinkDelays → List ℕ → Timed
-opening_timed n links routers = timed_of (opening_simulation n) 0 (map opening_link links) (map opening_router routers) []
+opening_timed n links routers = timed_of (opening_simulation n) 0 (map opening_directions links) (map opening_router_time routers) []
 
 -- whether router i has something to publish
 abbrev pub is_due_at : World → ℕ → Bool
@@ -76,5 +76,5 @@ abbrev pub place_among : ℕ → List Change → ℕ
 place_among moment cs = unwrap_or (position (λ c. nat_lt moment c.moment) cs) (length cs)
 
 -- with one more change given
-abbrev pub with_change : Change → Timed → Timed
-with_change c t = record t { changes = insert t.changes (place_among c.moment t.changes) c }
+abbrev pub with_timed_change : Change → Timed → Timed
+with_timed_change c t = record t { changes = insert t.changes (place_among c.moment t.changes) c }

@@ -5,7 +5,7 @@ ghost use Rattle.network_model.specs.World.{degree_of, place_at};
 ghost use Rattle.coming_to_rest.specs.Worlds.{is_own};
 ghost use Rattle.simulation.specs.Headline as headline;
 ghost use Rattle.simulation.specs.Simulation as simulations;
-ghost use Rattle.timed_simulation.specs.Timed.{after_event, opening_timed, with_change, world_of};
+ghost use Rattle.timed_simulation.specs.Timed.{after_event, opening_timed, with_timed_change, world_of};
 ghost use Rattle.timed_simulation.specs.Events.{arrival_event, change_event, event_now, home_event, next_event, own_event, publication_event, publication_moment, router_event, waiting_event};
 ghost use Rattle.timed_simulation.specs.Next.{next_moment};
 ghost use Rattle.timed_simulation.specs.Due.{NothingIsDue, NothingIsLate, NothingIsLeftOut};
@@ -247,7 +247,7 @@ impl<A: SmallAllocator> Clocked<A> {
     pub fn at(&mut self, moment: u64, change: Step) -> Result<(), TimeFault>
         requires { is_own change ≡ false }
         ensures ok { OnOk result (self.new
-            ≡ with_change (record { moment = moment; step = change }) self.old) }
+            ≡ with_timed_change (record { moment = moment; step = change }) self.old) }
         ensures err { OnErr result (self.new ≡ self.old) }
         ensures cause { IsGivenOr (self.old).clock moment result }
     {

@@ -2,7 +2,7 @@
 
 ghost use Rattle.std.specs.Prelude.{◌≡◌, ◌<◌, IfOk, IfSome, OnErr, OnOk, drop, if◌then◌else◌, insert, length, map, nat_lt, not, position};
 ghost use Rattle.timed_simulation.specs.Events.{sooner};
-ghost use Rattle.timed_simulation.specs.Timed.{begins_at, opening_router, place_among, routers_after};
+ghost use Rattle.timed_simulation.specs.Timed.{begins_at, opening_router_time, place_among, routers_after};
 ghost use Rattle.coming_to_rest.specs.Worlds.{is_own};
 
 use network_model::{NoMemory, SmallAllocator, Step};
@@ -50,7 +50,7 @@ pub fn opening_routers<A: SmallAllocator>(
     alloc: A,
     delays: &[u64],
 ) -> Result<Vec<RouterTime, A>, NoMemory>
-    ensures { IfOk result (λ routers. routers.items ≡ map opening_router delays.now) }
+    ensures { IfOk result (λ routers. routers.items ≡ map opening_router_time delays.now) }
 {
     let mut routers = Vec::new(alloc);
     for delay in delays {

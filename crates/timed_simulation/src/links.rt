@@ -5,7 +5,7 @@ ghost use Rattle.std.specs.Option.{option_map_or};
 ghost use Rattle.std.specs.VecDeque.{deque_capacity, deque_len};
 ghost use Rattle.network_model.specs.Step as step;
 ghost use Rattle.course.specs.Links.{HasLinksOfPorts};
-ghost use Rattle.timed_simulation.specs.Links.{direction_of, later, link_of, links_after, motion_of, moved, opening_direction, opening_link, towards, with_put, with_taken, without_messages, HasRoom, HasRoomFor};
+ghost use Rattle.timed_simulation.specs.Links.{direction_of, later, link_of, links_after, motion_of, link_moved, opening_direction, opening_directions, towards, with_put, with_taken, without_messages, HasLinkRoom, HasLinkRoomFor};
 
 use network_model::{End, NoMemory, SmallAllocator, Step};
 use std::alloc::{AllocError, Allocator};
@@ -131,7 +131,7 @@ impl<S: Allocator> LinkTimes<S> {
     // Makes room for one more item towards each end.
     fn reserve(&mut self) -> Result<(), AllocError>
         ensures same { link_of self.new ≡ link_of self.old }
-        ensures ok { OnOk result (HasRoom self.new) }
+        ensures ok { OnOk result (HasLinkRoom self.new) }
     {
         self.to_a.reserve()?;
         self.to_b.reserve()
@@ -139,8 +139,8 @@ impl<S: Allocator> LinkTimes<S> {
 
     // This happens to the items.
     fn note(&mut self, now: u64, motion: Motion)
-        requires { HasRoom self.old }
-        ensures { link_of self.new ≡ moved now motion (link_of self.old) }
+        requires { HasLinkRoom self.old }
+        ensures { link_of self.new ≡ link_moved now motion (link_of self.old) }
     {
         match motion {
             Motion::Told => {
@@ -164,7 +164,7 @@ pub fn opening_links<A: SmallAllocator>(
     alloc: A,
     delays: &[LinkDelays],
 ) -> Result<Vec<LinkTimes<A>, A>, NoMemory>
-    ensures { IfOk result (λ links. map link_of links.items ≡ map opening_link delays.now) }
+    ensures { IfOk result (λ links. map link_of links.items ≡ map opening_directions delays.now) }
 {
     let mut links = Vec::new(alloc);
     for delay in delays {
@@ -182,7 +182,7 @@ pub fn reserve<A: SmallAllocator>(
     motion: Option<(u16, Motion)>,
 ) -> Result<(), NoMemory>
     ensures same { map link_of links.new.items ≡ map link_of links.old.items }
-    ensures ok { OnOk result (HasRoomFor links.new.items motion) }
+    ensures ok { OnOk result (HasLinkRoomFor links.new.items motion) }
 {
     let Some((link, _)) = motion else {
         return Ok(());
@@ -200,7 +200,7 @@ pub fn note<A: SmallAllocator>(
     now: u64,
     motion: Option<(u16, Motion)>,
 )
-    requires { HasRoomFor links.old.items motion }
+    requires { HasLinkRoomFor links.old.items motion }
     ensures { map link_of links.new.items ≡ links_after now motion (map link_of links.old.items) }
 {
     let Some((link, motion)) = motion else {

@@ -4,7 +4,7 @@ ghost use Rattle.std.specs.Prelude.{IsTrue, ◌≡◌, ◌≤◌, ◌<◌, ◌�
 ghost use Rattle.coming_to_rest.specs.Worlds.{is_own};
 ghost use Rattle.simulation.specs.Headline as headline;
 ghost use Rattle.simulation.specs.Simulation as simulations;
-ghost use Rattle.timed_simulation.specs.Timed.{after_event, opening_timed, with_change, world_of};
+ghost use Rattle.timed_simulation.specs.Timed.{after_event, opening_timed, with_timed_change, world_of};
 ghost use Rattle.timed_simulation.specs.Events.{next_event, router_event, soonest};
 ghost use Rattle.timed_simulation.specs.Due.{IsDoneUntil, IsDue, IsFirst, NothingIsDue, NothingIsLate, NothingIsLeftOut};
 ghost use Rattle.timed_simulation.specs.Runs.{IsAtRest, IsGivenOr, IsNext, IsStoppedAt, IsStoppedFor, IsStoppedShort, IsTimed, IsTimedRun};
@@ -138,7 +138,7 @@ impl<A: SmallAllocator> TimedSimulation<A> {
     pub fn at(&mut self, moment: u64, change: Step) -> Result<(), TimeFault>
         requires { is_own change ≡ false }
         ensures ok { OnOk result (self.new
-            ≡ with_change (record { moment = moment; step = change }) self.old) }
+            ≡ with_timed_change (record { moment = moment; step = change }) self.old) }
         ensures err { OnErr result (self.new ≡ self.old) }
         ensures cause { IsGivenOr (self.old).clock moment result }
     {

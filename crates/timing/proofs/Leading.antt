@@ -8,7 +8,7 @@ use Rattle.simulation.specs.Simulation.{simulation_refusal}
 use Rattle.timed_simulation.specs.declared.events.Change.{Change}
 use Rattle.timed_simulation.specs.declared.events.Event.{Event}
 use Rattle.timed_simulation.specs.declared.fault.TimeFault.TheVariants.{Refused}
-use Rattle.timed_simulation.specs.Timed.{Timed, after_event, with_change}
+use Rattle.timed_simulation.specs.Timed.{Timed, after_event, with_timed_change}
 use Rattle.timed_simulation.specs.Events.{next_event}
 use Rattle.timed_simulation.specs.Due.{IsDue, IsDoneUntil}
 use Rattle.timed_simulation.specs.Runs.{IsNext, IsStoppedAt, IsTimedRun, LeadsTo}
@@ -90,7 +90,7 @@ timed_with f (On r) = refl
 
 -- one more is given
 given_more : (cs : List Change) (i : ℕ) (d : Change) (t : Timed) → i < length cs
-    → with_changes (drop i cs) t ≡ with_changes (drop (suc i) cs) (with_change (get_or cs i d) t)
+    → with_changes (drop i cs) t ≡ with_changes (drop (suc i) cs) (with_timed_change (get_or cs i d) t)
 given_more [] i d t within = absurd (omega (arith, within))
 given_more (c ∷ cs) zero d t within = refl
 given_more (c ∷ cs) (suc i) d t within = given_more cs i d t (omega (arith, within))
@@ -106,8 +106,8 @@ on_ok_more (Ok x) P Q more holds = more holds
 on_ok_more (Err e) P Q more holds = tt
 
 pub given_at : {E : Type 0} (cs : List Change) (i : ℕ) (c : Change) (r : Result ⊤ E) (t u wanted : Timed) → i < length cs → c ≡ get_or cs i c
-    → with_changes (drop i cs) t ≡ wanted → false ≡ is_err r → OnOk r (u ≡ with_change c t) → with_changes (drop (i + 1) cs) u ≡ wanted
+    → with_changes (drop i cs) t ≡ wanted → false ≡ is_err r → OnOk r (u ≡ with_timed_change c t) → with_changes (drop (i + 1) cs) u ≡ wanted
 given_at cs i c r t u wanted within is so_far ok done =
     let next : suc i ≡ i + 1 = omega arith in
     subst (λ n. with_changes (drop n cs) u ≡ wanted) next
-    (ap (with_changes (drop (suc i) cs)) (on_ok r (u ≡ with_change c t) ok done ∙ ap (λ x. with_change x t) is) ∙ sym (given_more cs i c t within) ∙ so_far)
+    (ap (with_changes (drop (suc i) cs)) (on_ok r (u ≡ with_timed_change c t) ok done ∙ ap (λ x. with_timed_change x t) is) ∙ sym (given_more cs i c t within) ∙ so_far)

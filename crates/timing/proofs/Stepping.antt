@@ -7,7 +7,7 @@ use Rattle.network_model.specs.World.{Network, World, opening}
 use Rattle.network_model.specs.Run.{Runs}
 use Rattle.timed_simulation.specs.declared.events.Change.{Change}
 use Rattle.timed_simulation.specs.declared.events.Event.{Event}
-use Rattle.timed_simulation.specs.Timed.{Timed, opening_timed, with_change, world_of}
+use Rattle.timed_simulation.specs.Timed.{Timed, opening_timed, with_timed_change, world_of}
 use Rattle.timed_simulation.specs.Runs.{steps_of}
 use Rattle.timing.specs.declared.times.Times.{Times}
 use Rattle.timing.specs.Runs.{ComesNext, with_changes}
@@ -59,7 +59,7 @@ network_of t (c ∷ cs) u all = network_of all.0 cs u all.2 ∙ go c.refusal all
 
 given_same : (cs : List Change) (t : Timed) → (with_changes cs t).simulation ≡ t.simulation
 given_same [] t = refl
-given_same (c ∷ cs) t = given_same cs (with_change c t)
+given_same (c ∷ cs) t = given_same cs (with_timed_change c t)
 
 module _ (n : Network) (times : Times) (steps : List Step) (moments : List ℕ) (end : Timed) (runs : RunsInSteps n times steps moments end) where
   abbrev opened : Timed

@@ -8,7 +8,7 @@ use Rattle.plans.specs.declared.fault.Fault.{Fault}
 use Rattle.plans.specs.Faults.{refused_fault, unplaced}
 use Rattle.timed_simulation.specs.declared.events.Change.{Change}
 use Rattle.timed_simulation.specs.declared.events.Event.{Event}
-use Rattle.timed_simulation.specs.Timed.{Timed, after_event, with_change, world_of}
+use Rattle.timed_simulation.specs.Timed.{Timed, after_event, with_timed_change, world_of}
 use Rattle.timed_simulation.specs.Events.{next_event}
 use Rattle.timed_simulation.specs.Due.{IsDue}
 use Rattle.timed_simulation.specs.Runs.{IsNext, IsTimedRun}
@@ -23,7 +23,7 @@ snapshot_of t = record { now = t.clock; steps = (t.simulation).steps; sent = (t.
 -- with these changes given, one after another
 abbrev pub with_changes : List Change → Timed → Timed
 with_changes [] t = t
-with_changes (c ∷ cs) t = with_changes cs (with_change c t)
+with_changes (c ∷ cs) t = with_changes cs (with_timed_change c t)
 
 -- what is done next comes: it is done; or it is a change whose step is refused for this reason, and it is taken off
 abbrev pub ComesNext : Timed → Event → Timed → Option Refusal → Type 0
