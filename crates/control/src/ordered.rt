@@ -4,7 +4,7 @@ ghost use Rattle.std.specs.Prelude.{◌≡◌, IsTrue, IfErr, OnOk};
 ghost use Rattle.network_model.specs.Turns as turns;
 ghost use Rattle.network_model.specs.Forwarding.{is_quiet};
 ghost use Rattle.fabric.specs.Headline.{HasBestRows};
-ghost use Rattle.guarded.specs.Served.{IsServed, IsStopped, none_asked};
+ghost use Rattle.guarded.specs.Served.{IsServed, IsFabricStopped, none_asked};
 
 use crate::progress::Progress;
 use crate::settling::report_steps;
@@ -31,7 +31,7 @@ where
     ensures settled { OnOk result (IsTrue (turns.is_settled (fabric.new).world)) }
     ensures quiet { OnOk result (IsTrue (is_quiet (fabric.new).world)) }
     ensures least_cost { OnOk result (HasBestRows fabric.new) }
-    ensures err { IfErr result (IsStopped fabric.new) }
+    ensures err { IfErr result (IsFabricStopped fabric.new) }
     ensures lent { (fabric.new).lent ≡ (fabric.old).lent }
 {
     let mut turns = Turns::new(order, fabric.network().routers());

@@ -7,7 +7,7 @@ ghost use Rattle.network_model.specs.Forwarding.{is_quiet};
 ghost use Rattle.fabric.specs.Fabric.{Fabric as FabricState, count_lent};
 ghost use Rattle.fabric.specs.Headline.{HasBestRows};
 ghost use Rattle.guarded.specs.Names.{IsNamed};
-ghost use Rattle.guarded.specs.Served.{AreBack, IsServed, IsStopped, IsTurnRefused, none_asked};
+ghost use Rattle.guarded.specs.Served.{AreBack, IsServed, IsFabricStopped, IsTurnRefused, none_asked};
 ghost use Rattle.guarded.specs.Shares.{HasServed, HaveServed, IsHolder, KeptTickets, owes};
 
 use crate::control::Control;
@@ -66,7 +66,7 @@ where
     ensures least_cost { OnOk result (HasBestRows fabric.new) }
     ensures err { IfErr result (λ e. IsTurnRefused fabric.old none_asked e
         ⊎ (e ≡ Refusal.NoMemory)) }
-    ensures alone { crew.threads ≤ 1 → IfErr result (IsStopped fabric.new) }
+    ensures alone { crew.threads ≤ 1 → IfErr result (IsFabricStopped fabric.new) }
     ensures back { AreBack fabric.old fabric.new result }
 {
     let by = (rt, alloc, crew, gate, progress);
@@ -90,7 +90,7 @@ where
     ensures quiet { OnOk result.1 (IsTrue (is_quiet (result.0).world)) }
     ensures err { IfErr result.1 (λ e. IsTurnRefused fabric none_asked e
         ⊎ (e ≡ Refusal.NoMemory)) }
-    ensures alone { (by.entry.2).threads ≤ 1 → IfErr result.1 (IsStopped result.0) }
+    ensures alone { (by.entry.2).threads ≤ 1 → IfErr result.1 (IsFabricStopped result.0) }
     ensures back { AreBack fabric result.0 result.1 }
 {
     let (rt, alloc, crew, gate, progress) = by;
@@ -117,7 +117,7 @@ where
     ensures settled { OnOk result.1 (IsTrue (turns.is_settled (result.0).world)) }
     ensures quiet { OnOk result.1 (IsTrue (is_quiet (result.0).world)) }
     ensures err { IfErr result.1 (λ e. IsTurnRefused O.from none_asked e ⊎ (e ≡ Refusal.NoMemory)) }
-    ensures alone { crew.threads ≤ 1 → IfErr result.1 (IsStopped result.0) }
+    ensures alone { crew.threads ≤ 1 → IfErr result.1 (IsFabricStopped result.0) }
     ensures back { AreBack O.from result.0 result.1 }
 {
     let mut fabric = fabric;
@@ -161,7 +161,7 @@ where
     requires { IsServed O.from none_asked fabric.old }
     ensures turns { IsServed O.from none_asked fabric.new }
     ensures err { IfErr result (IsTurnRefused O.from none_asked) }
-    ensures alone { IfErr result (IsStopped fabric.new) }
+    ensures alone { IfErr result (IsFabricStopped fabric.new) }
     ensures lent { (fabric.new).lent ≡ (fabric.old).lent }
 {
     let mut turns = Turns::new(Order::Cyclic, fabric.network().routers());

@@ -16,7 +16,7 @@ use Rattle.course.proofs.Idle.{busy-unsettled}
 use Rattle.world.proofs.Runs.{with_last_step}
 use Rattle.fabric.specs.Fabric.{Fabric, after_step, awaits_writer, count_lent, fabric_refusal, is_lent, lent_at, with_lent}
 use Rattle.course.specs.Images.{images_in_force}
-use Rattle.guarded.specs.Served.{AreTurns, IsServed, IsStopped, IsTurnAt, PublishesNext, images_after}
+use Rattle.guarded.specs.Served.{AreTurns, IsServed, IsFabricStopped, IsTurnAt, PublishesNext, images_after}
 use Rattle.guarded.proofs.WritersOut.{lent_kept}
 
 -- ---- a router that publishes next
@@ -93,7 +93,7 @@ turn_lawful : (f : Fabric) (i : ℕ) (s : Step) → next_turn f i ≡ Some s →
 turn_lawful f i s due = Lawful_to_refusal f.world s (next_chosen f.world i s (turn_next f i s due)).1
 
 -- a step that a router has to do next is refused for want of room or of memory alone
-pub stopped : (f : Fabric) (i : ℕ) (s : Step) (e : Refusal) → next_turn f i ≡ Some s → CanBeRefused (fabric_refusal f s) e → IsStopped f e
+pub stopped : (f : Fabric) (i : ℕ) (s : Step) (e : Refusal) → next_turn f i ≡ Some s → CanBeRefused (fabric_refusal f s) e → IsFabricStopped f e
 stopped f i s e due refused = record {
   unsettled = busy-unsettled f.world i s (turn_next f i s due);
   cause = by_room (nat_lt (length f.journal + count_lent f.lent) most_steps) refl refused;

@@ -100,7 +100,7 @@ pub record IsTurnRefused (opened : Fabric) (asked : Step → Bool) (e : Refusal)
   pub refused : CanBeRefused (fabric_refusal fabric step) e ⊎ ((step ≡ Publish router) × (e ≡ WrongTicket))
 
 -- why one thread that takes all turns stops before nothing is left to do: the journal, with the places set aside, is full; or there is no memory
-pub record IsStopped (f : Fabric) (e : Refusal) : Type 0 where
+pub record IsFabricStopped (f : Fabric) (e : Refusal) : Type 0 where
   pub unsettled : is_settled f.world ≡ false
   pub cause : ((e ≡ JournalFull) × (most_steps ≤ length f.journal + count_lent f.lent)) ⊎ (e ≡ NoMemory)
 

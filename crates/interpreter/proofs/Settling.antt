@@ -7,7 +7,7 @@ use Rattle.network_model.specs.declared.step.Refusal.{Refusal}
 use Rattle.network_model.specs.declared.step.Refusal.TheVariants.{JournalFull, NoMemory}
 use Rattle.fabric.specs.Fabric.{Fabric}
 use Rattle.guarded.specs.Served.{IsServed, IsTurnRefused, none_asked}
-use Rattle.guarded.specs.Served.{IsStopped as IsStoppedHere}
+use Rattle.guarded.specs.Served.{IsFabricStopped}
 use Rattle.network_model.specs.declared.step.Step.{Step}
 use Rattle.network_model.specs.Turns.{is_settled}
 use Rattle.simulation.specs.Simulation.{Simulation, after_step, after_steps}
@@ -37,7 +37,7 @@ stops_here (Err e) f g served (inl turn) = record { served = served; cause = inl
 stops_here (Err e) f g served (inr memory) = record { served = served; cause = inr (inl memory) }
 
 -- and in an order that is drawn
-pub stops_drawn : (r : Result ⊤ Refusal) (f g : Fabric) → IsServed f none_asked g → IfErr r (IsStoppedHere g) → IfErr r (StopsSettling f g)
+pub stops_drawn : (r : Result ⊤ Refusal) (f g : Fabric) → IsServed f none_asked g → IfErr r (IsFabricStopped g) → IfErr r (StopsSettling f g)
 stops_drawn (Ok x) f g served why = tt
 stops_drawn (Err e) f g served why = record { served = served; cause = inr (inr why) }
 

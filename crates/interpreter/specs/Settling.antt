@@ -7,7 +7,7 @@ use Rattle.network_model.specs.Turns.{is_settled}
 use Rattle.fabric.specs.Fabric.{Fabric}
 use Rattle.fabric.specs.Headline.{HasBestRows}
 use Rattle.guarded.specs.Served.{IsServed, IsTurnRefused, none_asked}
-use Rattle.guarded.specs.Served.{IsStopped as IsStoppedHere}
+use Rattle.guarded.specs.Served.{IsFabricStopped}
 use Rattle.simulation.specs.Simulation.{Simulation}
 use Rattle.simulation.specs.Headline.{HasBestRows as HasBestRowsThere}
 use Rattle.simulation.specs.Settling.{HasTurned, IsStopped}
@@ -24,7 +24,7 @@ pub record Settles (f g : Fabric) : Type 0 where
 -- such steps were done, and on the way one was refused, or there was no memory for the threads; or the journal has no place for the next step, or there is no memory for it
 pub record StopsSettling (f g : Fabric) (e : Refusal) : Type 0 where
   pub served : IsServed f none_asked g
-  pub cause : IsTurnRefused f none_asked e ⊎ (e ≡ NoMemory) ⊎ IsStoppedHere g e
+  pub cause : IsTurnRefused f none_asked e ⊎ (e ≡ NoMemory) ⊎ IsFabricStopped g e
 
 -- ---- where they are counted
 

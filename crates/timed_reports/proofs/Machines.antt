@@ -16,7 +16,7 @@ use Rattle.link_fifo.specs.Refusals.{front_of}
 use Rattle.link_fifo.proofs.Changes.{front_of-Some}
 use Rattle.timed_reports.specs.declared.spells.Watched.{Watched}
 use Rattle.timed_reports.specs.Going.{IsComputing}
-use Rattle.timed_reports.specs.Looks.{IsPassedBy, IsTold}
+use Rattle.timed_reports.specs.Looks.{IsPassedBy, IsToldPrefix}
 use Rattle.timed_reports.specs.Records.{IsElsewhere}
 
 -- router i has the same machine for the prefix in both worlds
@@ -90,7 +90,7 @@ front_there w i q x item at answer =
     by_link (Some k) h = front_of-Some x.end k item h
 
 -- whoever is passed by is elsewhere
-pub passed_elsewhere : (w : World) (s : Step) (told : Option Prefix) → IfSome told (IsTold w s) → (c : Watched) → IsPassedBy s told c → IsElsewhere w s c
+pub passed_elsewhere : (w : World) (s : Step) (told : Option Prefix) → IfSome told (IsToldPrefix w s) → (c : Watched) → IsPassedBy s told c → IsElsewhere w s c
 passed_elsewhere w (LinkUp l) told tells c passed = tt
 passed_elsewhere w (LinkDown l) told tells c passed = tt
 passed_elsewhere w (SetCost i q cost) told tells c passed = tt

@@ -17,7 +17,7 @@ use Rattle.timed_reports.specs.declared.spells.Spell.{Spell}
 use Rattle.timed_reports.specs.declared.spells.Watched.{Watched}
 use Rattle.timed_reports.specs.Going.{IsComputing}
 use Rattle.timed_reports.specs.Records.{AreInOrder, AreLooked, AreWatched, IsElsewhere, IsRecorded, MovesNoWay, moves_ways}
-use Rattle.timed_reports.specs.Looks.{IsPassedBy, IsStill, IsTold, MarksMoved}
+use Rattle.timed_reports.specs.Looks.{IsPassedBy, IsStill, IsToldPrefix, MarksMoved}
 use Rattle.timed_reports.specs.Reports.{HasGrown, IsReport, IsReportOf, IsReportRun, RecordsEvent, Reported, reported_of}
 use Rattle.timed_reports.proofs.Lists.{prefix_further, prefix_same}
 use Rattle.timed_reports.proofs.OneMore.{ascends_all, leads_all, runs_all}
@@ -94,7 +94,7 @@ report_after es old e computations computing outages cut_off R is L M =
     }
 
 -- the same of what the code has of it: what it left aside is what the message that was taken, and the marks, allow
-pub records_event : (old : Reported) (e : Event) (timed : Timed) (told : Option Prefix) (marks : List Bool) (w u : World) (past out : List Spell) (computations : List Spell) (computing : List Watched) (outages : List Spell) (cut_off : List Watched) → IsNext old.timed e → timed ≡ after_event old.timed e → IfSome told (IsTold (world_of old.timed) e.step)
+pub records_event : (old : Reported) (e : Event) (timed : Timed) (told : Option Prefix) (marks : List Bool) (w u : World) (past out : List Spell) (computations : List Spell) (computing : List Watched) (outages : List Spell) (cut_off : List Watched) → IsNext old.timed e → timed ≡ after_event old.timed e → IfSome told (IsToldPrefix (world_of old.timed) e.step)
     → (moves_ways e.step ≡ true → MarksMoved (world_of old.timed) e.step marks) → w ≡ world_of timed → u ≡ world_of timed → past ≡ old.computations → out ≡ old.outages
     → AreLooked IsComputing w e.moment (IsPassedBy e.step told) (length old.computing) old.computing computing past computations
     → AreLooked IsCutOff u e.moment (IsStill e.step u.prefixes marks) (length old.cut_off) old.cut_off cut_off out outages

@@ -24,15 +24,15 @@ HasRoomForMarks w m = size m ≡ length w.routers
 -- ---- computations
 
 -- the step takes a message for this prefix
-abbrev pub IsTold : World → Step → Prefix → Type 0
-IsTold w (Deliver i q) p = (m : Message) × (front_at w i q ≡ Some (Item.Message m)) × (m.prefix ≡ p)
-IsTold w (LinkUp l) p = ⊥
-IsTold w (LinkDown l) p = ⊥
-IsTold w (SetCost i q cost) p = ⊥
-IsTold w (Publish i) p = ⊥
-IsTold w (Release i) p = ⊥
-IsTold w (Attach i q cost) p = ⊥
-IsTold w (Detach i q) p = ⊥
+abbrev pub IsToldPrefix : World → Step → Prefix → Type 0
+IsToldPrefix w (Deliver i q) p = (m : Message) × (front_at w i q ≡ Some (Item.Message m)) × (m.prefix ≡ p)
+IsToldPrefix w (LinkUp l) p = ⊥
+IsToldPrefix w (LinkDown l) p = ⊥
+IsToldPrefix w (SetCost i q cost) p = ⊥
+IsToldPrefix w (Publish i) p = ⊥
+IsToldPrefix w (Release i) p = ⊥
+IsToldPrefix w (Attach i q cost) p = ⊥
+IsToldPrefix w (Detach i q) p = ⊥
 
 -- whether a router's machine for the prefix meets what the router takes: where a message is known to be for one prefix, its machine alone does, else each may
 abbrev pub meets : Option Prefix → Prefix → Bool

@@ -12,7 +12,7 @@ ghost use Rattle.no_packet_loops.specs.Packets.{control_entry, published_entry};
 ghost use Rattle.reachability.specs.Marks.{size};
 ghost use Rattle.reachability.specs.Ways.{IsCutOff, IsJoined};
 ghost use Rattle.timed_reports.specs.Going.{IsComputing};
-ghost use Rattle.timed_reports.specs.Looks.{AreLookedFurther, AreMarked, HasMarks, IsPassedBy, IsStill, IsTold, IsUnmet, MarksMoved, meets};
+ghost use Rattle.timed_reports.specs.Looks.{AreLookedFurther, AreMarked, HasMarks, IsPassedBy, IsStill, IsToldPrefix, IsUnmet, MarksMoved, meets};
 ghost use Rattle.timed_reports.specs.Records.{AreInOrder, AreLooked, IsLooked, MovesNoWay, moves_ways};
 
 use crate::spells::{Spell, Watched, note};
@@ -24,7 +24,7 @@ use world::World;
 
 /// The prefix of the message that a router takes by this step, if it takes one.
 pub fn told_prefix<A: SmallAllocator>(world: &World<A>, step: &Step) -> Option<Prefix>
-    ensures { IfSome result (λ p. IsTold world.now step.now p) }
+    ensures { IfSome result (λ p. IsToldPrefix world.now step.now p) }
 {
     let Step::Deliver { router, port } = *step else {
         return None;
@@ -239,7 +239,16 @@ pub fn look_for_computations<A: SmallAllocator>(
 {
     if let Step::Deliver { router, .. } = *step {
         let routers = world.routers().len();
-        look_at_router(world, world.prefixes(), routers, router, told, now, all, ended);
+        look_at_router(
+            world,
+            world.prefixes(),
+            routers,
+            router,
+            told,
+            now,
+            all,
+            ended,
+        );
     }
 }
 

@@ -7,7 +7,7 @@ ghost use Rattle.timed_simulation.specs.Timed.{after_event, opening_timed, with_
 ghost use Rattle.timed_simulation.specs.Events.{next_event};
 ghost use Rattle.timed_simulation.specs.Due.{IsDoneUntil, NothingIsLate};
 ghost use Rattle.timed_simulation.specs.Runs.{IsAtRest, IsGivenOr, IsNext, IsStoppedAt, IsStoppedShort, IsTimed};
-ghost use Rattle.timed_reports.specs.Looks.{HasMarks, IsTold, MarksMoved};
+ghost use Rattle.timed_reports.specs.Looks.{HasMarks, IsToldPrefix, MarksMoved};
 ghost use Rattle.timed_reports.specs.Records.{moves_ways};
 ghost use Rattle.timed_reports.specs.Reports.{IsReport, IsReportOf, IsReportRun, RecordsEvent};
 
@@ -78,7 +78,7 @@ fn look_ahead<A: SmallAllocator>(
     marks: &mut Vec<bool, A>,
 ) -> Option<Prefix>
     requires { HasMarks (world_of timed.now) marks.old.items }
-    ensures told { IfSome result (λ p. IsTold (world_of timed.now) step.now p) }
+    ensures told { IfSome result (λ p. IsToldPrefix (world_of timed.now) step.now p) }
     ensures marked { moves_ways step.now ≡ true → MarksMoved (world_of timed.now) step.now marks.new.items }
     ensures many { length marks.new.items ≡ length marks.old.items }
 {

@@ -1,6 +1,6 @@
 use Rattle.std.proofs.Common.{◌≡◌, ◌∙◌, Some, ap, refl, sym, subst, inl, inr}
 use Rattle.fabric.specs.Fabric.{Fabric, fabric_refusal, next_fabric_step}
-use Rattle.guarded.specs.Served.{IsServed, IsStopped, none_asked}
+use Rattle.guarded.specs.Served.{IsServed, IsFabricStopped, none_asked}
 use Rattle.guarded.proofs.Served.{done_free, served_next, stopped, turn_next}
 use Rattle.course.proofs.Courses.{refused_as}
 use Rattle.control.proofs.settling.take_turns.Goals as goal
@@ -43,7 +43,7 @@ returns-in-Err-clause-alone g c =
     let e = c.in-Err.refusal in
     let due : next_fabric_step f router ≡ Some s = ap (λ (h : Fabric). next_fabric_step h router) c.turn_from.ensures.same ∙ c.in-Some-turn_from.ensures.some in
     let cause = refused_as _ (fabric_refusal f s) e c.in-Err.ensures.cause in
-    subst (λ h. IsStopped h e) (sym c.in-Err.ensures.err) (stopped f router s e due cause)
+    subst (λ h. IsFabricStopped h e) (sym c.in-Err.ensures.err) (stopped f router s e due cause)
 
 pub returns-in-Err-clause-turns : goal.returns-in-Err-clause-turns
 returns-in-Err-clause-turns g c = subst (IsServed g.O.Origin.from none_asked) (sym (c.in-Err.ensures.err ∙ c.turn_from.ensures.same)) c.loop.invariant.0

@@ -2,7 +2,7 @@ use Rattle.std.proofs.Common.{◌≡◌, ◌∙◌, IfSome, ap, sym, subst}
 use Rattle.no_packet_loops.proofs.Common.{Prefix, World}
 use Rattle.simulation.specs.Simulation.{Simulation}
 use Rattle.timed_simulation.specs.Timed.{world_of}
-use Rattle.timed_reports.specs.Looks.{HasMarks, IsTold, MarksMoved}
+use Rattle.timed_reports.specs.Looks.{HasMarks, IsToldPrefix, MarksMoved}
 use Rattle.timed_reports.proofs.report.look_ahead.Goals as goal
 
 pub mark_moved-requires : goal.mark_moved-requires
@@ -13,7 +13,7 @@ mark_moved-requires g c =
 pub returns-clause-told : goal.returns-clause-told
 returns-clause-told g c =
     let world : c.world-world.result.now ≡ world_of c.args.timed.now = c.world-world.ensures ∙ ap (λ (s : Simulation). s.world) c.simulation.ensures in
-    subst (λ (w : World). IfSome c.told_prefix.result (λ (p : Prefix). IsTold w c.args.step.now p)) world c.told_prefix.ensures
+    subst (λ (w : World). IfSome c.told_prefix.result (λ (p : Prefix). IsToldPrefix w c.args.step.now p)) world c.told_prefix.ensures
 
 pub returns-clause-marked : goal.returns-clause-marked
 returns-clause-marked g c = λ moves.
