@@ -143,7 +143,7 @@ module _ (t : Timed) (K : IsTimed t) (e : Event) (is : IsNext t e) (i : ℕ) (r 
   arrival_same : (q : ℕ) → arrival_event u i q ≡ arrival_event t i q
   arrival_same q = by_place (place_at (world_of t) i q) refl
     where
-      abbrev arriving : (x : Timed) → Option Place → Option Event
+      arriving : (x : Timed) → Option Place → Option Event
       arriving x o = option_and_then (λ (p : Place). option_map (λ (item : Item). own_event x (arrival_moment x p) (Deliver i q)) (front_at (world_of x) i q)) o
 
       by_item : (p : Place) → place_at (world_of t) i q ≡ Some p → arrival_moment u p ≡ arrival_moment t p → (o : Option Item) → front_at (world_of t) i q ≡ o
@@ -197,7 +197,7 @@ module _ (t : Timed) (K : IsTimed t) (e : Event) (is : IsNext t e) (i : ℕ) (r 
   waiting_same =
       ap (λ o. sooner (sooner o (soonest (arrival_event u i) (ports u))) (home_event u i)) publication_same
       ∙ ap (λ o. sooner (sooner (publication_event t i) o) (home_event u i))
-          (soonest_same (arrival_event u i) (arrival_event t i) arrival_same (ports u) ∙ ap (λ (o : Option ℕ). soonest (arrival_event t i) (option_map_or (λ d. d) o 0)) same_degree)
+      (soonest_same (arrival_event u i) (arrival_event t i) arrival_same (ports u) ∙ ap (λ (o : Option ℕ). soonest (arrival_event t i) (option_map_or (λ d. d) o 0)) same_degree)
       ∙ ap (sooner (sooner (publication_event t i) (soonest (arrival_event t i) (ports t)))) home_same
 
   pub router_same : router_event u i ≡ router_event t i

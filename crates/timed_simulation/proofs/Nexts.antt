@@ -124,7 +124,7 @@ kept_given t u c moments (Err e) given failed K = subst (λ v. KeepsMoments v mo
 pub opened : (n : Network) → IsNetwork n → (delays : List LinkDelays) (waits : List ℕ) → length delays ≡ length n.links → length waits ≡ n.routers → KeepsMoments (opening_timed n delays waits) (replicate n.routers None)
 opened n valid delays waits each_link each_router = record { as_many = length-replicate n.routers None ∙ sym count; each = each }
   where
-    abbrev t : Timed
+    t : Timed
     t = opening_timed n delays waits
 
     count : length (opening n).routers ≡ n.routers
@@ -140,7 +140,7 @@ opened n valid delays waits each_link each_router = record { as_many = length-re
         by_event None is due = refl
         by_event (Some e) is due = absurd (rest_nothing t rests e due)
 
-    abbrev nones : ℕ → List (Option ℕ)
+    nones : ℕ → List (Option ℕ)
     nones k = replicate k None
 
     none_there : (k i : ℕ) → i < k → slice_get (nones k) i ≡ Some None
@@ -258,10 +258,10 @@ link_apart n ss w runs x i others q p port is = by_end p.end refl
 pub kept_after : (t : Timed) (e : Event) (moments : List (Option ℕ)) → IsTimed t → IsNext t e → KeepsMoments t moments → KeepsMoments (after_event t e) (looked_again (after_event t e) (touched_by e.step (world_of t)) moments)
 kept_after t e moments timed is K = record { as_many = all; each = λ i below. (both i below).1 }
   where
-    abbrev u : Timed
+    u : Timed
     u = after_event t e
 
-    abbrev x : Touched
+    x : Touched
     x = touched_by e.step (world_of t)
 
     many : length moments ≡ length (world_of u).routers
@@ -275,7 +275,7 @@ kept_after t e moments timed is K = record { as_many = all; each = λ i below. (
         let apart = owner_apart (world_of t) e.step i owner in
         K.each i before
         ∙ ap (λ (o : Option Event). Some (moment_of o))
-            (sym (router_same t timed e is i R.0 R.1 (record { router = apart.0; attachments = apart.1; links = link_apart (t.simulation).network (steps_of timed.done) (world_of t) timed.runs x i ends })))
+        (sym (router_same t timed e is i R.0 R.1 (record { router = apart.0; attachments = apart.1; links = link_apart (t.simulation).network (steps_of timed.done) (world_of t) timed.runs x i ends })))
 
     first : (i : ℕ) → i < length (world_of u).routers → ((a b : ℕ) → ends_of (t.simulation).network x ≡ Some (a, b) → (a ≢ i) × (b ≢ i)) → (length (looked_if u (owner_of x) moments) ≡ length (world_of u).routers) × IsRight u i (looked_if u (owner_of x) moments)
     first i below ends = owner_right u i below (owner_of x) moments many (λ owner. unasked i below owner ends)

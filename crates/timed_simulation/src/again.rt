@@ -73,11 +73,7 @@ fn touched_ends(network: &Network, touched: Touched) -> Option<(u16, u16)>
 }
 
 /// Notes anew when the routers have something to do next that a step touched.
-pub fn look_again<A: SmallAllocator>(
-    minima: &mut Minima<A>,
-    clocked: &Clocked<A>,
-    touched: Touched,
-)
+pub fn look_again<A: SmallAllocator>(minima: &mut Minima<A>, clocked: &Clocked<A>, touched: Touched)
     requires { length minima.old ≡ length (world_of clocked.now).routers }
     ensures { minima.new ≡ looked_again clocked.now touched minima.old }
 {
