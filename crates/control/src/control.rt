@@ -101,7 +101,6 @@ impl<B: FabricName, N: ControlName> Control<B, N> {
         let Control { guarded } = self;
         let Guarded {
             fabric,
-            watch: _watch,
             mut high,
             mut low,
             mut out,
