@@ -167,6 +167,7 @@ impl<B: FabricName, A: SmallAllocator> Desk<B, A> {
 
 /// The desks of all routers, as what keeps routers from some steps: a delivery or a publication waits until its
 /// router's writer is in.
+#[derive(Drop)]
 pub(crate) struct Seats<'a, B: FabricName, A: SmallAllocator> {
     desks: &'a [Desk<B, A>],
 }

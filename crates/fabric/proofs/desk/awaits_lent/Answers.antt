@@ -1,7 +1,7 @@
-use Rattle.std.proofs.Common.{refl, sym, ap, ◌∙◌, arith, ◌≡◌, ◌≤◌, Some, false, is_some, length, slice_get}
+use Rattle.std.proofs.Common.{refl, sym, ap, inl, inr, ◌∙◌, arith, ◌≡◌, ◌≤◌, Some, false, is_some, length, slice_get}
 use Rattle.no_packet_loops.proofs.Common.{slice_get_past, slice_get_read}
 use Rattle.fabric.specs.Desks.{all_lent}
-use Rattle.fabric.specs.Fabric.{lent_at}
+use Rattle.fabric.specs.Fabric.{awaits_lent, lent_at}
 use Rattle.fabric.proofs.WritersOut.{awaits_at, lent_there}
 use Rattle.fabric.proofs.Seats.{none_lent_at}
 use Rattle.fabric.proofs.desk.awaits_lent.Goals as goal
@@ -29,4 +29,24 @@ returns-in-None g c =
     out ∙ elim c.in-Deliver-1.branch [
       | in-Deliver w ↦ awaits_at (all_lent desks) c.args.step.now i w.in-Deliver.router w.router-is w.in-Deliver.is
       | in-Deliver-2 w ↦ awaits_at (all_lent desks) c.args.step.now i w.in-Deliver.router w.router-is w.in-Deliver.is
+    ]
+
+pub returns-in-LinkUp : goal.returns-in-LinkUp
+returns-in-LinkUp g c =
+    let lent = all_lent c.args.desks.now in
+    elim c.in-LinkUp.is [
+      | inl w ↦ sym (ap (awaits_lent lent) w.1)
+      | inr a ↦ elim a [
+        | inl w ↦ sym (ap (awaits_lent lent) w.1)
+        | inr b ↦ elim b [
+          | inl w ↦ sym (ap (awaits_lent lent) w.3)
+          | inr d ↦ elim d [
+            | inl w ↦ sym (ap (awaits_lent lent) w.1)
+            | inr e ↦ elim e [
+              | inl w ↦ sym (ap (awaits_lent lent) w.3)
+              | inr w ↦ sym (ap (awaits_lent lent) w.2)
+            ]
+          ]
+        ]
+      ]
     ]
