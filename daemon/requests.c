@@ -57,7 +57,7 @@ bool requests_note_answers(struct batch *batch, uint32_t first, void *bytes, siz
         if (at->nlmsg_type != NLMSG_ERROR || at->nlmsg_len < NLMSG_LENGTH(sizeof answer) || number >= batch->count)
             continue;
         memcpy(&answer, NLMSG_DATA(at), sizeof answer);
-        batch->errors[number] = -answer.error;
+        batch->errors[number] = netlink_error(answer.error);
         is_last = is_last || number == batch->count - 1;
     }
     return is_last;

@@ -48,12 +48,14 @@ enum {
 };
 
 /* A question has left. It tells that a computation is under way, and whose reply it awaits, so the router need not be asked for
- * that with each message. One may begin in the moment in which another ends: its clock begins with its own first question. */
-static void note_asked(struct daemon *daemon, const struct tuhvondi_message *query)
+ * that with each message. One may begin in the moment in which another ends: its clock begins with its own first question. All
+ * neighbours are asked one after another, so what is noted of the prefix was mostly found for the question before (`last`). */
+static struct noted *note_asked(struct daemon *daemon, const struct tuhvondi_message *query, struct noted *last)
 {
-    struct noted *noted = prefixes_add(&daemon->prefixes, query->addr, query->len);
+    bool is_same = last && last->addr == query->addr && last->len == query->len;
+    struct noted *noted = is_same ? last : prefixes_add(&daemon->prefixes, query->addr, query->len);
     if (!noted)
-        return;
+        return NULL;
     if (!noted->awaited) {
         daemon->router.computations++;
         daemon->router.active++;
@@ -64,6 +66,7 @@ static void note_asked(struct daemon *daemon, const struct tuhvondi_message *que
         noted->told = false;
     }
     noted->awaited |= (uint32_t)1 << query->port;
+    return noted;
 }
 
 /* Of these ports no reply is awaited any more. */
@@ -419,6 +422,7 @@ bool router_forward(struct daemon *daemon)
 static void release(struct daemon *daemon)
 {
     struct tuhvondi_message message;
+    struct noted *asked = NULL;
     for (size_t room = sessions_room(daemon); room > 0; room = room > 1 ? room - 1 : sessions_room(daemon)) {
         if (tuhvondi_router_release(&daemon->router.machine, &message) != TUHVONDI_DONE)
             return;
@@ -429,7 +433,7 @@ static void release(struct daemon *daemon)
             continue;
         peer->counters.told[message.kind]++;
         if (message.kind == TUHVONDI_QUERY)
-            note_asked(daemon, &message);
+            asked = note_asked(daemon, &message, asked);
         peer_put(daemon, peer, &frame);
     }
 }

@@ -287,7 +287,7 @@ static bool send_batch(struct daemon *daemon, struct tables *tables, uint32_t la
             if (at->nlmsg_type != NLMSG_ERROR || at->nlmsg_len < NLMSG_LENGTH(sizeof answer.error))
                 continue;
             memcpy(&answer.error, NLMSG_DATA(at), sizeof answer.error);
-            errno = -answer.error;
+            errno = netlink_error(answer.error);
             if (answer.error || at->nlmsg_seq == last)
                 return !answer.error;
         }

@@ -157,19 +157,22 @@ def ways(folder: Path, network: Network) -> Iterator[Way]:
 
 def explain(way: Way, notes: list[Router]) -> set[str]:
     """The reasons for which a packet came back, and `unexplained` if it came back once without one."""
-    found = set()
+    found: set[str] = set()
+    last: dict[int, int] = {}
     for back, router in enumerate(way.routers):
-        for at in [at for at in range(back) if way.routers[at] == router]:
-            why = set()
-            if notes[router].is_better(way.address, way.looked[at], way.looked[back - 1]):
-                why.add("better")
-            for k in range(at + 1, back):
-                there = way.looked[k - 1][0], way.looked[k][1]
-                prefixes = notes[way.routers[k - 1]].matches(way.address, way.looked[k - 1])
-                if any(notes[way.routers[k]].has_risen(prefix, there) for prefix in prefixes):
-                    why.add("rose")
-            may_be_dropped = way.is_lost and back == len(way.routers) - 1
-            found |= why or {"dropped" if may_be_dropped else "unexplained"}
+        why = set()
+        at = last.get(router, back)
+        if at < back and notes[router].is_better(way.address, way.looked[at], way.looked[back - 1]):
+            why.add("better")
+        for k in range(at + 1, back):
+            there = way.looked[k - 1][0], way.looked[k][1]
+            prefixes = notes[way.routers[k - 1]].matches(way.address, way.looked[k - 1])
+            if any(notes[way.routers[k]].has_risen(prefix, there) for prefix in prefixes):
+                why.add("rose")
+        if at < back and not why:
+            why.add("dropped" if way.is_lost and back == len(way.routers) - 1 else "unexplained")
+        found |= why
+        last[router] = back
     return found
 
 
