@@ -176,11 +176,12 @@ static const char *change_peer(struct daemon *daemon, size_t count, char **words
         return "it is the address of no neighbour";
     if (sets_cost)
         return change_cost(daemon, peer, words[2]);
-    peer->shut = strcmp(words[0], "down") == 0;
-    if (peer->shut)
-        peer_hang_up(daemon, peer, BY_OPERATOR, "it is shut");
-    else
+    if (strcmp(words[0], "down") == 0) {
+        peer_shut(daemon, peer);
+    } else {
+        peer->shut = false;
         peer_wake(peer);
+    }
     return NULL;
 }
 

@@ -32,6 +32,7 @@ enum {
     LINK_ADDRESS = 6,   /* bytes of one of Ethernet */
     MOST_FOUND = 4096,  /* subnets of interfaces and routes of others that are attached at a time */
     FAR_AHEAD = 1000,   /* sessions: a hello that names one so far ahead is refused */
+    PLACES = 2 * TUHVONDI_PORTS, /* the router's ports, and behind them places for neighbours of a process before */
 };
 
 /* ---- neighbours */
@@ -56,7 +57,7 @@ struct candidate {
     int fd;
     bool greeted, proved, answered;
     struct greeting greeting;
-    int64_t since, proved_at;
+    int64_t since, proved_at, carrier_losses;
     size_t in_count, in_from;
     unsigned char in[3 * FRAME_SIZE];
 };
@@ -73,21 +74,23 @@ struct peer_counters {
  * neighbour any more, and its filter goes once it is not marked: at `cleared`. Then its port goes once it is `told`, so that
  * it need not ask when our line goes there. `parted`: it was told so over `fd`. `greeted`: its hello has come over `fd`, and
  * was answered. `waits_until`: after faults, no session before. `alive_ms`: between signs of life, which may be less than
- * ours for its sake. `crowded`: there was a line of prefixes that were left. Of one that is sought: `announced`, when it said
- * last that it is there; `over`, since when there is no session. */
+ * ours for its sake. `crowded`: there was a line of prefixes that were left. `former`: the secret before the one of the
+ * configuration, as long as the other end may have no other. `signs_as_before`: `fd` signs by it; then the end that connects finds
+ * out by the connection `asking`, begun at `asked`, whether the other end has the new one. Of one that is sought: `announced`, when
+ * it said last that it is there; `over`, since when there is no session. */
 struct peer {
     struct neighbour config;
-    char name[INET_ADDRSTRLEN], interface[IF_NAMESIZE];
-    bool used, shut, removed, marked, told, leaving, stale, filtered, lost, lets_in, crowded, greeted, parted;
+    char name[INET_ADDRSTRLEN], interface[IF_NAMESIZE], former[SECRET_SIZE];
+    bool used, shut, removed, marked, told, leaving, stale, filtered, lost, lets_in, crowded, greeted, parted, signs_as_before;
     enum peer_state state;
-    int fd;
+    int fd, asking;
     uint16_t last;
     unsigned char link_address[LINK_ADDRESS];
     unsigned index, attempts, faults, shorts, complaints;
     uint32_t reported; /* prefixes of which it told a finite distance last */
     uint32_t alive_ms;
-    int64_t heard, said, drained, begun, next_try, waits_until, complained, announced, over, cleared;
-    int64_t carrier_losses; /* of its interface, when the session began; -1: they are not counted */
+    int64_t heard, said, drained, begun, next_try, waits_until, complained, announced, over, cleared, asked;
+    int64_t carrier_losses; /* of its interface, before this end said hello over `fd`; -1: they are not counted */
     struct greeting greeting;
     const char *why, *tried; /* the last session ended; the last attempt did */
     int64_t missed; /* when a line is due that there is no session */
@@ -190,8 +193,8 @@ struct daemon {
     struct router router;
     struct kernel kernel;
     struct prefixes prefixes;
-    struct peer peers[TUHVONDI_PORTS];
-    size_t peer_count; /* ports that are, or were, in use */
+    struct peer peers[PLACES];
+    size_t peer_count; /* places that are, or were, in use */
     struct segment segments[TUHVONDI_PORTS];
     size_t segment_count;
     int64_t next_announcement;
@@ -219,6 +222,12 @@ static inline uint8_t port_of(const struct daemon *daemon, const struct peer *pe
 static inline struct peer *peers_end(struct daemon *daemon)
 {
     return daemon->peers + daemon->peer_count;
+}
+
+/* Of the places in use, those that are ports of the router. */
+static inline size_t port_count(const struct daemon *daemon)
+{
+    return daemon->peer_count < TUHVONDI_PORTS ? daemon->peer_count : TUHVONDI_PORTS;
 }
 
 /* Whether somebody is at the port: where a neighbour is sought, perhaps nobody was found. */
@@ -252,6 +261,9 @@ uint32_t router_attach(struct daemon *daemon, const struct tuhvondi_attachment *
 /* The same of what the host has, which may be more than there is room for. */
 uint32_t router_attach_found(struct daemon *daemon, const struct tuhvondi_attachment *attachment);
 uint32_t router_detach(struct daemon *daemon, uint32_t addr, uint8_t len);
+/* Another neighbour may come to the port, and has the port's share for itself: what this one had the router know counts for those
+ * who still tell of it. */
+void router_leave_share(struct daemon *daemon, const struct peer *peer);
 /* The neighbour says that it waits for others itself. */
 void router_excuse(struct daemon *daemon, const struct peer *peer, const struct frame *frame);
 /* Looks after computations that take long: tells of them, and ends the sessions of those who owe replies for too long. */
@@ -265,10 +277,10 @@ int64_t router_oldest(struct daemon *daemon, int64_t now, size_t awaited[TUHVOND
 const char *peer_add(struct daemon *daemon, const struct neighbour *neighbour);
 void peer_remove(struct daemon *daemon, struct peer *peer);
 /* A process before this one had a session with a neighbour of this address, whose link address may be known: whether there is
- * a port for it. */
+ * a place for it. */
 bool peer_inherit(struct daemon *daemon, const struct neighbour *neighbour, const char *interface,
                   const unsigned char *link_address);
-/* The neighbour is reached by another interface now. Its rows may lead here by the one that it had: whether there is a port
+/* The neighbour is reached by another interface now. Its rows may lead here by the one that it had: whether there is a place
  * that keeps the filter there. */
 bool peer_leave_behind(struct daemon *daemon, struct peer *peer);
 /* The operator knows that no row leads here by the interface, of neighbours that are none any more: whether there was one. */
@@ -280,14 +292,19 @@ void peer_put(struct daemon *daemon, struct peer *peer, const struct frame *fram
 void peer_hang_up(struct daemon *daemon, struct peer *peer, enum ending ending, const char *why);
 /* The interface works again: an attempt to connect need not wait. */
 void peer_wake(struct peer *peer);
+/* It is to have no session until it is woken. */
+void peer_shut(struct daemon *daemon, struct peer *peer);
+/* The configuration is about to have this secret for it (empty: none), which the listening socket has already: its session goes on
+ * by the former one until the other end has the new one, too. */
+void peer_sign_anew(struct daemon *daemon, struct peer *peer, const char *secret);
 void sessions_accept(struct daemon *daemon);
 /* The next connection of a listening socket, or -1. */
 int accept_from(struct daemon *daemon, int listener, struct sockaddr_in *from);
 void sessions_read(struct daemon *daemon, struct peer *peer, bool writable);
 void sessions_read_candidates(struct daemon *daemon, struct peer *peer);
 void sessions_flush(struct daemon *daemon, struct peer *peer);
-/* Whether the queue of each neighbour takes a message more. */
-bool sessions_have_room(struct daemon *daemon);
+/* How many messages more the queue of each neighbour takes. */
+size_t sessions_room(struct daemon *daemon);
 void sessions_tick(struct daemon *daemon, int64_t now);
 /* Says the signs of life that are due, between parts of a long publication. */
 void sessions_keep_alive(struct daemon *daemon);
@@ -337,8 +354,10 @@ void kernel_find_source(struct daemon *daemon);
 bool kernel_is_free(struct daemon *daemon, struct in_addr address);
 bool kernel_bind(const struct daemon *daemon, const struct peer *peer, int fd);
 void kernel_drop_waiting(const struct daemon *daemon, const struct peer *peer);
-/* From now on losses of carrier are counted for the session of this neighbour: whether carrier is there. */
-bool kernel_note_carrier(const struct daemon *daemon, struct peer *peer);
+/* How often the neighbour's interface has lost its carrier; -1: that is not counted. */
+int64_t kernel_carrier_losses(const struct daemon *daemon, const struct peer *peer);
+/* Whether it has not since `carrier_losses` of the neighbour was noted. */
+bool kernel_has_carrier(const struct daemon *daemon, const struct peer *peer);
 /* Ends sessions whose interfaces have lost their carrier, as soon as that is known. */
 void kernel_ask_for_carrier(struct daemon *daemon, int64_t now);
 /* Each is true when the kernel has done it. */
@@ -418,6 +437,8 @@ bool drop_privileges(bool installs);
  * nowhere), a line each. */
 bool reload(struct daemon *daemon, struct text *faults);
 bool reload_read(const char *path, struct config *config, struct text *faults);
+/* Opens a regular file (else EINVAL): the loop would wait for whoever writes to a FIFO, perhaps for ever. */
+FILE *reload_open(const char *path);
 /* Reads the secret of a neighbour whose secret stands in a file: what is wrong; NULL: nothing. */
 const char *reload_read_secret(struct neighbour *neighbour);
 

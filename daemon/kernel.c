@@ -253,6 +253,21 @@ static const char *share(struct daemon *daemon, const struct peer *peer, const c
     return NULL;
 }
 
+/* The neighbour is at this interface now. Whoever is left alone at the one before need not be told apart there any more. A mark
+ * that is a rule has no link address, which the kernel may know still. */
+static void move_to(struct daemon *daemon, struct peer *peer, const char name[IF_NAMESIZE], unsigned index)
+{
+    static const unsigned char UNKNOWN[LINK_ADDRESS];
+    char before[IF_NAMESIZE];
+    memcpy(before, peer->interface, sizeof before);
+    memcpy(peer->interface, name, sizeof peer->interface);
+    peer->index = index;
+    if (strcmp(before, name) != 0 && sharing_has_one(daemon, before))
+        sharing_write(daemon);
+    if (peer->marked && memcmp(peer->link_address, UNKNOWN, LINK_ADDRESS) == 0)
+        sharing_find_link_address(daemon, peer, peer->link_address);
+}
+
 /* Finds the neighbour's interface, which may be down, and has what comes in by it dropped: what is wrong, if anything.
  * A filter knows packets by their interface, and several neighbours are told apart by link addresses.
  * Where one is sought, and it is not known who had a session before the host began, there may have been one. */
@@ -271,9 +286,8 @@ const char *kernel_find_interface(struct daemon *daemon, struct peer *peer)
     if (wrong)
         return wrong;
     if (peer->marked && strcmp(peer->interface, name) != 0 && !peer_leave_behind(daemon, peer))
-        return "there is no port for the neighbour that it was at another interface";
-    memcpy(peer->interface, name, sizeof name);
-    peer->index = index;
+        return "there is no place for the neighbour that it was at another interface";
+    move_to(daemon, peer, name, index);
     if (*given && !peer->removed && !peer->marked && !daemon->marks.known)
         peer->waits_until = now_ms() + 2 * (int64_t)daemon->config.dead_ms;
     if (!kernel_filter(daemon, peer, true)) {
@@ -338,11 +352,6 @@ static int64_t number_of(const struct peer *peer, const char *what)
     return strtoll(text, NULL, 10);
 }
 
-static int64_t carrier_losses(const struct peer *peer)
-{
-    return number_of(peer, "carrier_down_count");
-}
-
 /* A driver that cannot be asked counts as one with carrier. */
 static bool is_carrier_there(const struct daemon *daemon, const struct peer *peer)
 {
@@ -352,21 +361,21 @@ static bool is_carrier_there(const struct daemon *daemon, const struct peer *pee
     return ioctl(daemon->kernel.device, SIOCETHTOOL, &request) != 0 || value.data;
 }
 
+int64_t kernel_carrier_losses(const struct daemon *daemon, const struct peer *peer)
+{
+    bool is_told = daemon->kernel.installs && number_of(peer, "ifindex") == (int64_t)peer->index;
+    return is_told ? number_of(peer, "carrier_down_count") : -1;
+}
+
 /* The kernel holds notices of carrier back for up to a second after another one, but counts losses at once. Whoever asks
  * whether carrier is there waits for each change of any interface; so that is asked only where losses are not counted:
  * before Linux 4.16, or where /sys is that of another network namespace. */
-static bool has_carrier(const struct daemon *daemon, const struct peer *peer)
-{
-    int64_t losses = peer->carrier_losses < 0 ? -1 : carrier_losses(peer);
-    return losses < 0 ? is_carrier_there(daemon, peer) : losses == peer->carrier_losses;
-}
-
-bool kernel_note_carrier(const struct daemon *daemon, struct peer *peer)
+bool kernel_has_carrier(const struct daemon *daemon, const struct peer *peer)
 {
     if (!daemon->kernel.installs)
         return true;
-    peer->carrier_losses = number_of(peer, "ifindex") == (int64_t)peer->index ? carrier_losses(peer) : -1;
-    return is_carrier_there(daemon, peer);
+    int64_t losses = peer->carrier_losses < 0 ? -1 : number_of(peer, "carrier_down_count");
+    return losses < 0 ? is_carrier_there(daemon, peer) : losses == peer->carrier_losses;
 }
 
 void kernel_ask_for_carrier(struct daemon *daemon, int64_t now)
@@ -378,7 +387,7 @@ void kernel_ask_for_carrier(struct daemon *daemon, int64_t now)
         unsigned char found[LINK_ADDRESS];
         if (!peer->used || peer->state != PEER_UP)
             continue;
-        if (!has_carrier(daemon, peer))
+        if (!kernel_has_carrier(daemon, peer))
             peer_hang_up(daemon, peer, BY_LINK, "its interface has no carrier");
         else if (sharing_is_shared(daemon, peer->interface) && sharing_find_link_address(daemon, peer, found)
                  && memcmp(found, peer->link_address, LINK_ADDRESS) != 0)
@@ -682,7 +691,8 @@ static bool sweep(struct daemon *daemon, bool routes, bool all)
 
 /* ---- begin and end */
 
-/* One daemon a network namespace has routes of this protocol. The name is the namespace's; it ends with the process. */
+/* One daemon a network namespace has routes of this protocol. The name is the namespace's; it ends with the process. Any process
+ * may take it, and so keep daemons from beginning, as by their TCP port, but nothing else follows from that it is taken. */
 static bool take_lock(struct daemon *daemon)
 {
     struct sockaddr_un name = {.sun_family = AF_UNIX};
@@ -760,13 +770,13 @@ static void take_mark(void *to, const struct nlmsghdr *message)
     if (peer_inherit(left->daemon, &neighbour, rule.interface, NULL))
         return;
     char text[INET_ADDRSTRLEN];
-    say(LOG_ERR, "%s: there is no port for this former neighbour at %s; if no route of it leads here: ip rule del iif %s "
+    say(LOG_ERR, "%s: there is no place for this former neighbour at %s; if no route of it leads here: ip rule del iif %s "
         "from %s preference %u", address_text(rule.from, text), rule.interface, rule.interface, text,
         (unsigned)rule.preference);
     left->found++;
 }
 
-/* Finds whom processes before had sessions with: whether all of them are known, and have a port. */
+/* Finds whom processes before had sessions with: whether all of them are known, and have a place. */
 static bool inherit(struct daemon *daemon)
 {
     static struct left_over left;
@@ -786,6 +796,8 @@ static bool filter_all(struct daemon *daemon)
 {
     bool done = true;
     for (struct peer *peer = daemon->peers; peer < peers_end(daemon); peer++) {
+        if (!peer->used)
+            continue;
         done &= !peer->marked || kernel_filter(daemon, peer, true);
         const char *wrong = kernel_find_interface(daemon, peer);
         if (!wrong)
@@ -836,7 +848,8 @@ bool kernel_open(struct daemon *daemon)
         return false;
     }
     if (!take_lock(daemon)) {
-        say(LOG_ERR, "install: another dualnetd here has routes of protocol %u", (unsigned)daemon->config.protocol);
+        say(LOG_ERR, "install: another dualnetd here has routes of protocol %u; `ss -xap' shows who has this name",
+            (unsigned)daemon->config.protocol);
         return false;
     }
     if (!may_change(daemon))
@@ -846,7 +859,7 @@ bool kernel_open(struct daemon *daemon)
     kernel_find_source(daemon);
     warn_of_forwarding();
     if (!inherit(daemon) || !marks_open(daemon)) {
-        say(LOG_ERR, "install: neighbours of the process before are not known, or there is no port for them");
+        say(LOG_ERR, "install: neighbours of the process before are not known, or there is no place for them");
         kernel->installs = false;
         return false;
     }
@@ -872,26 +885,26 @@ static void count_route(void *to, const struct nlmsghdr *message)
 }
 
 /* A hello tells that no row of an old session forwards. Without routes in the kernel a daemon takes none away, so it does
- * not begin while those of a daemon that was killed stand. Those of a daemon that runs are its own. */
+ * not begin while routes of its protocol stand. They may be those of another daemon that runs, but nothing shows that, because
+ * any process may take the name by which daemons see each other. */
 bool kernel_is_clear(struct daemon *daemon)
 {
     static struct left_over left;
     _Alignas(struct nlmsghdr) unsigned char request[REQUEST_SIZE];
-    bool alone = take_lock(daemon), whole = false;
+    bool whole = false;
     uint32_t none;
     int fd = requests_socket(&none);
-    close(daemon->kernel.lock);
-    daemon->kernel.lock = -1;
     left = (struct left_over){.daemon = daemon};
-    for (int round = 0; alone && !whole && round < ROUNDS; round++) {
+    for (int round = 0; fd >= 0 && !whole && round < ROUNDS; round++) {
         size_t size = netlink_dump_routes(request, 0, (uint8_t)daemon->config.protocol);
         left.found = 0;
         whole = requests_dump(fd, &daemon->kernel.number, request, size, &left, count_route);
     }
-    close(fd);
+    if (fd >= 0)
+        close(fd);
     if (left.found > 0)
-        say(LOG_ERR, "routes of protocol %u stand, of a daemon that was killed: start with `install yes`, or remove them",
-            (unsigned)daemon->config.protocol);
+        say(LOG_ERR, "routes of protocol %u stand: if a daemon that was killed left them, start with `install yes`, or remove them; "
+            "if they are of one that runs, name another protocol", (unsigned)daemon->config.protocol);
     return left.found == 0;
 }
 

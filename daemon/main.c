@@ -12,7 +12,7 @@
 /* Of which there is one, or none. */
 enum single { LINKS, ROUTES, TABLES, MARKS, CONTROL, METRICS, LISTENER, SINGLES };
 
-enum { BLOCKED_MS = 50, MOST_POLLS = SINGLES + TUHVONDI_PORTS * (2 + CANDIDATES) + CLIENTS };
+enum { BLOCKED_MS = 50, MOST_POLLS = SINGLES + TUHVONDI_PORTS + PLACES * (2 + CANDIDATES) + CLIENTS };
 
 static volatile sig_atomic_t stopping, reloading;
 
@@ -68,6 +68,8 @@ static void gather(struct daemon *daemon, struct polled *polled)
             continue;
         if (peer->fd >= 0 && (writes || !daemon->blocked))
             add(polled, peer->fd, (short)((daemon->blocked ? 0 : POLLIN) | (writes ? POLLOUT : 0)), peer, NULL);
+        if (peer->asking >= 0 && !daemon->blocked)
+            add(polled, peer->asking, POLLOUT, NULL, NULL);
         for (size_t i = 0; i < CANDIDATES && !daemon->blocked; i++)
             if (peer->candidates[i].fd >= 0 && !peer->candidates[i].answered)
                 add(polled, peer->candidates[i].fd, POLLIN, NULL, NULL);
@@ -156,9 +158,11 @@ static void turn(struct daemon *daemon, const sigset_t *mask)
         for (nfds_t i = 0; i < polled.count; i++)
             polled.polls[i].revents = 0;
     }
+    /* What neighbours have sent since this moment is read at the next turn. So none is silent because this turn is long: a message
+     * to the router, or an answer to a client, may be of very many prefixes. */
+    int64_t now = now_ms();
     take(daemon, &polled);
     serve(daemon, &polled);
-    int64_t now = now_ms();
     if (reloading && !daemon->blocked) {
         reloading = 0;
         reload(daemon, NULL);
@@ -244,6 +248,10 @@ static bool end(struct daemon *daemon)
     marks_close(daemon);
     control_close(daemon);
     router_close(daemon);
+    /* A thread that the disk does not let go of would keep them open, and no other daemon could begin. */
+    close(daemon->listener);
+    if (daemon->metrics >= 0)
+        close(daemon->metrics);
     say(LOG_NOTICE, "stopped");
     return clean;
 }

@@ -190,7 +190,7 @@ static const char *take_line(struct daemon *daemon, char *line)
         || sscanf(words[3], "%2hhx:%2hhx:%2hhx:%2hhx:%2hhx:%2hhx", link, link + 1, link + 2, link + 3, link + 4, link + 5) != 6)
         return "expected: INTERFACE ADDRESS passive|connects LINK-ADDRESS";
     neighbour.passive = words[2][0] == 'p';
-    return peer_inherit(daemon, &neighbour, words[0], link) ? NULL : "there is no port for this former neighbour";
+    return peer_inherit(daemon, &neighbour, words[0], link) ? NULL : "there is no place for this former neighbour";
 }
 
 static bool read_marks(struct daemon *daemon, FILE *file)
@@ -217,9 +217,9 @@ bool marks_open(struct daemon *daemon)
     const char *path = daemon->config.state;
     if (!path[0])
         return true;
-    FILE *file = fopen(path, "re");
+    FILE *file = reload_open(path);
     if (!file && errno != ENOENT) {
-        say(LOG_ERR, "state %s: %s", path, strerror(errno));
+        say(LOG_ERR, "state %s: %s", path, errno == EINVAL ? "it is no regular file" : strerror(errno));
         return false;
     }
     bool read = !file || read_marks(daemon, file);

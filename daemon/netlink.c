@@ -1,9 +1,12 @@
 #include "netlink.h"
 
 #include <arpa/inet.h>
+#include <errno.h>
 #include <linux/fib_rules.h>
 #include <linux/rtnetlink.h>
 #include <string.h>
+
+enum { MOST_ERROR = 4095 };
 
 /* ---- to the kernel */
 
@@ -85,6 +88,11 @@ struct nlmsghdr *netlink_next(void *bytes, size_t size, size_t *place)
         return NULL;
     *place += NLMSG_ALIGN(message->nlmsg_len);
     return message;
+}
+
+int netlink_error(int told)
+{
+    return told == 0 ? 0 : told < 0 && told >= -MOST_ERROR ? -told : EIO;
 }
 
 /* Copies the body of a message, if it has one of this size. */

@@ -51,6 +51,9 @@ size_t netlink_dump_rules(void *room);
  * it. */
 struct nlmsghdr *netlink_next(void *bytes, size_t size, size_t *place);
 
+/* What an answer tells: 0, or the number of the error. It is EIO where what it has is no error's number below zero. */
+int netlink_error(int told);
+
 /* Each is false if the message is none of its kind, or is malformed. The message stands whole in memory. */
 bool netlink_read_route(const struct nlmsghdr *message, struct kernel_route *route);
 bool netlink_read_rule(const struct nlmsghdr *message, struct kernel_rule *rule);

@@ -14,8 +14,8 @@ enum { NOT_ASKED = 255 };
  * these. `asked`: the port by which a route is being asked for. `found_behind`, `found_via`, `differs`: what a look
  * at the kernel found. `reported`: the ports whose neighbours told a finite distance last. `active_since` is 0 while
  * no computation is under way. `excused`: the ports that said since the last look that they wait themselves; `judged_at`:
- * when who has not, and owes a reply, has its session ended; `excuses`: how often that was looked at; `awaited`: the ports whose
- * replies were awaited last, by which another computation is told from the same. `told`: there was a line. `since`:
+ * when who has not, and owes a reply, has its session ended; `excuses`: how often that was looked at; `awaited`: the ports to which
+ * a question has left, and whose replies are awaited. `told`: there was a line. `since`:
  * its row forwards. `brought`: by the neighbour of the port
  * before this number the router came to know the prefix; zero: by nobody. */
 struct noted {

@@ -2,7 +2,9 @@
 #include "daemon.h"
 
 #include <errno.h>
+#include <fcntl.h>
 #include <string.h>
+#include <unistd.h>
 
 static void note_fault(void *faults, const char *what)
 {
@@ -11,15 +13,30 @@ static void note_fault(void *faults, const char *what)
         text_put(faults, "%s\n", what);
 }
 
+FILE *reload_open(const char *path)
+{
+    struct stat info;
+    int fd = open(path, O_RDONLY | O_CLOEXEC | O_NONBLOCK);
+    if (fd < 0)
+        return NULL;
+    bool is_regular = fstat(fd, &info) == 0 && S_ISREG(info.st_mode);
+    FILE *file = is_regular ? fdopen(fd, "r") : NULL;
+    int error = is_regular ? errno : EINVAL;
+    if (!file)
+        close(fd);
+    errno = error;
+    return file;
+}
+
 const char *reload_read_secret(struct neighbour *neighbour)
 {
     char text[SECRET_SIZE + 2] = "";
     struct stat info;
     if (!neighbour->secret_file[0])
         return NULL;
-    FILE *file = fopen(neighbour->secret_file, "re");
+    FILE *file = reload_open(neighbour->secret_file);
     if (!file)
-        return strerror(errno);
+        return errno == EINVAL ? "it is no regular file" : strerror(errno);
     bool read = fgets(text, sizeof text, file);
     if (fstat(fileno(file), &info) == 0 && (info.st_mode & 007))
         say(LOG_WARNING, "%s has a secret, and others may read it", neighbour->secret_file);
@@ -70,6 +87,8 @@ static void fail(struct outcome *outcome, const char *whom, const char *what)
 }
 
 /* ---- what differs */
+
+enum { KEEP_ALIVE = 1024 }; /* prefixes that are looked at between signs of life: there may be very many */
 
 static void keep(bool differs, const char *what)
 {
@@ -131,8 +150,8 @@ static size_t count_like(const struct daemon *daemon, const struct peer *end, co
     return count;
 }
 
-/* A session ends if its connection would be another, or if its neighbour has to tell anew what a list refused. Who was
- * found stays so. */
+/* A session ends if its connection would be another, or if its neighbour has to tell anew what a list refused. It goes on if its
+ * secret alone is another. Who was found stays so. */
 static void change_peer(struct daemon *daemon, struct peer *peer, struct neighbour to, const struct config *new,
                         struct outcome *outcome)
 {
@@ -142,12 +161,15 @@ static void change_peer(struct daemon *daemon, struct peer *peer, struct neighbo
         to.passive = old->passive;
     }
     bool signs_anew = strcmp(old->secret, to.secret) != 0 && to.address.s_addr;
+    bool is_set = !signs_anew || sessions_set_secret(daemon->listener, &to) || !to.secret[0];
     /* The other end was told of the longer time, and would be taken for silent. */
     bool is_less_patient = new->dead_ms < daemon->config.dead_ms;
-    bool connects_anew = is_less_patient || old->passive != to.passive || old->ttl_security != to.ttl_security || signs_anew;
+    bool connects_anew = is_less_patient || old->passive != to.passive || old->ttl_security != to.ttl_security || !is_set;
     bool takes_other = strcmp(old->list, to.list) != 0 || !config_same_list(&daemon->config, new, to.list);
-    if (signs_anew && !sessions_set_secret(daemon->listener, &to) && to.secret[0])
+    if (!is_set)
         fail(outcome, peer->name, "its secret is not set");
+    else if (signs_anew)
+        peer_sign_anew(daemon, peer, to.secret);
     if (connects_anew || takes_other)
         peer_hang_up(daemon, peer, BY_OPERATOR, "its configuration changed");
     uint32_t status = old->cost == to.cost ? TUHVONDI_DONE : router_cost(daemon, peer, to.cost);
@@ -207,6 +229,8 @@ static void change_attachments(struct daemon *daemon, const struct config *new, 
     tuhvondi_router_rows(&daemon->router.machine, known, daemon->router.most_known, &count);
     for (size_t i = 0; i < count; i++) {
         const struct tuhvondi_row row = known[i];
+        if ((i + 1) % KEEP_ALIVE == 0)
+            sessions_keep_alive(daemon);
         bool is_attached = !tuhvondi_router_state(&daemon->router.machine, row.addr, row.len, &state) && state.attached;
         if (is_attached && !attachment_of(new->attachments, new->attachment_count, &row)
             && !connected_is_found(daemon, row.addr, row.len)
@@ -227,7 +251,11 @@ bool reload(struct daemon *daemon, struct text *faults)
 {
     static struct config new;
     struct outcome outcome = {faults, true};
-    if (!reload_read(daemon->path, &new, faults)) {
+    struct stat info;
+    bool may_wait = stat(daemon->path, &info) == 0 && !S_ISREG(info.st_mode);
+    if (may_wait)
+        note_fault(faults, "the configuration is no regular file, so it is not read again");
+    if (may_wait || !reload_read(daemon->path, &new, faults)) {
         say(LOG_ERR, "reload: all stays as it is");
         return false;
     }

@@ -11,7 +11,7 @@
 #define SOL_NETLINK 270
 #endif
 
-enum { ANSWER_MS = 2000, ROOM = 1 << 16 };
+enum { ANSWER_MS = 2000, ROOM = 1 << 16, UNANSWERED = -1 };
 
 int requests_socket(uint32_t *port)
 {
@@ -47,42 +47,55 @@ void batch_add(struct batch *batch, size_t size, const void *of)
     batch->size += size;
 }
 
-size_t requests_note_answers(struct batch *batch, uint32_t first, void *bytes, size_t size)
+bool requests_note_answers(struct batch *batch, uint32_t first, void *bytes, size_t size)
 {
-    size_t answered = 0, place = 0;
+    bool is_last = false;
+    size_t place = 0;
     for (const struct nlmsghdr *at; (at = netlink_next(bytes, size, &place));) {
         struct nlmsgerr answer;
         uint32_t number = at->nlmsg_seq - first;
         if (at->nlmsg_type != NLMSG_ERROR || at->nlmsg_len < NLMSG_LENGTH(sizeof answer) || number >= batch->count)
             continue;
         memcpy(&answer, NLMSG_DATA(at), sizeof answer);
-        batch->errors[number] = -answer.error;
-        answered++;
+        batch->errors[number] = netlink_error(answer.error);
+        is_last = is_last || number == batch->count - 1;
     }
-    return answered;
+    return is_last;
 }
 
-void requests_send(int fd, uint32_t *number, struct batch *batch)
+/* The kernel answers in order, so what it has not refused before it answers the last is done. It tells if there was no memory for
+ * an answer (ENOBUFS), and then it is not known which one is missing. */
+static bool wait_for_last(int fd, struct batch *batch, uint32_t first)
 {
     _Alignas(struct nlmsghdr) unsigned char room[8192];
-    uint32_t first = *number + 1;
-    if (batch->count == 0)
-        return;
-    size_t place = 0;
-    for (struct nlmsghdr *at; (at = netlink_next(batch->room, batch->size, &place));) {
-        at->nlmsg_seq = ++*number;
-        at->nlmsg_flags |= NLM_F_ACK;
-    }
-    if (send(fd, batch->room, batch->size, 0) < 0)
-        return;
-    for (size_t answered = 0; answered < batch->count;) {
+    for (;;) {
         ssize_t got = recv(fd, room, sizeof room, 0);
         if (got < 0 && errno == EINTR)
             continue;
         if (got <= 0)
-            return;
-        answered += requests_note_answers(batch, first, room, (size_t)got);
+            return false;
+        if (requests_note_answers(batch, first, room, (size_t)got))
+            return true;
     }
+}
+
+void requests_send(int fd, uint32_t *number, struct batch *batch)
+{
+    uint32_t first = *number + 1;
+    if (batch->count == 0)
+        return;
+    size_t place = 0;
+    struct nlmsghdr *last = NULL;
+    for (struct nlmsghdr *at; (at = netlink_next(batch->room, batch->size, &place)); last = at)
+        at->nlmsg_seq = ++*number;
+    if (last)
+        last->nlmsg_flags |= NLM_F_ACK;
+    for (size_t i = 0; i < batch->count; i++)
+        batch->errors[i] = UNANSWERED;
+    bool done = send(fd, batch->room, batch->size, 0) >= 0 && wait_for_last(fd, batch, first);
+    for (size_t i = 0; i < batch->count; i++)
+        if (batch->errors[i] == UNANSWERED)
+            batch->errors[i] = done ? 0 : EIO;
 }
 
 int requests_read_dump(uint32_t number, void *bytes, size_t size, bool *changed, void *to,

@@ -1,4 +1,4 @@
-/* Requests to the kernel by rtnetlink, many in one message, each with an answer of its own. */
+/* Requests to the kernel by rtnetlink, many in one message. The kernel answers each that it refuses, and the last. */
 #ifndef DUALNETD_REQUESTS_H
 #define DUALNETD_REQUESTS_H
 
@@ -21,13 +21,13 @@ int requests_socket(uint32_t *port);
 void *batch_room(struct batch *batch);
 void batch_add(struct batch *batch, size_t size, const void *of);
 
-/* Has the kernel do all of them, in order, and waits for the answers. `number` is that of the last request, and goes
- * on. A request without an answer has the error EIO. */
+/* Has the kernel do all of them, in order, and waits until it has done the last. `number` is that of the last request, and goes
+ * on. If the last is not answered, or an answer was lost, each that was not answered has the error EIO. */
 void requests_send(int fd, uint32_t *number, struct batch *batch);
 
-/* What the bytes of an answer tell, without a socket: how many requests of the batch, whose numbers begin with `first`,
- * they answer; whether a dump goes on (0), is over (1), or has failed (-1). */
-size_t requests_note_answers(struct batch *batch, uint32_t first, void *bytes, size_t size);
+/* What the bytes of an answer tell, without a socket: whether they answer the last request of the batch, whose numbers begin with
+ * `first`; whether a dump goes on (0), is over (1), or has failed (-1). */
+bool requests_note_answers(struct batch *batch, uint32_t first, void *bytes, size_t size);
 int requests_read_dump(uint32_t number, void *bytes, size_t size, bool *changed, void *to,
                        void take(void *to, const struct nlmsghdr *message));
 

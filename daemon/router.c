@@ -47,71 +47,41 @@ enum {
     FORGETTING_MS = 20, /* at a turn */
 };
 
-/* The ports whose replies are awaited. */
-static uint32_t ports_of(const struct tuhvondi_prefix_state *state)
+/* A question has left. It tells that a computation is under way, and whose reply it awaits, so the router need not be asked for
+ * that with each message. One may begin in the moment in which another ends: its clock begins with its own first question. All
+ * neighbours are asked one after another, so what is noted of the prefix was mostly found for the question before (`last`). */
+static struct noted *note_asked(struct daemon *daemon, const struct tuhvondi_message *query, struct noted *last)
 {
-    uint32_t ports = 0;
-    for (size_t i = 0; i < TUHVONDI_PORTS; i++)
-        ports |= state->awaited[i] ? (uint32_t)1 << i : 0;
-    return ports;
-}
-
-/* Within a computation fewer and fewer replies are awaited. Where another is, one has ended, and the next has begun in the same
- * moment: who is asked now has as long as who was asked first. */
-static void note_asked(const struct daemon *daemon, struct noted *noted, uint32_t awaited, int64_t now)
-{
-    if (awaited & ~noted->awaited) {
-        noted->judged_at = now + daemon->config.active_ms;
-        noted->excused = 0;
-        noted->excuses = 0;
-    }
-    noted->awaited = awaited;
-}
-
-/* Notes whether a computation of the prefix is under way, and how long one took that has ended. */
-static void note_activity(struct daemon *daemon, uint32_t addr, uint8_t len)
-{
-    struct tuhvondi_prefix_state state;
-    struct noted *noted = prefixes_find(&daemon->prefixes, addr, len);
-    bool active = tuhvondi_router_state(&daemon->router.machine, addr, len, &state) == TUHVONDI_DONE && state.active;
-    if (active && !noted)
-        noted = prefixes_add(&daemon->prefixes, addr, len);
+    bool is_same = last && last->addr == query->addr && last->len == query->len;
+    struct noted *noted = is_same ? last : prefixes_add(&daemon->prefixes, query->addr, query->len);
     if (!noted)
-        return;
-    int64_t now = now_ms();
-    note_asked(daemon, noted, active ? ports_of(&state) : 0, now);
-    if (active == (noted->active_since != 0))
-        return;
-    if (active) {
+        return NULL;
+    if (!noted->awaited) {
         daemon->router.computations++;
         daemon->router.active++;
-        noted->active_since = now;
+        noted->active_since = now_ms();
+        noted->judged_at = noted->active_since + daemon->config.active_ms;
+        noted->excused = 0;
+        noted->excuses = 0;
         noted->told = false;
-        return;
     }
-    if (now - noted->active_since > daemon->router.longest_ms)
-        daemon->router.longest_ms = now - noted->active_since;
+    noted->awaited |= (uint32_t)1 << query->port;
+    return noted;
+}
+
+/* Of these ports no reply is awaited any more. */
+static void note_answered(struct daemon *daemon, struct noted *noted, uint32_t ports)
+{
+    if (!(noted->awaited & ports))
+        return;
+    noted->awaited &= ~ports;
+    if (noted->awaited)
+        return;
+    int64_t took = now_ms() - noted->active_since;
+    if (took > daemon->router.longest_ms)
+        daemon->router.longest_ms = took;
     noted->active_since = 0;
     daemon->router.active--;
-    prefixes_let_go(&daemon->prefixes, noted);
-}
-
-/* A link changed, so each prefix may have become active or passive. */
-static void note_all_activity(struct daemon *daemon)
-{
-    const struct tuhvondi_row *known = daemon->router.known;
-    size_t count = 0;
-    tuhvondi_router_rows(&daemon->router.machine, daemon->router.known, daemon->router.most_known, &count);
-    for (size_t i = 0; i < count; i++)
-        note_activity(daemon, known[i].addr, known[i].len);
-}
-
-/* Whose replies are awaited, by port. */
-static uint32_t awaited_for(struct daemon *daemon, const struct noted *noted, struct tuhvondi_prefix_state *state)
-{
-    bool active = tuhvondi_router_state(&daemon->router.machine, noted->addr, noted->len, state) == TUHVONDI_DONE
-                  && state->active;
-    return active ? ports_of(state) : 0;
 }
 
 void router_excuse(struct daemon *daemon, const struct peer *peer, const struct frame *frame)
@@ -124,7 +94,7 @@ void router_excuse(struct daemon *daemon, const struct peer *peer, const struct 
 /* Whoever asked is told that this router waits itself, if he understands that. Its session may end by that. */
 static void excuse_to(struct daemon *daemon, const struct noted *noted, uint8_t owed)
 {
-    struct peer *peer = owed < daemon->peer_count ? &daemon->peers[owed] : NULL;
+    struct peer *peer = owed < port_count(daemon) ? &daemon->peers[owed] : NULL;
     if (peer && peer->state == PEER_UP && peer->greeting.version > FIRST_VERSION)
         peer_put(daemon, peer, &(struct frame){.type = FRAME_WAIT, .number = peer->last, .addr = noted->addr,
                                                .len = noted->len});
@@ -133,7 +103,7 @@ static void excuse_to(struct daemon *daemon, const struct noted *noted, uint8_t 
 static void tell_late(const struct daemon *daemon, const struct noted *noted, uint32_t awaited, int64_t now)
 {
     char text[PREFIX_TEXT];
-    for (size_t i = 0; i < daemon->peer_count; i++)
+    for (size_t i = 0; i < port_count(daemon); i++)
         if (awaited >> i & 1)
             say(LOG_WARNING, "%s: active for %lld ms: awaits %s", prefix_text(noted->addr, noted->len, text),
                 (long long)(now - noted->active_since), daemon->peers[i].name);
@@ -144,20 +114,20 @@ static uint32_t look_at(struct daemon *daemon, struct noted *noted, int64_t now,
 {
     const struct config *config = &daemon->config;
     struct tuhvondi_prefix_state state;
-    uint32_t awaited = awaited_for(daemon, noted, &state), late = 0;
+    uint32_t late = 0;
     int64_t age = now - noted->active_since;
-    if (awaited && !noted->told && age > (int64_t)config->dead_ms && *lines < LATE_LINES) {
+    if (!noted->told && age > (int64_t)config->dead_ms && *lines < LATE_LINES) {
         noted->told = true;
         ++*lines;
-        tell_late(daemon, noted, awaited, now);
+        tell_late(daemon, noted, noted->awaited, now);
     }
-    if (awaited && now >= noted->judged_at) {
+    if (now >= noted->judged_at) {
         noted->excuses += noted->excuses < EXCUSES;
-        late = awaited & ~(noted->excuses == EXCUSES ? 0 : noted->excused);
+        late = noted->awaited & ~(noted->excuses == EXCUSES ? 0 : noted->excused);
         noted->judged_at = now + config->active_ms;
         noted->excused = 0;
     }
-    if (awaited)
+    if (tuhvondi_router_state(&daemon->router.machine, noted->addr, noted->len, &state) == TUHVONDI_DONE)
         excuse_to(daemon, noted, state.owed);
     return late;
 }
@@ -174,10 +144,10 @@ void router_tick(struct daemon *daemon, int64_t now)
     for (size_t i = 0; i < daemon->prefixes.size; i++)
         if (daemon->prefixes.slots[i].active_since)
             late |= look_at(daemon, &daemon->prefixes.slots[i], now, &lines);
-    for (struct peer *peer = daemon->peers; peer < peers_end(daemon); peer++)
-        if (late >> port_of(daemon, peer) & 1 && peer->state == PEER_UP) {
+    for (size_t port = 0; port < port_count(daemon); port++)
+        if (late >> port & 1 && daemon->peers[port].state == PEER_UP) {
             daemon->router.late++;
-            peer_hang_up(daemon, peer, BY_DEBT, "it owes a reply for too long");
+            peer_hang_up(daemon, &daemon->peers[port], BY_DEBT, "it owes a reply for too long");
         }
 }
 
@@ -186,13 +156,11 @@ int64_t router_oldest(struct daemon *daemon, int64_t now, size_t awaited[TUHVOND
     int64_t oldest = 0;
     for (size_t i = 0; i < daemon->prefixes.size && daemon->router.active > 0; i++) {
         const struct noted *noted = &daemon->prefixes.slots[i];
-        struct tuhvondi_prefix_state state;
         if (!noted->active_since)
             continue;
         oldest = now - noted->active_since > oldest ? now - noted->active_since : oldest;
-        uint32_t ports = awaited_for(daemon, noted, &state);
         for (size_t port = 0; port < TUHVONDI_PORTS; port++)
-            awaited[port] += ports >> port & 1;
+            awaited[port] += noted->awaited >> port & 1;
     }
     return oldest;
 }
@@ -218,10 +186,11 @@ uint32_t router_link_down(struct daemon *daemon, struct peer *peer)
     uint32_t status = tuhvondi_router_link_down(&daemon->router.machine, port_of(daemon, peer));
     if (status == TUHVONDI_NO_MEMORY)
         return status;
-    for (size_t i = 0; i < daemon->prefixes.size; i++)
+    for (size_t i = 0; i < daemon->prefixes.size; i++) {
         daemon->prefixes.slots[i].reported &= ~bit;
+        note_answered(daemon, &daemon->prefixes.slots[i], bit);
+    }
     peer->reported = 0;
-    note_all_activity(daemon);
     prefixes_tidy(&daemon->prefixes);
     return status;
 }
@@ -234,7 +203,6 @@ uint32_t router_cost(struct daemon *daemon, struct peer *peer, uint32_t cost)
                                            cost_now(daemon, cost));
     if (status == TUHVONDI_DONE)
         peer->config.cost = cost;
-    note_all_activity(daemon);
     return status;
 }
 
@@ -249,17 +217,12 @@ uint32_t router_costs(struct daemon *daemon)
 
 uint32_t router_attach(struct daemon *daemon, const struct tuhvondi_attachment *attachment)
 {
-    uint32_t status = tuhvondi_router_attached(&daemon->router.machine, attachment->addr, attachment->len,
-                                               attachment->cost);
-    note_activity(daemon, attachment->addr, attachment->len);
-    return status;
+    return tuhvondi_router_attached(&daemon->router.machine, attachment->addr, attachment->len, attachment->cost);
 }
 
 uint32_t router_detach(struct daemon *daemon, uint32_t addr, uint8_t len)
 {
-    uint32_t status = tuhvondi_router_detached(&daemon->router.machine, addr, len);
-    note_activity(daemon, addr, len);
-    return status;
+    return tuhvondi_router_detached(&daemon->router.machine, addr, len);
 }
 
 static bool is_known(struct daemon *daemon, uint32_t addr, uint8_t len)
@@ -275,18 +238,23 @@ static void warn_of_many(const struct peer *peer, uint32_t reported)
         say(LOG_WARNING, "%s: it tells of more than %u prefixes", peer->name, (unsigned)peer->config.warn_prefixes);
 }
 
-/* Notes whether the neighbour tells a finite distance. */
-static void note_report(struct daemon *daemon, struct peer *peer, const struct tuhvondi_message *message)
+/* Notes of a message that was taken whether the neighbour tells a finite distance, that it has answered, and that it had the
+ * router know the prefix. */
+static void note_taken(struct daemon *daemon, struct peer *peer, struct noted *noted, const struct tuhvondi_message *message,
+                       bool known)
 {
     uint32_t bit = (uint32_t)1 << message->port;
     bool told = message->value != TUHVONDI_INFINITY;
-    struct noted *noted = told ? prefixes_add(&daemon->prefixes, message->addr, message->len)
-                               : prefixes_find(&daemon->prefixes, message->addr, message->len);
+    if (!noted && (told || !known))
+        noted = prefixes_add(&daemon->prefixes, message->addr, message->len);
     if (!noted)
         return;
-    /* If its reply is awaited again, it was asked anew. */
+    if (!known && !noted->brought) {
+        noted->brought = (uint8_t)(message->port + 1);
+        daemon->router.brought[message->port]++;
+    }
     if (message->kind == TUHVONDI_REPLY)
-        noted->awaited &= ~bit;
+        note_answered(daemon, noted, bit);
     if (told && !(noted->reported & bit))
         warn_of_many(peer, ++peer->reported);
     if (!told && (noted->reported & bit))
@@ -323,16 +291,6 @@ uint32_t router_attach_found(struct daemon *daemon, const struct tuhvondi_attach
     return fits ? router_attach(daemon, attachment) : TUHVONDI_TOO_MANY_PREFIXES;
 }
 
-/* Notes by whom the router came to know the prefix, until it is forgotten. */
-static void note_brought(struct daemon *daemon, const struct peer *peer, uint32_t addr, uint8_t len)
-{
-    struct noted *noted = prefixes_add(&daemon->prefixes, addr, len);
-    if (!noted || noted->brought)
-        return;
-    noted->brought = (uint8_t)(port_of(daemon, peer) + 1);
-    daemon->router.brought[port_of(daemon, peer)]++;
-}
-
 static void note_forgotten(struct daemon *daemon, uint32_t addr, uint8_t len)
 {
     struct noted *noted = prefixes_find(&daemon->prefixes, addr, len);
@@ -344,10 +302,28 @@ static void note_forgotten(struct daemon *daemon, uint32_t addr, uint8_t len)
     prefixes_let_go(&daemon->prefixes, noted);
 }
 
-/* Whether it is one prefix more than is taken of the neighbour at a time. */
-static bool is_too_many(struct daemon *daemon, const struct peer *peer, const struct frame *frame)
+/* A prefix of which nobody else tells is about to be forgotten. */
+void router_leave_share(struct daemon *daemon, const struct peer *peer)
 {
-    const struct noted *noted = prefixes_find(&daemon->prefixes, frame->addr, frame->len);
+    size_t *brought = daemon->router.brought, port = port_of(daemon, peer);
+    if (port >= TUHVONDI_PORTS || brought[port] == 0)
+        return;
+    for (size_t i = 0; i < daemon->prefixes.size; i++) {
+        struct noted *noted = &daemon->prefixes.slots[i];
+        uint32_t others = noted->reported & ~((uint32_t)1 << port);
+        if (noted->brought != port + 1)
+            continue;
+        noted->brought = (uint8_t)(others ? __builtin_ctz(others) + 1 : 0);
+        if (others)
+            brought[noted->brought - 1]++;
+    }
+    brought[port] = 0;
+    prefixes_tidy(&daemon->prefixes);
+}
+
+/* Whether it is one prefix more than is taken of the neighbour at a time. */
+static bool is_too_many(const struct daemon *daemon, const struct peer *peer, const struct noted *noted, const struct frame *frame)
+{
     bool is_reported = noted && (noted->reported >> port_of(daemon, peer) & 1);
     uint32_t most = peer->config.most_prefixes;
     return most && frame->value != TUHVONDI_INFINITY && !is_reported && peer->reported >= most;
@@ -377,13 +353,6 @@ static void leave_prefix(struct daemon *daemon, struct peer *peer, const struct 
     peer_put(daemon, peer, &reply);
 }
 
-/* Whether a computation goes on after this reply, because others owe theirs, so that the router need not be asked. */
-static bool goes_on(struct daemon *daemon, const struct frame *frame)
-{
-    const struct noted *noted = prefixes_find(&daemon->prefixes, frame->addr, frame->len);
-    return frame->kind == TUHVONDI_REPLY && noted && noted->active_since && noted->awaited;
-}
-
 /* Gives a message to the router. A prefix that the neighbour's list refuses, or that is one too many, is taken as one
  * that it does not reach: a query is answered, and no row leads there. If the router does not know it, it need not. A
  * reply to no question, and a message of another session, are the router's to refuse. */
@@ -391,8 +360,9 @@ uint32_t router_take(struct daemon *daemon, struct peer *peer, const struct fram
 {
     struct tuhvondi_message message = {.addr = frame->addr, .value = frame->value, .len = frame->len,
                                        .session = frame->number, .kind = frame->kind, .port = port_of(daemon, peer)};
-    bool known = frame->kind == TUHVONDI_REPLY || is_known(daemon, frame->addr, frame->len);
-    bool too_many = is_too_many(daemon, peer, frame), no_room = !known && !has_room(daemon, peer);
+    struct noted *noted = prefixes_find(&daemon->prefixes, frame->addr, frame->len);
+    bool known = frame->kind == TUHVONDI_REPLY || (noted && noted->brought) || is_known(daemon, frame->addr, frame->len);
+    bool too_many = is_too_many(daemon, peer, noted, frame), no_room = !known && !has_room(daemon, peer);
     if ((too_many || no_room) && frame->value != TUHVONDI_INFINITY)
         note_left(peer, frame, too_many ? "more are not taken of it" : "there is no room for more");
     bool refused = too_many || !config_accepts(&daemon->config, peer->config.list, frame->addr, frame->len);
@@ -411,12 +381,8 @@ uint32_t router_take(struct daemon *daemon, struct peer *peer, const struct fram
         return TUHVONDI_DONE;
     }
     if (status == TUHVONDI_DONE) {
-        if (!known)
-            note_brought(daemon, peer, frame->addr, frame->len);
-        note_report(daemon, peer, &message);
+        note_taken(daemon, peer, noted, &message, known);
         peer->counters.taken[frame->kind]++;
-        if (!goes_on(daemon, frame))
-            note_activity(daemon, frame->addr, frame->len);
     }
     return status;
 }
@@ -451,17 +417,23 @@ bool router_forward(struct daemon *daemon)
 }
 
 /* Puts what may leave on the links; what is of a session that has ended is dropped. What a queue does not take now stays with
- * the router, and all behind it, because the order is part of the protocol. */
+ * the router, and all behind it, because the order is part of the protocol. To whom the next message goes is known only when it
+ * is taken, so there has to be room with each neighbour. */
 static void release(struct daemon *daemon)
 {
     struct tuhvondi_message message;
-    while (sessions_have_room(daemon) && tuhvondi_router_release(&daemon->router.machine, &message) == TUHVONDI_DONE) {
+    struct noted *asked = NULL;
+    for (size_t room = sessions_room(daemon); room > 0; room = room > 1 ? room - 1 : sessions_room(daemon)) {
+        if (tuhvondi_router_release(&daemon->router.machine, &message) != TUHVONDI_DONE)
+            return;
         struct peer *peer = &daemon->peers[message.port];
         struct frame frame = {.type = FRAME_MESSAGE, .kind = message.kind, .len = message.len,
                               .number = message.session, .addr = message.addr, .value = message.value};
         if (!is_in_session(peer, message.session))
             continue;
         peer->counters.told[message.kind]++;
+        if (message.kind == TUHVONDI_QUERY)
+            asked = note_asked(daemon, &message, asked);
         peer_put(daemon, peer, &frame);
     }
 }

@@ -31,6 +31,7 @@ enum {
     SOON_MS = 50,        /* until what could not be done is tried again */
     COMPLAIN_MS = 1000,
     COMPLAINTS = 5,      /* lines in that time */
+    ASK_MS = 1000,       /* between questions whether the other end has the new secret */
     PARTING_MS = 5000,   /* between attempts of a passive end to connect to one that is no neighbour any more */
     MOST_PARTING_MS = 30000, /* for which one that is no neighbour any more is told so */
     OWN_TTL = 255, /* of what is sent, so that the other end can tell that no router was passed */
@@ -122,9 +123,25 @@ void peer_wake(struct peer *peer)
     peer->next_try = now_ms();
 }
 
+static void forget_former(struct peer *peer)
+{
+    explicit_bzero(peer->former, sizeof peer->former);
+}
+
+static void stop_asking(struct peer *peer)
+{
+    if (peer->asking >= 0)
+        close(peer->asking);
+    peer->asking = -1;
+}
+
 void peer_hang_up(struct daemon *daemon, struct peer *peer, enum ending ending, const char *why)
 {
     bool was_up = peer->state == PEER_UP;
+    stop_asking(peer);
+    /* What comes here is signed by the new secret, as the listening socket has it. */
+    if (peer->config.passive)
+        forget_former(peer);
     if (was_up) {
         say(LOG_NOTICE, "%s: session %u ends: %s", peer->name, peer->last, why);
         peer->counters.faults += ending == BY_FAULT || ending == BY_DEBT;
@@ -163,11 +180,24 @@ static void unsign(struct daemon *daemon, const struct peer *peer)
         sessions_set_secret(daemon->listener, &unsigned_one);
 }
 
+static void drop_candidates(struct peer *peer)
+{
+    for (size_t i = 0; i < CANDIDATES; i++)
+        drop(&peer->candidates[i]);
+}
+
 static void drop_connections(struct daemon *daemon, struct peer *peer, const char *why)
 {
     peer_hang_up(daemon, peer, BY_OPERATOR, why);
-    for (size_t i = 0; i < CANDIDATES; i++)
-        drop(&peer->candidates[i]);
+    drop_candidates(peer);
+}
+
+/* Whoever knows the former secret is kept out by this, too. */
+void peer_shut(struct daemon *daemon, struct peer *peer)
+{
+    peer->shut = true;
+    drop_connections(daemon, peer, "it is shut");
+    forget_former(peer);
 }
 
 /* Whether a filter tells the packets of these two apart. Of one that was never heard of no link address is known; to connect
@@ -258,15 +288,18 @@ static bool is_crowded(const struct peer *peer)
 }
 
 /* A neighbour is told of every prefix when its session begins, which may be more than its queue takes. */
-bool sessions_have_room(struct daemon *daemon)
+size_t sessions_room(struct daemon *daemon)
 {
-    bool all = true;
-    for (struct peer *peer = daemon->peers; peer < peers_end(daemon); peer++) {
+    size_t least = (QUEUE - QUEUE_KEPT) / FRAME_SIZE;
+    for (struct peer *peer = daemon->peers; peer < daemon->peers + port_count(daemon); peer++) {
         if (is_crowded(peer))
             sessions_flush(daemon, peer);
-        all = all && !is_crowded(peer);
+        if (is_crowded(peer))
+            return 0;
+        size_t room = (QUEUE - QUEUE_KEPT - peer->out_count) / FRAME_SIZE + 1;
+        least = peer->state == PEER_UP && room < least ? room : least;
     }
-    return all;
+    return least;
 }
 
 /* A hello, and the terms behind it. */
@@ -312,6 +345,7 @@ static void release(struct daemon *daemon, struct peer *peer, int64_t now)
     if (!is_elsewhere)
         unsign(daemon, peer);
     drop_connections(daemon, peer, "it is gone");
+    router_leave_share(daemon, peer);
     peer->used = false;
 }
 
@@ -402,7 +436,8 @@ static bool is_noted(struct daemon *daemon, struct peer *peer)
 
 /* Both ends have said which session they had last: the next after both begins. After 65535 there is none. That the
  * other end said hello tells that it has no row by an old session, so what comes in from it may be let in. A sign of life
- * tells the end that connects that this one is in the session. */
+ * tells the end that connects that this one is in the session. The other end has answered this one's hello, so carrier was there
+ * since losses were counted. */
 static void begin_session(struct daemon *daemon, struct peer *peer)
 {
     struct frame alive = {.type = FRAME_ALIVE};
@@ -419,9 +454,11 @@ static void begin_session(struct daemon *daemon, struct peer *peer)
     peer->begun = now_ms();
     peer->counters.sessions++;
     say(LOG_NOTICE, "%s: session %u", peer->name, peer->last);
+    if (!peer->signs_as_before)
+        forget_former(peer);
     agree(daemon, peer);
     control_tell_peer(daemon, peer, "up");
-    if (!kernel_note_carrier(daemon, peer))
+    if (!kernel_has_carrier(daemon, peer))
         peer_hang_up(daemon, peer, BY_LINK, "its interface has no carrier");
     else if (!kernel_filter(daemon, peer, false))
         peer_hang_up(daemon, peer, BY_LINK, "what comes in from it is still dropped");
@@ -431,13 +468,21 @@ static void begin_session(struct daemon *daemon, struct peer *peer)
 
 /* ---- connections that go from here */
 
+/* A socket has one secret for an address, also while it is connected: another one takes its place. */
+static bool sign(int fd, struct in_addr with, const char *secret)
+{
+    struct tcp_md5sig key = {.tcpm_keylen = (uint16_t)strlen(secret)};
+    struct sockaddr_in address = {.sin_family = AF_INET, .sin_addr = with};
+    memcpy(&key.tcpm_addr, &address, sizeof address);
+    memcpy(key.tcpm_key, secret, key.tcpm_keylen);
+    bool done = setsockopt(fd, IPPROTO_TCP, TCP_MD5SIG, &key, sizeof key) == 0;
+    explicit_bzero(&key, sizeof key);
+    return done;
+}
+
 bool sessions_set_secret(int fd, const struct neighbour *neighbour)
 {
-    struct tcp_md5sig key = {.tcpm_keylen = (uint16_t)strlen(neighbour->secret)};
-    struct sockaddr_in address = {.sin_family = AF_INET, .sin_addr = neighbour->address};
-    memcpy(&key.tcpm_addr, &address, sizeof address);
-    memcpy(key.tcpm_key, neighbour->secret, key.tcpm_keylen);
-    return setsockopt(fd, IPPROTO_TCP, TCP_MD5SIG, &key, sizeof key) == 0;
+    return sign(fd, neighbour->address, neighbour->secret);
 }
 
 static bool set_options(const struct daemon *daemon, const struct peer *peer, int fd)
@@ -455,20 +500,34 @@ static struct sockaddr_in endpoint(struct in_addr address, uint16_t port)
     return (struct sockaddr_in){.sin_family = AF_INET, .sin_port = htons(port), .sin_addr = address};
 }
 
-static void try_to_connect(struct daemon *daemon, struct peer *peer)
+/* An attempt to connect, signed by this secret, if there is one; -1: there is none. */
+static int begin_to_connect(const struct daemon *daemon, const struct peer *peer, const char *secret)
 {
     struct sockaddr_in from = endpoint(daemon->config.listen, 0), to = endpoint(peer->config.address, TCP_PORT);
-    peer->next_try = now_ms() + RETRY_MS;
-    peer->fd = socket(AF_INET, SOCK_STREAM | SOCK_NONBLOCK | SOCK_CLOEXEC, 0);
-    if (peer->fd < 0)
-        return;
-    peer->state = PEER_CONNECTING;
+    int fd = socket(AF_INET, SOCK_STREAM | SOCK_NONBLOCK | SOCK_CLOEXEC, 0);
+    if (fd < 0)
+        return -1;
+    if (set_options(daemon, peer, fd) && (!*secret || sign(fd, to.sin_addr, secret))
+        && !bind(fd, (struct sockaddr *)&from, sizeof from)
+        && (!connect(fd, (struct sockaddr *)&to, sizeof to) || errno == EINPROGRESS))
+        return fd;
+    close(fd);
+    return -1;
+}
+
+/* While the other end may have the former secret alone, each other attempt is signed by that. */
+static void try_to_connect(struct daemon *daemon, struct peer *peer)
+{
+    peer->signs_as_before = peer->former[0] && !peer->signs_as_before;
+    peer->fd = begin_to_connect(daemon, peer, peer->signs_as_before ? peer->former : peer->config.secret);
     peer->heard = now_ms();
-    if (!set_options(daemon, peer, peer->fd)
-        || (peer->config.secret[0] && !sessions_set_secret(peer->fd, &peer->config))
-        || bind(peer->fd, (struct sockaddr *)&from, sizeof from)
-        || (connect(peer->fd, (struct sockaddr *)&to, sizeof to) && errno != EINPROGRESS))
-        peer_hang_up(daemon, peer, BY_LINK, "it does not answer");
+    if (peer->fd >= 0) {
+        peer->next_try = peer->heard + RETRY_MS;
+        peer->state = PEER_CONNECTING;
+        return;
+    }
+    peer->tried = "it does not answer";
+    back_off(peer, BY_LINK);
 }
 
 /* The attempt to connect is over: each end says which session the link had last. It also says by this that no row of
@@ -489,10 +548,62 @@ static void connected(struct daemon *daemon, struct peer *peer)
     peer->state = PEER_GREETING;
     peer->heard = now_ms();
     peer->greeting = (struct greeting){.version = FIRST_VERSION};
+    peer->carrier_losses = kernel_carrier_losses(daemon, peer);
     if (peer->removed)
         return;
     write_greeting(daemon, peer, peer->out);
     peer->out_count = (size_t)2 * FRAME_SIZE;
+}
+
+/* ---- secrets that change */
+
+/* Those who wait to be accepted have come by the former secret. A connection cannot begin to be signed, or end it. */
+void peer_sign_anew(struct daemon *daemon, struct peer *peer, const char *secret)
+{
+    bool signs_on = peer->config.secret[0] && *secret;
+    sessions_accept(daemon);
+    drop_candidates(peer);
+    if (peer->state != PEER_UP || !signs_on)
+        peer_hang_up(daemon, peer, BY_OPERATOR, "its secret is another now");
+    if (!signs_on || (peer->config.passive && peer->state != PEER_UP)) {
+        forget_former(peer);
+        return;
+    }
+    if (!peer->former[0])
+        memcpy(peer->former, peer->config.secret, sizeof peer->former);
+    peer->signs_as_before = true;
+    peer->asked = 0;
+}
+
+/* A connection by the new secret has shown to each end that the other has it, too, so each signs by it from now on. What one end
+ * sends before the other has done so is dropped there, and TCP sends it again. */
+static void renew(struct daemon *daemon, struct peer *peer)
+{
+    stop_asking(peer);
+    forget_former(peer);
+    peer->signs_as_before = false;
+    if (sessions_set_secret(peer->fd, &peer->config))
+        say(LOG_NOTICE, "%s: session %u goes on by the new secret", peer->name, peer->last);
+    else
+        peer_hang_up(daemon, peer, BY_OPERATOR, "its secret is another now");
+}
+
+/* The end that connects asks by a connection that says nothing. One that has another secret does not answer it. */
+static void ask_for_secret(struct daemon *daemon, struct peer *peer, int64_t now)
+{
+    struct sockaddr_in to;
+    int error = 0;
+    socklen_t size = sizeof to, error_size = sizeof error;
+    if (peer->asking < 0 && now - peer->asked >= ASK_MS) {
+        peer->asking = begin_to_connect(daemon, peer, peer->config.secret);
+        peer->asked = now;
+    }
+    if (peer->asking < 0)
+        return;
+    if (getpeername(peer->asking, (struct sockaddr *)&to, &size) == 0)
+        renew(daemon, peer);
+    else if (getsockopt(peer->asking, SOL_SOCKET, SO_ERROR, &error, &error_size) || error || now - peer->asked > CONNECT_MS)
+        stop_asking(peer);
 }
 
 /* ---- what neighbours send */
@@ -633,6 +744,7 @@ int sessions_listen(struct daemon *daemon)
 static void greet(const struct daemon *daemon, const struct peer *peer, struct candidate *candidate)
 {
     unsigned char bytes[2 * FRAME_SIZE];
+    candidate->carrier_losses = kernel_carrier_losses(daemon, peer);
     write_greeting(daemon, peer, bytes);
     candidate->greeted = send(candidate->fd, bytes, sizeof bytes, MSG_NOSIGNAL | MSG_DONTWAIT) == sizeof bytes;
     if (!candidate->greeted)
@@ -680,6 +792,8 @@ static void accept_one(struct daemon *daemon, int fd, struct in_addr from)
         close(fd);
         return;
     }
+    if (peer->state == PEER_UP && peer->signs_as_before)
+        renew(daemon, peer);
     struct candidate *place = place_for(peer);
     if (!place || !set_options(daemon, peer, fd)) {
         close(fd);
@@ -779,6 +893,7 @@ static void adopt(struct daemon *daemon, struct peer *peer, struct candidate *ca
 {
     peer->fd = candidate->fd;
     peer->greeting = candidate->greeting;
+    peer->carrier_losses = candidate->carrier_losses;
     peer->in_count = candidate->in_count - candidate->in_from;
     memcpy(peer->in, candidate->in + candidate->in_from, peer->in_count);
     candidate->fd = -1;
@@ -787,6 +902,7 @@ static void adopt(struct daemon *daemon, struct peer *peer, struct candidate *ca
     peer->state = PEER_GREETING;
     peer->heard = now_ms();
     peer->greeted = true;
+    peer->signs_as_before = false;
     take_frames(daemon, peer);
 }
 
@@ -862,16 +978,19 @@ static int64_t patience(const struct daemon *daemon, const struct peer *peer)
 /* Whoever configures two ends with two secrets sees nothing else: the kernel drops what is not signed as it has to be. */
 static void miss(struct peer *peer, int64_t now)
 {
-    bool is_missed = is_somebody(peer) && !peer->shut && peer->state != PEER_UP;
+    bool is_missed = is_somebody(peer) && !peer->shut && (peer->state != PEER_UP || peer->signs_as_before);
     if (!is_missed || !peer->missed) {
         peer->missed = is_missed ? now + MISSED_MS : 0;
         return;
     }
     if (now < peer->missed)
         return;
-    say(LOG_WARNING, "%s: there is no session: %s%s", peer->name, peer->tried ? peer->tried : "it does not connect",
-        peer->config.secret[0] ? "; its secret may be another" : "");
     peer->missed = now + HOUR_MS;
+    if (peer->state == PEER_UP)
+        say(LOG_WARNING, "%s: it does not have the new secret, so its session goes on by the former one", peer->name);
+    else
+        say(LOG_WARNING, "%s: there is no session: %s%s", peer->name, peer->tried ? peer->tried : "it does not connect",
+            peer->config.secret[0] ? "; its secret may be another" : "");
 }
 
 static void tick_peer(struct daemon *daemon, struct peer *peer, int64_t now)
@@ -892,6 +1011,8 @@ static void tick_peer(struct daemon *daemon, struct peer *peer, int64_t now)
         try_to_connect(daemon, peer);
     if (peer->state == PEER_UP && now - peer->said >= (int64_t)peer->alive_ms)
         peer_put(daemon, peer, &alive);
+    if (peer->state == PEER_UP && peer->signs_as_before && !peer->config.passive && !daemon->blocked)
+        ask_for_secret(daemon, peer, now);
     if (peer->used && peer->removed && !peer->marked && !peer->leaving && !peer->stale)
         release(daemon, peer, now);
 }
@@ -971,8 +1092,8 @@ int64_t sessions_deadline(const struct daemon *daemon, int64_t now)
  * that is far ahead of its own. */
 static struct peer *free_port(struct daemon *daemon, struct in_addr address)
 {
-    struct peer *found = daemon->peer_count < TUHVONDI_PORTS ? peers_end(daemon) : NULL;
-    for (struct peer *peer = daemon->peers; peer < peers_end(daemon); peer++) {
+    struct peer *found = NULL;
+    for (struct peer *peer = daemon->peers; peer < daemon->peers + TUHVONDI_PORTS; peer++) {
         if (peer->used)
             continue;
         if (address.s_addr && peer->config.address.s_addr == address.s_addr)
@@ -983,22 +1104,34 @@ static struct peer *free_port(struct daemon *daemon, struct in_addr address)
     return found;
 }
 
-/* The neighbour has a port; NULL: there is none for it. */
-static struct peer *take_port(struct daemon *daemon, const struct neighbour *neighbour)
+/* One that is to get no session needs no port of the router, so it takes none away from a neighbour. */
+static struct peer *free_place(struct daemon *daemon)
 {
-    struct peer *peer = free_port(daemon, neighbour->address);
+    for (struct peer *peer = daemon->peers + TUHVONDI_PORTS; peer < daemon->peers + PLACES; peer++)
+        if (!peer->used)
+            return peer;
+    return NULL;
+}
+
+/* The neighbour has a port, or a place behind the ports if that will do; NULL: there is none for it. */
+static struct peer *take_port(struct daemon *daemon, const struct neighbour *neighbour, bool is_former)
+{
+    struct peer *peer = is_former ? free_place(daemon) : NULL;
+    if (!peer)
+        peer = free_port(daemon, neighbour->address);
     if (!peer)
         return NULL;
     uint16_t last = peer->last;
     memset(peer, 0, offsetof(struct peer, in));
     peer->config = *neighbour;
     peer->last = last;
-    peer->fd = -1;
+    peer->fd = peer->asking = -1;
     name_peer(peer);
     for (size_t i = 0; i < CANDIDATES; i++)
         peer->candidates[i].fd = -1;
     peer->used = true;
-    daemon->peer_count += peer == peers_end(daemon);
+    if (peer >= peers_end(daemon))
+        daemon->peer_count = (size_t)(peer - daemon->peers) + 1;
     return peer;
 }
 
@@ -1006,6 +1139,7 @@ static struct peer *take_port(struct daemon *daemon, const struct neighbour *nei
 static void take_back(struct daemon *daemon, struct peer *peer, const struct neighbour *neighbour)
 {
     drop_connections(daemon, peer, "it is a neighbour again");
+    forget_former(peer);
     if (!neighbour->secret[0])
         unsign(daemon, peer);
     peer->config = *neighbour;
@@ -1017,16 +1151,17 @@ static void take_back(struct daemon *daemon, struct peer *peer, const struct nei
     peer_wake(peer);
 }
 
+/* One of a process before this one stays where it is until it is heard, and has a port besides. */
 const char *peer_add(struct daemon *daemon, const struct neighbour *neighbour)
 {
     struct peer *peer = neighbour->address.s_addr ? removed_of(daemon, neighbour->address) : NULL;
-    bool was_removed = peer;
-    if (peer)
+    bool was_removed = peer && port_of(daemon, peer) < TUHVONDI_PORTS;
+    if (was_removed)
         take_back(daemon, peer, neighbour);
     else
-        peer = take_port(daemon, neighbour);
+        peer = take_port(daemon, neighbour, false);
     if (!peer)
-        return "there are at most 32 neighbours";
+        return "there are at most 32 neighbours, with those that are taken out and have yet to be heard";
     const char *wrong = kernel_find_interface(daemon, peer);
     if (wrong == kernel_no_interface) {
         say(LOG_WARNING, "%s: %s yet", peer->name, wrong);
@@ -1038,7 +1173,7 @@ const char *peer_add(struct daemon *daemon, const struct neighbour *neighbour)
 }
 
 /* What comes in from it is dropped until it has said hello once more, however long that takes: then none of its rows leads
- * here. So its secret stays as long. Who never had a session has no rows. */
+ * here. So its secret stays as long. Who never had a session has no rows, so another may have its port at once. */
 void peer_remove(struct daemon *daemon, struct peer *peer)
 {
     drop_connections(daemon, peer, "it is no neighbour any more");
@@ -1048,6 +1183,8 @@ void peer_remove(struct daemon *daemon, struct peer *peer)
     if (peer->marked)
         say(LOG_NOTICE, "%s: what comes in by %s is dropped until it says that no row of it leads here", peer->name,
             peer->interface);
+    else if (!peer->leaving && !peer->stale)
+        release(daemon, peer, now_ms());
 }
 
 /* It stands as one that was removed, if the configuration neither names it nor seeks neighbours on its interface. */
@@ -1071,7 +1208,7 @@ bool peer_inherit(struct daemon *daemon, const struct neighbour *neighbour, cons
     if (found && found->config.interface[0])
         found->config.passive = neighbour->passive;
     if (!found) {
-        found = take_port(daemon, neighbour);
+        found = take_port(daemon, neighbour, true);
         if (!found)
             return false;
         found->removed = true;
@@ -1087,7 +1224,7 @@ bool peer_inherit(struct daemon *daemon, const struct neighbour *neighbour, cons
 
 bool peer_leave_behind(struct daemon *daemon, struct peer *peer)
 {
-    struct peer *left = take_port(daemon, &peer->config);
+    struct peer *left = take_port(daemon, &peer->config, true);
     if (!left)
         return false;
     left->removed = left->marked = true;
@@ -1125,6 +1262,8 @@ bool peer_give(struct daemon *daemon, struct peer *peer, struct in_addr address)
 {
     unsign(daemon, peer);
     drop_connections(daemon, peer, "it is no neighbour any more");
+    forget_former(peer);
+    router_leave_share(daemon, peer);
     peer->config.address = address;
     bool done = !address.s_addr || !peer->config.secret[0] || sessions_set_secret(daemon->listener, &peer->config);
     if (!done)

@@ -52,7 +52,8 @@ bool sharing_has_one(const struct daemon *daemon, const char *interface)
     return false;
 }
 
-/* A router may be there by two addresses. Packets by rows of the one come from the link address of the other, too. */
+/* A router may be there by two addresses. Packets by rows of the one come from the link address of the other, too. One whose link
+ * address is not known counts as another router, or after a crash a neighbour that is away would keep all others out. */
 bool sharing_is_alone(const struct daemon *daemon, const struct peer *peer)
 {
     for (size_t i = 0; i < daemon->peer_count; i++) {
@@ -286,7 +287,7 @@ static bool send_batch(struct daemon *daemon, struct tables *tables, uint32_t la
             if (at->nlmsg_type != NLMSG_ERROR || at->nlmsg_len < NLMSG_LENGTH(sizeof answer.error))
                 continue;
             memcpy(&answer.error, NLMSG_DATA(at), sizeof answer.error);
-            errno = -answer.error;
+            errno = netlink_error(answer.error);
             if (answer.error || at->nlmsg_seq == last)
                 return !answer.error;
         }

@@ -5,6 +5,8 @@
 #include <inttypes.h>
 #include <string.h>
 
+enum { KEEP_ALIVE = 1024 }; /* rows that are shown between signs of life: there may be very many */
+
 static const char *const KINDS[] = {"local", "via", "unreachable", "none"};
 
 /* ---- rows */
@@ -12,7 +14,7 @@ static const char *const KINDS[] = {"local", "via", "unreachable", "none"};
 static void show_ports(const struct daemon *daemon, struct text *out, const uint8_t awaited[TUHVONDI_PORTS], bool json)
 {
     bool is_first = true;
-    for (size_t i = 0; i < daemon->peer_count; i++) {
+    for (size_t i = 0; i < port_count(daemon); i++) {
         if (!awaited[i])
             continue;
         text_put(out, json ? "%s\"%s\"" : "%s%s", json ? is_first ? "" : "," : " ", daemon->peers[i].name);
@@ -43,7 +45,7 @@ static void show_state_json(const struct daemon *daemon, struct text *out, const
     text_put(out, ",\"active\":%s,\"awaits\":[", state->active ? "true" : "false");
     show_ports(daemon, out, state->awaited, true);
     text_put(out, "]");
-    if (state->owed < daemon->peer_count)
+    if (state->owed < port_count(daemon))
         text_put(out, ",\"owes\":\"%s\"", daemon->peers[state->owed].name);
 }
 
@@ -74,7 +76,7 @@ static void show_state(const struct daemon *daemon, struct text *out, const stru
     text_put(out, ", distance %" PRIu32 ", feasible %" PRIu32 ", %s", state->rd, state->fd,
              state->active ? "active: awaits" : "passive");
     show_ports(daemon, out, state->awaited, false);
-    if (state->owed < daemon->peer_count)
+    if (state->owed < port_count(daemon))
         text_put(out, ", owes %s", daemon->peers[state->owed].name);
 }
 
@@ -115,6 +117,8 @@ static void show_rows(struct daemon *daemon, struct text *out, bool all, bool js
     else
         tuhvondi_image_rows(&daemon->router.image, &from, known, most + PART, &count);
     for (size_t i = 0; i < count; i++) {
+        if ((i + 1) % KEEP_ALIVE == 0)
+            sessions_keep_alive(daemon);
         text_put(out, json && i > 0 ? "," : "");
         if (all
             && tuhvondi_router_state(&daemon->router.machine, known[i].addr, known[i].len, &state) == TUHVONDI_DONE)
@@ -162,6 +166,8 @@ static void show_routes(struct daemon *daemon, struct text *out, bool json)
     tuhvondi_image_rows(&daemon->router.image, &from, rows, daemon->router.most_known + PART, &count);
     text_put(out, json ? "[" : "");
     for (size_t i = 0; i < count; i++) {
+        if ((i + 1) % KEEP_ALIVE == 0)
+            sessions_keep_alive(daemon);
         text_put(out, json && i > 0 ? "," : "");
         show_route(daemon, out, &rows[i], json);
     }
@@ -199,7 +205,7 @@ static void show_prefix(struct daemon *daemon, struct text *out, const char *wor
         text_put(out, " for %" PRId64 " ms: it awaits replies from", now_ms() - begun);
         show_ports(daemon, out, state.awaited, false);
     }
-    if (state.owed < daemon->peer_count)
+    if (state.owed < port_count(daemon))
         text_put(out, ", and owes one to %s", daemon->peers[state.owed].name);
     text_put(out, "\n");
 }
@@ -253,7 +259,8 @@ static void show_neighbour_json(struct text *out, const struct peer *peer, int64
              counters->sessions, counters->faults, counters->left);
     text_put(out, ",\"down_seconds\":%" PRId64 ",\"why\":", peer->why && !peer->begun ? (now - peer->over) / 1000 : 0);
     text_put_string(out, peer->why && !peer->begun ? peer->why : "");
-    text_put(out, ",\"version\":%u", peer->begun ? peer->greeting.version : 0);
+    text_put(out, ",\"version\":%u,\"former_secret\":%s", peer->begun ? peer->greeting.version : 0,
+             peer->former[0] ? "true" : "false");
     text_put(out, ",\"taken\":[%" PRIu64 ",%" PRIu64 ",%" PRIu64 "],\"told\":[%" PRIu64 ",%" PRIu64 ",%" PRIu64 "]}",
              counters->taken[0], counters->taken[1], counters->taken[2], counters->told[0], counters->told[1],
              counters->told[2]);
@@ -273,6 +280,8 @@ static void show_neighbour(struct text *out, const struct peer *peer, int64_t no
         text_put(out, ", %" PRIu64 " reports left", peer->counters.left);
     if (now < peer->waits_until)
         text_put(out, ", waits %" PRId64 " s", (peer->waits_until - now + 999) / 1000);
+    if (peer->former[0])
+        text_put(out, ", its former secret serves still");
     if (peer->config.interface[0] && is_somebody(peer))
         text_put(out, ", found on %s", peer->config.interface);
     text_put(out, "%s\n", peer->config.passive ? ", passive" : "");

@@ -29,8 +29,10 @@
  * docs/daemons.md (order within a session, later sessions, forwarding first, letting in, one call at a
  * time, other neighbours only between sessions), it is proved of the network as a whole:
  *
- *   - No packet meets a router twice, even while links fail, messages are lost and processes begin anew
- *     (`no_daemon_packet_circles` of crates/daemon_laws).
+ *   - No packet meets a router twice along the rows in force at a moment, even while links fail, messages
+ *     are lost and processes begin anew (`no_daemon_packet_circles` of crates/daemon_laws). One that moves
+ *     while rows change comes back for one of two reasons alone (`comes_back` of
+ *     crates/moving_daemon_packets).
  *   - Once links, costs and attachments stay as they are and no process begins anew, the network comes to
  *     rest. It does so at least cost if it has at most 65,536 routers, no message of a present session
  *     was lost, and the ends of each link agree (`processes_converge` of crates/daemons_come_to_rest).

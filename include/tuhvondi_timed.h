@@ -43,7 +43,7 @@
  *   - an item on a link: so long after it was put as the delay of its direction says
  *
  * A link that fails is noticed so, too: each end takes the notice after the delay of its direction, and not after
- * a time without a sign of life. So outages are those of a network that notices a failure at once.
+ * a time without a sign of life. So outages are those of a network that needs no timer to notice a failure.
  *
  * Of one moment changes come first, in the order in which you gave them, and then routers by number. So what
  * happens is determined by what you give. Items of one direction of a link arrive in their order.
@@ -51,8 +51,8 @@
  * The functions are those of the static library `timed_ffi`. It is proved what each answers, and what it makes
  * of the network. The proof holds for every call that keeps to the rules of "tuhvondi.h" and
  * "tuhvondi_network.h". All that is proved of a network holds of this one at every moment, whatever the delays
- * are: for example, no packet meets a router twice. It is also proved that nothing is done before it is due, and
- * that nothing that is due is left out. A record is exact: a spell stands in it if and only if there was one,
+ * are: for example, no packet meets a router twice along the images in force. It is also proved that nothing
+ * is done before it is due, and that nothing that is due is left out. A record is exact: a spell stands in it if and only if there was one,
  * and those that ended stand there once each, in the order in which they did (docs/network.md).
  */
 #ifndef TUHVONDI_TIMED_H

@@ -25,6 +25,7 @@ MIXED, UNMARKED_MIXED = f"{MARKED}, by rows of both kinds", f"{UNMARKED}, by row
 REFUSED, STANDS = "a message of the present session is refused", "a row of a forgotten prefix stands"
 STUCK = "a machine has no step for what it meets"
 ACTIVE, NOT_BEST = "a machine is active at rest", "a row at rest is not the best"
+NOT_WHOLE = "something counts as lost in a session that both ends may still come into"
 
 
 class Via(NamedTuple):
@@ -292,12 +293,15 @@ class Processes:
             return min(last, max(self.own_session(far), self.latest_coming(end)))
         return max(self.own_session(end), min(last, self.latest_coming(end))) if far.router == i else last
 
+    def heals(self, i: int, anew: dict[End, int], end: End, session: int) -> bool:
+        """Whether what was lost in a session counts no more: an end of the link may come into it again."""
+        return any(anew[one] < session <= self.last[one] for one in (end, self.far[end]))
+
     def begins_anew(self, i: int, costs: list[int], attachments: dict[int, int]) -> str:
         anew = {end: self.last_anew(i, end) for end in self.far}
         is_less = any(anew[end] < self.last[end] for end in self.far)
         for end in self.far:
-            pair = end, self.far[end]
-            self.lost[end] = {it for it in self.lost[end] if not any(anew[one] < it <= self.last[one] for one in pair)}
+            self.lost[end] = {session for session in self.lost[end] if not self.heals(i, anew, end, session)}
             self.heard[end] = 0 if end.router == i else self.heard[end]
         self.last = anew
         left = self.routers[i].left | self.routers[i].published
@@ -321,7 +325,7 @@ class Processes:
         if not self.may_rewire(a, c) or a.router == c.router or self.far[a].router == self.far[c].router:
             return "may not get another neighbour"
         b, d = self.far[a], self.far[c]
-        self.far |= {a: c, c: a, b: d, d: b}
+        self.far = self.far | {a: c, c: a, b: d, d: b}
         self.last |= {end: self.last_rewired(end) for end in (a, b, c, d)}
         for end in a, b, c, d:
             self.coming[end].clear()
@@ -348,6 +352,12 @@ class Processes:
             work += [("forgets", i, prefix) for prefix in router.machines if self.may_forget(router, prefix)]
         return work
 
+    def shape(self, i: int) -> tuple:
+        """What a router forwards by, and what it lets in."""
+        it = self.routers[i]
+        heard = [self.heard[End(i, port)] for port in range(len(it.ports))]
+        return dict(it.control), dict(it.published), it.left, [(port.up, port.session) for port in it.ports], heard
+
     # ---- what is claimed
 
     def wrong(self, are_rows_same: bool = False) -> list[str]:
@@ -355,6 +365,8 @@ class Processes:
         wrong = list(self.faults)
         if not all(it.machines.keys() == it.control.keys() >= it.published.keys() for it in self.routers):
             wrong.append(STANDS)
+        if any(max(lost) > max(self.last[end], self.last[self.far[end]]) for end, lost in self.lost.items() if lost):
+            wrong.append(NOT_WHOLE)
         for prefix in [] if are_rows_same else self.prefixes:
             for leads, fault, fault_of_both in (self.leads, MARKED, MIXED), (self.enters, UNMARKED, UNMARKED_MIXED):
                 if self.has_circle(Router.of_both_kinds, COVERS[prefix], leads):

@@ -873,6 +873,8 @@ static void publish_beside_a_look_up(void)
         NEED(pthread_create(&thread, NULL, look_up_still, &still) == 0);
         while (!atomic_load(&stands))
             sched_yield();
+        /* Its place is not that of the reader which stands. */
+        need_answers(&other, &lists[0], 0);
         NEED(tuhvondi_writer_publish(&writer, 1, &row[1], 1, NULL, 0) == TUHVONDI_DONE);
         need_answers(&other, &lists[1], 1);
         for (int i = 0; i < 3; i++) {

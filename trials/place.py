@@ -66,8 +66,9 @@ class Place:
     # Names begin so, and then comes the number of the process that made them.
     prefix = "loops"
 
-    def __init__(self, network: Network) -> None:
-        self.network = network
+    def __init__(self, network: Network, is_slow: bool = False) -> None:
+        """If links are slow, trials/relay.c carries frames between two bridges of each."""
+        self.network, self.is_slow = network, is_slow
 
     def name(self, router: int | str) -> str:
         return f"{self.prefix}{os.getpid()}r{router}"
@@ -120,13 +121,25 @@ class Place:
             self.ip(router, "link", "set", end_of_stub, "up")
         self.ip(router, "address", "add", f"10.100.{router}.1/24", "dev", "stub")
 
+    def bridge(self, link: int, end: int) -> str:
+        return f"bridge{link}" if not self.is_slow or end == 0 else f"bridge{link}far"
+
+    def make_bridge(self, link: int, end: int) -> None:
+        bridge = self.bridge(link, end)
+        self.ip("between", "link", "add", bridge, "type", "bridge", "mcast_snooping", "0")
+        self.ip("between", "link", "set", bridge, "up")
+        if self.is_slow:
+            self.ip("between", "link", "add", f"in{link}e{end}", "type", "veth", "peer", "name", f"out{link}e{end}")
+            self.ip("between", "link", "set", f"in{link}e{end}", "master", bridge, "up")
+            self.ip("between", "link", "set", f"out{link}e{end}", "up")
+
     def make_link(self, link: int) -> None:
-        self.ip("between", "link", "add", f"bridge{link}", "type", "bridge", "mcast_snooping", "0")
-        self.ip("between", "link", "set", f"bridge{link}", "up")
-        for router in self.network.links[link][:2]:
+        for end in range(2 if self.is_slow else 1):
+            self.make_bridge(link, end)
+        for end, router in enumerate(self.network.links[link][:2]):
             far = f"to{link}r{router}"
             self.ip(router, "link", "add", f"l{link}", "type", "veth", "peer", far, "netns", self.name("between"))
-            self.ip("between", "link", "set", far, "master", f"bridge{link}", "up")
+            self.ip("between", "link", "set", far, "master", self.bridge(link, end), "up")
             self.ip(router, "address", "add", f"{self.address(router, link)}/30", "dev", f"l{link}")
             self.ip(router, "link", "set", f"l{link}", "up")
 
@@ -164,8 +177,8 @@ class Place:
         if kind in ("cut", "admin"):
             self.ip("between", "link", "set", f"to{link}r{there}", state)
         if kind == "silent":
-            for router in (here, there):
-                master = ["nomaster"] if fails else ["master", f"bridge{link}"]
+            for at, router in ((end, here), (1 - end, there)):
+                master = ["nomaster"] if fails else ["master", self.bridge(link, at)]
                 self.ip("between", "link", "set", f"to{link}r{router}", *master)
         if kind == "deaf":
             self.filter(link, [here, there], SPOKEN, fails)

@@ -12,6 +12,8 @@ from place import Attachment, Link, Place
 from topology import ROOT
 
 ASK_SECONDS = 5
+# The calls of the library that trials/noted.c notes.
+NOTED = ("new", "link_up", "link_down", "link_cost", "message", "attached", "detached", "publish", "forget")
 UNSEEN = ("silent", "oneway", "onesided", "onecut", "deaf")
 FRR = Path("/usr/lib/frr")
 
@@ -102,15 +104,22 @@ class Daemons:
                     process.kill()
 
 
-def build_dualnetd(folder: Path) -> Path:
-    """The program that DUALNETD names, else the one that is built into this folder."""
-    if named := os.environ.get("DUALNETD"):
+def build_dualnetd(folder: Path, notes: bool = False) -> Path:
+    """The program that DUALNETD names, else the one that is built into this folder; always built if it is to take notes."""
+    if (named := os.environ.get("DUALNETD")) and not notes:
         return Path(named).resolve()
     archive = os.environ.get("TUHVONDI_LIB")
     if not archive:
         archive = str(folder / "libtuhvondi.a")
         subprocess.run([ROOT / "install", "--archive", archive], check=True)
-    words = ["make", "-s", "-C", ROOT / "daemon", f"OUT={folder}", f"TUHVONDI_LIB={archive}", "all"]
+    flags = []
+    if notes:
+        archive = shutil.copy(archive, folder / "libnoted.a")
+        words = ["cc", "-std=c11", "-O2", "-fPIE", "-Wall", "-Wextra", "-Werror", "-I", ROOT / "include", "-c"]
+        subprocess.run([*words, "-o", folder / "noted.o", Path(__file__).resolve().parent / "noted.c"], check=True)
+        subprocess.run(["ar", "r", archive, folder / "noted.o"], check=True)
+        flags = [f"LDFLAGS=-pie {' '.join(f'-Wl,--wrap=tuhvondi_router_{name}' for name in NOTED)}"]
+    words = ["make", "-s", "-C", ROOT / "daemon", f"OUT={folder}", f"TUHVONDI_LIB={archive}", *flags, "all"]
     subprocess.run(words, check=True)
     return folder / "dualnetd"
 
@@ -126,11 +135,12 @@ def ask(control: Path, line: str) -> str:
 
 class Dualnetd(Daemons):
     """`program` is set before the first one is made. `more`: lines of a router beside those of its links, of which `without`
-    (router and link) are left out. If `may_refuse`, the kernel of a router can refuse routes."""
+    (router and link) are left out. If `may_refuse`, the kernel of a router can refuse routes. If `notes`, the program was
+    built to take them."""
 
     up, seen, unseen = 2.5, 2.5, 6.5
     program = Path()
-    may_refuse = False
+    may_refuse = notes = False
 
     def __init__(self, place: Place, folder: Path) -> None:
         super().__init__(place, folder)
@@ -154,6 +164,8 @@ class Dualnetd(Daemons):
 
     def start(self, router: int) -> None:
         words: list[str | Path] = [self.program, self.write(router), "--install"]
+        if self.notes:
+            words = ["env", f"NOTES={self.folder / f'r{router}.notes'}", *words]
         if self.may_refuse:
             words = ["env", f"LD_PRELOAD={self.shim()}", f"BLOCK_FILE={self.refusal(router)}", *words]
         self.run(router, *words)

@@ -149,7 +149,7 @@ static uint64_t fuzz_answers(uint64_t turns)
         if (!bytes)
             continue;
         memcpy(bytes, room, size);
-        EXPECT(requests_note_answers(&batch, 5, bytes, size) <= 4);
+        good += requests_note_answers(&batch, 5, bytes, size);
         requests_read_dump(5 + drawn(2), bytes, size, &changed, &good, count_message);
         free(bytes);
     }

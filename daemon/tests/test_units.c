@@ -334,7 +334,7 @@ static size_t port_for(uint32_t address)
 
 static void let_all_go(void)
 {
-    for (size_t i = 0; i < TUHVONDI_PORTS; i++)
+    for (size_t i = 0; i < PLACES; i++)
         state.peers[i].used = false;
 }
 
@@ -356,6 +356,26 @@ static void test_ports(void)
         state.peers[i].last = (uint16_t)(i == 7 ? 3 : 10 + i);
     let_all_go();
     EXPECT(port_for(99) == 7 && state.peers[7].last == 3);
+}
+
+/* Neighbours of a process before take no port away from those of the configuration, nor do these from them; and one that is a
+ * neighbour again has a port besides, until it is heard. */
+static void test_former(void)
+{
+    let_all_go();
+    for (uint32_t i = 1; i <= TUHVONDI_PORTS; i++)
+        EXPECT(port_for(i) < TUHVONDI_PORTS);
+    for (uint32_t i = 1; i <= PLACES - TUHVONDI_PORTS; i++) {
+        const struct neighbour former = {.address = {htonl(100 + i)}, .cost = 1};
+        EXPECT(peer_inherit(&state, &former, "e0", NULL) && peer_inherit(&state, &former, "e0", NULL));
+        EXPECT(!peer_of(&state, former.address) && state.peer_count == TUHVONDI_PORTS + i);
+    }
+    EXPECT(!peer_inherit(&state, &(struct neighbour){.address = {htonl(200)}, .cost = 1}, "e0", NULL));
+    EXPECT(peer_inherit(&state, &(struct neighbour){.address = {htonl(5)}, .cost = 1}, "e0", NULL));
+    EXPECT(peer_of(&state, (struct in_addr){htonl(5)})->marked);
+    EXPECT(peer_add(&state, &(struct neighbour){.address = {htonl(101)}, .cost = 1}));
+    state.peers[3].used = false;
+    EXPECT(port_for(101) == 3 && state.peers[TUHVONDI_PORTS].used && state.peers[TUHVONDI_PORTS].removed);
 }
 
 /* ---- the table of prefixes, beside a plain list */
@@ -396,12 +416,61 @@ static void test_prefixes(void)
     prefixes_close(&table);
 }
 
+/* ---- how many prefixes each may tell */
+
+static void begin_session(struct daemon *daemon, struct peer *peer)
+{
+    peer->last++;
+    peer->state = PEER_UP;
+    EXPECT(router_link_up(daemon, peer) == TUHVONDI_DONE);
+}
+
+/* Tells so many prefixes from this one on: how many of them are left. */
+static uint64_t tell(struct daemon *daemon, struct peer *peer, uint32_t first, uint32_t count)
+{
+    uint64_t before = peer->counters.left;
+    for (uint32_t i = 0; i < count; i++) {
+        const struct frame frame = {.type = FRAME_MESSAGE, .kind = TUHVONDI_UPDATE, .len = 24, .number = peer->last,
+                                    .addr = first + (i << 8), .value = 5};
+        EXPECT(router_take(daemon, peer, &frame) == TUHVONDI_DONE);
+    }
+    EXPECT(router_publish_and_release(daemon));
+    return peer->counters.left - before;
+}
+
+/* Who comes to the port of another has a share of its own, although a third one still tells what the other brought. */
+static void test_shares(void)
+{
+    const uint32_t common = 100, all = common + SHARE;
+    struct daemon *daemon = calloc(1, sizeof *daemon);
+    EXPECT(daemon);
+    daemon->config.prefixes = common;
+    daemon->listener = -1;
+    EXPECT(router_open(daemon));
+    for (uint32_t i = 1; i <= 2; i++)
+        EXPECT(!peer_add(daemon, &(struct neighbour){.address = {htonl(i)}, .cost = 1}));
+    struct peer *first = &daemon->peers[0], *second = &daemon->peers[1];
+    begin_session(daemon, first);
+    begin_session(daemon, second);
+    EXPECT(tell(daemon, first, 0x14000000, all + 7) == 7 && tell(daemon, second, 0x14000000, all) == 0);
+    EXPECT(daemon->router.brought[0] == all && daemon->router.brought[1] == 0);
+    first->state = PEER_IDLE;
+    EXPECT(router_link_down(daemon, first) == TUHVONDI_DONE && router_publish_and_release(daemon));
+    router_leave_share(daemon, first);
+    EXPECT(daemon->router.brought[0] == 0 && daemon->router.brought[1] == all);
+    begin_session(daemon, first);
+    EXPECT(tell(daemon, first, 0x15000000, SHARE + 7) == 7 && tell(daemon, second, 0x16000000, 7) == 7);
+    router_close(daemon);
+    free(daemon);
+}
+
 /* ---- a place where nobody is yet */
 
 static void test_sought(void)
 {
     const struct neighbour nobody = {.interface = "e0", .cost = 1};
     let_all_go();
+    state.peers[7].last = 1;
     EXPECT(!peer_add(&state, &nobody) && strcmp(state.peers[7].name, "e0") == 0);
     EXPECT(!peer_of(&state, nobody.address));
 }
@@ -441,8 +510,11 @@ int main(void)
     test_secret();
     test_martians();
     test_lists();
+    log_to(false, LOG_EMERG);
     test_ports();
+    test_former();
     test_prefixes();
+    test_shares();
     test_sought();
     test_netlink();
     puts("units: frames, words, configurations, lists, ports, prefixes and rtnetlink are as they have to be");

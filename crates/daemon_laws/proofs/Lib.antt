@@ -36,5 +36,6 @@ pub mod Ways
 pub mod Taken
 pub mod Always
 pub mod Numbers
+pub mod Healing
 pub mod Example
 pub mod RestExample

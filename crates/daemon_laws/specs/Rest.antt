@@ -80,6 +80,10 @@ pub record ProcessHasBestRow (t : Topology) (w : Processes) (p : Prefix) (i : �
 abbrev pub NothingLost : Topology → Processes → Type 0
 NothingLost t w = (e : LinkEnd) (session : ℕ) → IsUpIn t w e session → w.lost e session ≡ false
 
+-- a session that both ends of a link may still come into begins whole: nothing counts as lost in it, although it may have been used before
+abbrev pub SessionsBeginWhole : Topology → Processes → Type 0
+SessionsBeginWhole t w = (e : LinkEnd) (session : ℕ) → t.valid e ≡ true → w.last e < session → w.last (t.far e) < session → w.lost e session ≡ false
+
 -- the first n routers are quiet, all links are theirs, nothing is on its way over a link that is up, or was lost in its session, and
 -- the two ends of each link agree
 pub record AreAtRest (t : Topology) (n : ℕ) (w : Processes) : Type 0 where

@@ -45,7 +45,7 @@ ghost use Rattle.daemon_laws.specs.Moments.{LinkFactsHoldThere};
 ghost use Rattle.daemon_laws.specs.Numbers.{NumbersSuffice};
 ghost use Rattle.daemon_laws.specs.Packets.{NoMixtureLoopsAtDaemons, NoPacketCirclesAtDaemons, NoPacketLoopsAtDaemons, NoUnmarkedCircles, NoUnmarkedLoops, NoUnmarkedMixtureLoops, NoUnmarkedWrittenCircles, NoWrittenCircles};
 ghost use Rattle.daemon_laws.specs.Reached.{SomeForgets, SomeNeighbour, SomePacketGoesAtDaemons, ExampleOfRest, SomeSessionAgain};
-ghost use Rattle.daemon_laws.specs.Rest.{RestIsAlwaysBest};
+ghost use Rattle.daemon_laws.specs.Rest.{RestIsAlwaysBest, SessionsBeginWhole};
 
 /// The laws hold at every moment that routers come to, by happenings one after another and by ports that get
 /// other neighbours.
@@ -101,9 +101,16 @@ pub fn rest_is_best()
     ensures { RestIsAlwaysBest }
 {}
 
-/// If what was on its way to a process ends with it, and so does what was on its way from it, but in sessions
-/// that the other end has come into, then what both processes at a link remember is enough to number its next
-/// session: the greater of the last sessions that the two were in, plus one.
+/// A session that both ends of a link may still come into begins whole: nothing counts as lost in it, although
+/// its number may have been used before.
+pub fn sessions_begin_whole()
+    ensures { HoldsAlways SessionsBeginWhole }
+{}
+
+/// What both processes at a link remember is enough to number its next session, by the greater of the last
+/// sessions that the two were in, plus one, if nothing is on its way over the link of a later session, and no
+/// message was taken or lost of one. So it is if what was on its way to a process ends with it, and what was on
+/// its way from it does, or comes to an end that has come into its session.
 pub fn numbers_suffice()
     ensures { NumbersSuffice }
 {}

@@ -2,4 +2,5 @@
 pub mod Calm
 pub mod Unpublished
 pub mod Flights
+pub mod Hops
 pub mod Example

@@ -17,11 +17,14 @@
 //!                                          so it was in session 4 when the packet left
 //! ```
 //!
-//! What is not said: how many hops a packet makes. The law has no number of routers.
+//! In processes that are left alone hops end ([`hops_end`]), because what still happens does
+//! (`daemons_come_to_rest`), and between two happenings a packet meets no router twice.
 #![tactic(auto)]
 
+ghost use Rattle.daemon_laws.specs.Happenings.{HoldsAlways};
 ghost use Rattle.daemon_laws.specs.Packets.{session_leads, unmarked_leads};
 ghost use Rattle.moving_daemon_packets.specs.Flights.{HopsAtOnce, UnmarkedHopsAtOnce};
+ghost use Rattle.moving_daemon_packets.specs.Hops.{HopsEnd};
 ghost use Rattle.moving_daemon_packets.specs.Moving.{HoldsAtEveryMoment, ComesBackForBetterAtDaemons, ComesBackOncePublishedAtDaemons, ComesBackSeldomAtDaemons, CalmStaysNearAtDaemons, SomeComesBack};
 
 /// Whatever happens, and in which order, also while ports get other neighbours: a packet that stays near comes back
@@ -50,6 +53,13 @@ pub fn comes_back()
 pub fn hops_at_once()
     ensures marked { HoldsAtEveryMoment HopsAtOnce }
     ensures unmarked { HoldsAtEveryMoment UnmarkedHopsAtOnce }
+{}
+
+/// Whatever has happened: once no process tells its router anything of its own, none begins anew and no port gets
+/// another neighbour, some number is exceeded by the hops of no packet. So none circles for ever.
+pub fn hops_end()
+    ensures marked { HoldsAlways (HopsEnd session_leads) }
+    ensures unmarked { HoldsAlways (HopsEnd unmarked_leads) }
 {}
 
 /// Some packet stays near while a port of the router that it has left gets another neighbour, and comes back to

@@ -41,7 +41,7 @@ machine_in w p i = option_map_or (λ r. machine_of r p) (slice_get w.routers i) 
 
 -- where the feasible distances of a router rise
 pub record RisesComeFrom (h : History) : Type 0 where
-  -- the present one where it takes something; and if a port is up then, at the end of a computation, to its distance at most
+  -- the present one where it takes something; and if a port is up then, its machine was in a computation, and it rises to the distance of that at most
   pub taken : (s : Step) (p : Prefix) (i : ℕ) → Lawful h.world s → rises fd_chosen h s p i ≡ true → (q : ℕ) × (s ≡ Deliver i q)
   pub completed : (s : Step) (p : Prefix) (i q : ℕ) → Lawful h.world s → rises fd_chosen h s p i ≡ true → is_up_at (machine_in (next h.world s) p i) q ≡ true
       → (is_active (machine_in h.world p i) ≡ true) × (fd_chosen (with_step h s) p i ≤ (machine_in h.world p i).rd)

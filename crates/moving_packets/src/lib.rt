@@ -50,8 +50,9 @@ pub fn comes_back()
     ensures nearer { HoldsAfterEveryRun HopsComeNearer }
 {}
 
-/// After every run, a feasible distance rises where its router takes something: if a port is up then, at the
-/// end of a computation, to its distance at most. A published one rises where the router publishes.
+/// After every run, a feasible distance rises where its router takes something: if a port is up then, its
+/// machine was in a computation, and it rises to the distance of that at most. A published one rises where the
+/// router publishes. That the computation ends then is a clause of `machine_laws`.
 pub fn rises_come_from()
     ensures { HoldsAfterEveryRun RisesComeFrom }
 {}
