@@ -145,7 +145,13 @@ fn why_unknown(alloc: Global, verb: &str) -> io::Result<Why<'_>> {
     let unknown = Word::Text(verb);
     Ok(match nearest.0 {
         "" => Why::of("unknown command `", unknown, "`"),
-        word => Why::of_two("unknown command `", unknown, "`: did you mean `", Word::Text(word), "`?"),
+        word => Why::of_two(
+            "unknown command `",
+            unknown,
+            "`: did you mean `",
+            Word::Text(word),
+            "`?",
+        ),
     })
 }
 

@@ -28,7 +28,11 @@ pub fn why_no_name(names: &[String], position: usize) -> Option<Why<'_>> {
         .iter()
         .take(position)
         .position(|other| other.as_str() == name)?;
-    Some(Why::of("an earlier router has this name: routers ", Word::Number(before), ""))
+    Some(Why::of(
+        "an earlier router has this name: routers ",
+        Word::Number(before),
+        "",
+    ))
 }
 
 fn is_small(letter: char) -> bool {

@@ -92,7 +92,14 @@ fn do_journal<W: Write, E: Write>(
         if interpreter.style.explain {
             let _ = out.flush();
             let links = live.network().links();
-            let _ = explain_refusal(interpreter.directory, links, journal, ran.done, refusal, err);
+            let _ = explain_refusal(
+                interpreter.directory,
+                links,
+                journal,
+                ran.done,
+                refusal,
+                err,
+            );
         }
         return Ok(Outcome::Refused);
     }

@@ -107,20 +107,23 @@ unlent g c =
 
 pub invariant_of-self : goal.invariant_of-self
 invariant_of-self g c =
-    let s = c.self.inside in ((
-      subst (λ lent. IsFabric (fabric_of s.course.network s.journal.items s.course.world (shown_images g.B.FabricName.openings (writings (set s.desks.items c.from.result c.publish.new.self))) lent) (vec_capacity s.journal)) (sym (unlent g c))
-          (subst (λ images. IsFabric (fabric_of s.course.network s.journal.items s.course.world images (all_lent s.desks.items)) (vec_capacity s.journal)) (sym (unseen g c)) c.self.invariant.0.0),
-      subst (λ k. AreWriters s.course.world (writings (set s.desks.items k c.publish.new.self))) (sym c.from.ensures)
-          (subst (AreWriters s.course.world) (sym (writings_set s.course.world s.desks.items c.in-Publish.router c.index_mut.result.now c.publish.new.self (at_refused g c)))
-          (writers_set s.course.world (writings s.desks.items) c.in-Publish.router c.publish.new.self.writing c.self.invariant.0.1
-          (ap (λ (k : Known). k.router) c.in_err-publish-in-Some.ensures.unseen ∙ number_is _ _ _ _ _ _ _ _ (due_refused g c))
-          (still_heard _ _ _ _ _ _ _ _ (due_refused g c) (c.publish.new.self).writing.waiting c.in_err-publish-in-Some.ensures.refused))),
-      subst (λ k. ArePending s.course.world (set s.desks.items k c.publish.new.self)) (sym c.from.ensures)
-          (pending_same s.course.world s.desks.items c.in-Publish.router c.index_mut.result.now c.publish.new.self (at_refused g c) c.in_err-publish-in-Some.ensures.here c.self.invariant.0.2),
-      c.self.invariant.0.3,
-      c.self.invariant.0.4,
-      c.self.invariant.0.5 ∙ sym (ap count_lent (unlent g c)),
-    ), c.self.invariant.1)
+    let s = c.self.inside in (
+      (
+        subst (λ lent. IsFabric (fabric_of s.course.network s.journal.items s.course.world (shown_images g.B.FabricName.openings (writings (set s.desks.items c.from.result c.publish.new.self))) lent) (vec_capacity s.journal)) (sym (unlent g c))
+            (subst (λ images. IsFabric (fabric_of s.course.network s.journal.items s.course.world images (all_lent s.desks.items)) (vec_capacity s.journal)) (sym (unseen g c)) c.self.invariant.0.0),
+        subst (λ k. AreWriters s.course.world (writings (set s.desks.items k c.publish.new.self))) (sym c.from.ensures)
+            (subst (AreWriters s.course.world) (sym (writings_set s.course.world s.desks.items c.in-Publish.router c.index_mut.result.now c.publish.new.self (at_refused g c)))
+            (writers_set s.course.world (writings s.desks.items) c.in-Publish.router c.publish.new.self.writing c.self.invariant.0.1
+            (ap (λ (k : Known). k.router) c.in_err-publish-in-Some.ensures.unseen ∙ number_is _ _ _ _ _ _ _ _ (due_refused g c))
+            (still_heard _ _ _ _ _ _ _ _ (due_refused g c) (c.publish.new.self).writing.waiting c.in_err-publish-in-Some.ensures.refused))),
+        subst (λ k. ArePending s.course.world (set s.desks.items k c.publish.new.self)) (sym c.from.ensures)
+            (pending_same s.course.world s.desks.items c.in-Publish.router c.index_mut.result.now c.publish.new.self (at_refused g c) c.in_err-publish-in-Some.ensures.here c.self.invariant.0.2),
+        c.self.invariant.0.3,
+        c.self.invariant.0.4,
+        c.self.invariant.0.5 ∙ sym (ap count_lent (unlent g c)),
+      ),
+      c.self.invariant.1,
+    )
 
 pub returns-in_err-publish-in-Some-clause-err : goal.returns-in_err-publish-in-Some-clause-err
 returns-in_err-publish-in-Some-clause-err g c =
@@ -260,14 +263,17 @@ counted_on g c done =
 
 pub invariant_of-self-2 : goal.invariant_of-self-2
 invariant_of-self-2 g c =
-    let done = stepped g c in ((
-      kept_as (old g c) (new g c) c.args.step (vec_capacity c.self.inside.journal) (vec_capacity c.push.new.self) c.self.invariant.0.0 done.lawful (short g c) done.after (room_kept g c done.journal),
-      done.writers,
-      done.pending,
-      done.readers,
-      summed g c done,
-      done.aside ∙ c.self.invariant.0.5 ∙ sym (ap count_lent done.lent),
-    ), counted_on g c done)
+    let done = stepped g c in (
+      (
+        kept_as (old g c) (new g c) c.args.step (vec_capacity c.self.inside.journal) (vec_capacity c.push.new.self) c.self.invariant.0.0 done.lawful (short g c) done.after (room_kept g c done.journal),
+        done.writers,
+        done.pending,
+        done.readers,
+        summed g c done,
+        done.aside ∙ c.self.invariant.0.5 ∙ sym (ap count_lent done.lent),
+      ),
+      counted_on g c done,
+    )
 
 pub returns-clause-ok : goal.returns-clause-ok
 returns-clause-ok g c = let done = stepped g c in rw (← c.self.view_is) (done.lawful, sym done.after)

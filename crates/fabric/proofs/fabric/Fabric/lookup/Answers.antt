@@ -58,14 +58,17 @@ pub invariant_of-self : goal.invariant_of-self
 invariant_of-self g c =
     let readers = c.self.inside.readers.items in
     let asked = c.ask.new.reader in
-    let number : asked.router ≡ c.from.result = c.ask.ensures.router ∙ sym (reader_number g c.before.before.before) ∙ sym c.from.ensures in ((
-      c.self.invariant.0.0,
-      c.self.invariant.0.1,
-      c.self.invariant.0.2,
-      record {
-        every_router = length-set readers c.from.result asked ∙ c.self.invariant.0.3.every_router;
-        numbered = each_set (λ i (v : Known). v.router ≡ i) readers c.from.result asked c.self.invariant.0.3.numbered number;
-      },
-      c.self.invariant.0.4,
-      c.self.invariant.0.5,
-    ), c.self.invariant.1)
+    let number : asked.router ≡ c.from.result = c.ask.ensures.router ∙ sym (reader_number g c.before.before.before) ∙ sym c.from.ensures in (
+      (
+        c.self.invariant.0.0,
+        c.self.invariant.0.1,
+        c.self.invariant.0.2,
+        record {
+          every_router = length-set readers c.from.result asked ∙ c.self.invariant.0.3.every_router;
+          numbered = each_set (λ i (v : Known). v.router ≡ i) readers c.from.result asked c.self.invariant.0.3.numbered number;
+        },
+        c.self.invariant.0.4,
+        c.self.invariant.0.5,
+      ),
+      c.self.invariant.1,
+    )

@@ -74,20 +74,23 @@ invariant_of-self g c =
     let s = c.self.inside in
     let d = c.index_mut.result.now in
     let D = desk_due g c.before.before in
-    let short : length s.journal.items + count_lent (all_lent s.desks.items) < most_steps = subst (λ (f : Fabric). length f.journal + count_lent f.lent < most_steps) (sym c.self.view_is) c.in_ok-admits.ensures.place in ((
-      subst (λ ds. IsFabric (fabric_seen g.B.FabricName.openings s.course.network s.journal.items s.course.world ds) (vec_capacity s.journal)) (sym (left g c.before))
-          (kept_away s.course.network s.journal.items s.course.world g.B.FabricName.openings s.desks.items c.args.router d c.in-Some.patch D (at_desk g c.before.before) (desk_in g c.before.before) (vec_capacity s.journal) c.self.invariant.0.0 short),
-      subst (λ ds. AreWriters s.course.world (writings ds)) (sym (left g c.before))
-          (writers_away s.course.network s.journal.items s.course.world g.B.FabricName.openings s.desks.items c.args.router d c.in-Some.patch D (at_desk g c.before.before) (desk_in g c.before.before) c.self.invariant.0.1),
-      subst (ArePending s.course.world) (sym (left g c.before))
-          (pending_away s.course.network s.journal.items s.course.world g.B.FabricName.openings s.desks.items c.args.router d c.in-Some.patch D (at_desk g c.before.before) (desk_in g c.before.before) c.self.invariant.0.2),
-      c.self.invariant.0.3,
-      c.self.invariant.0.4,
-      (let more = count_away s.course.network s.journal.items s.course.world g.B.FabricName.openings s.desks.items c.args.router d c.in-Some.patch D (at_desk g c.before.before) (desk_in g c.before.before) in
-          let same = ap (λ ds. count_lent (all_lent ds)) (left g c.before) in
-          let aside = c.self.invariant.0.5 in
-          omega (arith, more, same, aside)),
-    ), c.self.invariant.1)
+    let short : length s.journal.items + count_lent (all_lent s.desks.items) < most_steps = subst (λ (f : Fabric). length f.journal + count_lent f.lent < most_steps) (sym c.self.view_is) c.in_ok-admits.ensures.place in (
+      (
+        subst (λ ds. IsFabric (fabric_seen g.B.FabricName.openings s.course.network s.journal.items s.course.world ds) (vec_capacity s.journal)) (sym (left g c.before))
+            (kept_away s.course.network s.journal.items s.course.world g.B.FabricName.openings s.desks.items c.args.router d c.in-Some.patch D (at_desk g c.before.before) (desk_in g c.before.before) (vec_capacity s.journal) c.self.invariant.0.0 short),
+        subst (λ ds. AreWriters s.course.world (writings ds)) (sym (left g c.before))
+            (writers_away s.course.network s.journal.items s.course.world g.B.FabricName.openings s.desks.items c.args.router d c.in-Some.patch D (at_desk g c.before.before) (desk_in g c.before.before) c.self.invariant.0.1),
+        subst (ArePending s.course.world) (sym (left g c.before))
+            (pending_away s.course.network s.journal.items s.course.world g.B.FabricName.openings s.desks.items c.args.router d c.in-Some.patch D (at_desk g c.before.before) (desk_in g c.before.before) c.self.invariant.0.2),
+        c.self.invariant.0.3,
+        c.self.invariant.0.4,
+        (let more = count_away s.course.network s.journal.items s.course.world g.B.FabricName.openings s.desks.items c.args.router d c.in-Some.patch D (at_desk g c.before.before) (desk_in g c.before.before) in
+            let same = ap (λ ds. count_lent (all_lent ds)) (left g c.before) in
+            let aside = c.self.invariant.0.5 in
+            omega (arith, more, same, aside)),
+      ),
+      c.self.invariant.1,
+    )
 
 pub returns-clause-fresh : goal.returns-clause-fresh
 returns-clause-fresh g c = (ap (λ (o : Outing). (o.before).router) c.lend.ensures.ticket ∙ number_is _ _ _ _ _ _ _ _ (desk_due g c.before.before), ap (λ (o : Outing). o.is_published) c.lend.ensures.ticket)

@@ -59,15 +59,18 @@ invariant_of-fabric g c =
     let routers : length c.in_ok-images.images.items ≡ length w.routers = ap length images ∙ length-map (opening n).routers chosen_image ∙ ap (λ (v : World). length v.routers) (sym opened) in
     let kept = kept_open n g.B.FabricName.openings c.requires.openings w opened c.in_ok-images.images.items images writers c.in_ok-writers.ensures.writers (omega (arith, whole.0, whole.1, each.0))
     c.in_ok-journal.journal.items (vec_capacity c.in_ok-journal.journal) c.in_ok-journal.ensures.items (omega (arith, c.in_ok-journal.ensures.capacity)) in
-    subst (λ (x : Course). FitTogether g.B.FabricName.openings x.network c.in_ok-journal.journal.items (vec_capacity c.in_ok-journal.journal) x.world c.in_ok-desks.desks.items c.in-Ok.readers.items 0 0 × (x.steps ≡ length c.in_ok-journal.journal.items)) (sym c.in_ok-course.ensures) ((
-      subst (λ ds. IsFabric (fabric_seen g.B.FabricName.openings n c.in_ok-journal.journal.items w ds) (vec_capacity c.in_ok-journal.journal)) (sym seated)
-          (subst (λ xs. IsFabric (fabric_of n c.in_ok-journal.journal.items w (shown_images g.B.FabricName.openings xs) (all_lent (map desk_in writers))) (vec_capacity c.in_ok-journal.journal)) (sym (writings_in writers)) kept),
-      subst (AreWriters w) (sym shown) (new_writers n g.B.FabricName.openings c.requires.openings writers c.in_ok-writers.ensures.writers w),
-      subst (ArePending w) (sym seated) (none_pending w writers),
-      new_readers w c.in-Ok.readers.items (subst (λ m. IsReaderPort m c.in-Ok.readers.items) (let lists : vec_len c.in_ok-writers.lists ≡ length w.routers = omega (arith, routers, whole.0, each.1) in lists) c.in-Ok.ensures.own),
-      summed_none c.in_ok-journal.journal.items c.in_ok-journal.ensures.items,
-      sym (ap (λ ds. count_lent (all_lent ds)) seated ∙ ap count_lent (none_lent writers) ∙ count-none (length writers)),
-    ), sym (ap length c.in_ok-journal.ensures.items))
+    subst (λ (x : Course). FitTogether g.B.FabricName.openings x.network c.in_ok-journal.journal.items (vec_capacity c.in_ok-journal.journal) x.world c.in_ok-desks.desks.items c.in-Ok.readers.items 0 0 × (x.steps ≡ length c.in_ok-journal.journal.items)) (sym c.in_ok-course.ensures) (
+      (
+        subst (λ ds. IsFabric (fabric_seen g.B.FabricName.openings n c.in_ok-journal.journal.items w ds) (vec_capacity c.in_ok-journal.journal)) (sym seated)
+            (subst (λ xs. IsFabric (fabric_of n c.in_ok-journal.journal.items w (shown_images g.B.FabricName.openings xs) (all_lent (map desk_in writers))) (vec_capacity c.in_ok-journal.journal)) (sym (writings_in writers)) kept),
+        subst (AreWriters w) (sym shown) (new_writers n g.B.FabricName.openings c.requires.openings writers c.in_ok-writers.ensures.writers w),
+        subst (ArePending w) (sym seated) (none_pending w writers),
+        new_readers w c.in-Ok.readers.items (subst (λ m. IsReaderPort m c.in-Ok.readers.items) (let lists : vec_len c.in_ok-writers.lists ≡ length w.routers = omega (arith, routers, whole.0, each.1) in lists) c.in-Ok.ensures.own),
+        summed_none c.in_ok-journal.journal.items c.in_ok-journal.ensures.items,
+        sym (ap (λ ds. count_lent (all_lent ds)) seated ∙ ap count_lent (none_lent writers) ∙ count-none (length writers)),
+      ),
+      sym (ap length c.in_ok-journal.ensures.items),
+    )
 
 pub returns-clause-ok : goal.returns-clause-ok
 returns-clause-ok g c =

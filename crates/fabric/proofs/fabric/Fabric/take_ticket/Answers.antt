@@ -56,14 +56,17 @@ unchanged g c = ap (set c.self.inside.desks.items c.from-place.result) (c.in_err
 
 pub invariant_of-self : goal.invariant_of-self
 invariant_of-self g c =
-    let s = c.self.inside in ((
-      subst (λ ds. IsFabric (fabric_seen g.B.FabricName.openings s.course.network s.journal.items s.course.world ds) (vec_capacity s.journal)) (sym (unchanged g c)) c.self.invariant.0.0,
-      subst (λ ds. AreWriters s.course.world (writings ds)) (sym (unchanged g c)) c.self.invariant.0.1,
-      subst (ArePending s.course.world) (sym (unchanged g c)) c.self.invariant.0.2,
-      c.self.invariant.0.3,
-      c.self.invariant.0.4,
-      c.self.invariant.0.5 ∙ sym (ap (λ ds. count_lent (all_lent ds)) (unchanged g c)),
-    ), c.self.invariant.1)
+    let s = c.self.inside in (
+      (
+        subst (λ ds. IsFabric (fabric_seen g.B.FabricName.openings s.course.network s.journal.items s.course.world ds) (vec_capacity s.journal)) (sym (unchanged g c)) c.self.invariant.0.0,
+        subst (λ ds. AreWriters s.course.world (writings ds)) (sym (unchanged g c)) c.self.invariant.0.1,
+        subst (ArePending s.course.world) (sym (unchanged g c)) c.self.invariant.0.2,
+        c.self.invariant.0.3,
+        c.self.invariant.0.4,
+        c.self.invariant.0.5 ∙ sym (ap (λ ds. count_lent (all_lent ds)) (unchanged g c)),
+      ),
+      c.self.invariant.1,
+    )
 
 pub returns-in_err-take_back-clause-its : goal.returns-in_err-take_back-clause-its
 returns-in_err-take_back-clause-its g c =
@@ -151,23 +154,26 @@ invariant_of-self-then-published g c =
     let short = short_back s.course.world g.B.FabricName.openings s.desks.items i c.index_mut.result.now c.args.ticket (at_desk g b) (out g b) (list g b) c.in_ok-take_back.ensures.kept c.self.invariant.0.2 c.self.invariant.0.1
     s.course.network s.journal.items (vec_capacity s.journal) c.self.invariant.0.0 in
     let count = count_back s.course.world g.B.FabricName.openings s.desks.items i c.index_mut.result.now c.args.ticket (at_desk g b) (out g b) (list g b) c.in_ok-take_back.ensures.kept c.self.invariant.0.2 c.self.invariant.0.1 in
-    let numbered : c.number.result ≡ step_number (Publish i) = c.number.ensures.number ∙ ap (λ k. step_number (Publish k)) c.router-router.ensures in ((
-      subst (λ n. IsFabric (fabric_seen g.B.FabricName.openings n c.push.new.self.items c.step_on.new.self.world (set s.desks.items c.from-place.result c.take_back.new.self)) (vec_capacity c.push.new.self)) (sym c.step_on.ensures.network)
-          (kept_as (fabric_of s.course.network s.journal.items s.course.world (shown_images g.B.FabricName.openings (writings s.desks.items)) (all_lent (set s.desks.items i (desk_in c.args.ticket.writing))))
-          (fabric_seen g.B.FabricName.openings s.course.network c.push.new.self.items c.step_on.new.self.world (set s.desks.items c.from-place.result c.take_back.new.self))
-          (Publish i) (vec_capacity s.journal) (vec_capacity c.push.new.self) kept D.lawful short D.after c.push.ensures.capacity),
-      subst (λ v. AreWriters v (writings (set s.desks.items c.from-place.result c.take_back.new.self))) (sym D.world)
-          (subst (λ ds. AreWriters (next s.course.world (Publish i)) (writings ds)) (sym (left g b))
-          (writers_next s.course.world (Publish i) (writings (set s.desks.items i (desk_in c.args.ticket.writing)))
-          (writers_back s.course.world g.B.FabricName.openings s.desks.items i c.index_mut.result.now c.args.ticket (at_desk g b) (out g b) (list g b) c.in_ok-take_back.ensures.kept c.self.invariant.0.2 c.self.invariant.0.1))),
-      subst (λ v. ArePending v (set s.desks.items c.from-place.result c.take_back.new.self)) (sym D.world)
-          (subst (ArePending (next s.course.world (Publish i))) (sym (left g b))
-          (pending_on s.course.world g.B.FabricName.openings s.desks.items i c.index_mut.result.now c.args.ticket (at_desk g b) (out g b) (list g b) c.in_ok-take_back.ensures.kept c.self.invariant.0.2 c.self.invariant.0.1
-          s.course.network s.journal.items (vec_capacity s.journal) c.self.invariant.0.0)),
-      subst (λ v. AreReaders v s.readers.items) (sym D.world) (readers_next s.course.world (Publish i) s.readers.items c.self.invariant.0.3),
-      summed_more s.journal.items (Publish i) c.push.new.self.items s.sum c.number.result c.self.invariant.0.4 numbered c.number.ensures.below (subst (λ k. Fits (Publish k)) c.router-router.ensures c.number.ensures.fits) D.pushed,
-      (let same = ap (λ ds. count_lent (all_lent ds)) (left g b) in let aside = c.self.invariant.0.5 in omega (arith, count, same, aside)),
-    ), counted_on g c)
+    let numbered : c.number.result ≡ step_number (Publish i) = c.number.ensures.number ∙ ap (λ k. step_number (Publish k)) c.router-router.ensures in (
+      (
+        subst (λ n. IsFabric (fabric_seen g.B.FabricName.openings n c.push.new.self.items c.step_on.new.self.world (set s.desks.items c.from-place.result c.take_back.new.self)) (vec_capacity c.push.new.self)) (sym c.step_on.ensures.network)
+            (kept_as (fabric_of s.course.network s.journal.items s.course.world (shown_images g.B.FabricName.openings (writings s.desks.items)) (all_lent (set s.desks.items i (desk_in c.args.ticket.writing))))
+            (fabric_seen g.B.FabricName.openings s.course.network c.push.new.self.items c.step_on.new.self.world (set s.desks.items c.from-place.result c.take_back.new.self))
+            (Publish i) (vec_capacity s.journal) (vec_capacity c.push.new.self) kept D.lawful short D.after c.push.ensures.capacity),
+        subst (λ v. AreWriters v (writings (set s.desks.items c.from-place.result c.take_back.new.self))) (sym D.world)
+            (subst (λ ds. AreWriters (next s.course.world (Publish i)) (writings ds)) (sym (left g b))
+            (writers_next s.course.world (Publish i) (writings (set s.desks.items i (desk_in c.args.ticket.writing)))
+            (writers_back s.course.world g.B.FabricName.openings s.desks.items i c.index_mut.result.now c.args.ticket (at_desk g b) (out g b) (list g b) c.in_ok-take_back.ensures.kept c.self.invariant.0.2 c.self.invariant.0.1))),
+        subst (λ v. ArePending v (set s.desks.items c.from-place.result c.take_back.new.self)) (sym D.world)
+            (subst (ArePending (next s.course.world (Publish i))) (sym (left g b))
+            (pending_on s.course.world g.B.FabricName.openings s.desks.items i c.index_mut.result.now c.args.ticket (at_desk g b) (out g b) (list g b) c.in_ok-take_back.ensures.kept c.self.invariant.0.2 c.self.invariant.0.1
+            s.course.network s.journal.items (vec_capacity s.journal) c.self.invariant.0.0)),
+        subst (λ v. AreReaders v s.readers.items) (sym D.world) (readers_next s.course.world (Publish i) s.readers.items c.self.invariant.0.3),
+        summed_more s.journal.items (Publish i) c.push.new.self.items s.sum c.number.result c.self.invariant.0.4 numbered c.number.ensures.below (subst (λ k. Fits (Publish k)) c.router-router.ensures c.number.ensures.fits) D.pushed,
+        (let same = ap (λ ds. count_lent (all_lent ds)) (left g b) in let aside = c.self.invariant.0.5 in omega (arith, count, same, aside)),
+      ),
+      counted_on g c,
+    )
 
 -- ---- not published
 
@@ -180,17 +186,20 @@ invariant_of-self-else-published g c =
     let shown = shown_back s.course.world g.B.FabricName.openings s.desks.items i c.index_mut.result.now c.args.ticket (at_desk g b) (out g b) (list g b) c.in_ok-take_back.ensures.kept c.self.invariant.0.2 c.self.invariant.0.1 not_yet in
     let kept = kept_back s.course.world g.B.FabricName.openings s.desks.items i c.index_mut.result.now c.args.ticket (at_desk g b) (out g b) (list g b) c.in_ok-take_back.ensures.kept c.self.invariant.0.2 c.self.invariant.0.1
     s.course.network s.journal.items (vec_capacity s.journal) c.self.invariant.0.0 in
-    let count = count_back s.course.world g.B.FabricName.openings s.desks.items i c.index_mut.result.now c.args.ticket (at_desk g b) (out g b) (list g b) c.in_ok-take_back.ensures.kept c.self.invariant.0.2 c.self.invariant.0.1 in ((
-      subst (λ ds. IsFabric (fabric_seen g.B.FabricName.openings s.course.network s.journal.items s.course.world ds) (vec_capacity s.journal)) (sym (left g b))
-          (subst (λ images. IsFabric (fabric_of s.course.network s.journal.items s.course.world images (all_lent (set s.desks.items i (desk_in c.args.ticket.writing)))) (vec_capacity s.journal)) (sym shown) kept),
-      subst (λ ds. AreWriters s.course.world (writings ds)) (sym (left g b))
-          (writers_back s.course.world g.B.FabricName.openings s.desks.items i c.index_mut.result.now c.args.ticket (at_desk g b) (out g b) (list g b) c.in_ok-take_back.ensures.kept c.self.invariant.0.2 c.self.invariant.0.1),
-      subst (ArePending s.course.world) (sym (left g b))
-          (pending_back s.course.world g.B.FabricName.openings s.desks.items i c.index_mut.result.now c.args.ticket (at_desk g b) (out g b) (list g b) c.in_ok-take_back.ensures.kept c.self.invariant.0.2 c.self.invariant.0.1),
-      c.self.invariant.0.3,
-      c.self.invariant.0.4,
-      (let same = ap (λ ds. count_lent (all_lent ds)) (left g b) in let aside = c.self.invariant.0.5 in omega (arith, count, same, aside)),
-    ), c.self.invariant.1)
+    let count = count_back s.course.world g.B.FabricName.openings s.desks.items i c.index_mut.result.now c.args.ticket (at_desk g b) (out g b) (list g b) c.in_ok-take_back.ensures.kept c.self.invariant.0.2 c.self.invariant.0.1 in (
+      (
+        subst (λ ds. IsFabric (fabric_seen g.B.FabricName.openings s.course.network s.journal.items s.course.world ds) (vec_capacity s.journal)) (sym (left g b))
+            (subst (λ images. IsFabric (fabric_of s.course.network s.journal.items s.course.world images (all_lent (set s.desks.items i (desk_in c.args.ticket.writing)))) (vec_capacity s.journal)) (sym shown) kept),
+        subst (λ ds. AreWriters s.course.world (writings ds)) (sym (left g b))
+            (writers_back s.course.world g.B.FabricName.openings s.desks.items i c.index_mut.result.now c.args.ticket (at_desk g b) (out g b) (list g b) c.in_ok-take_back.ensures.kept c.self.invariant.0.2 c.self.invariant.0.1),
+        subst (ArePending s.course.world) (sym (left g b))
+            (pending_back s.course.world g.B.FabricName.openings s.desks.items i c.index_mut.result.now c.args.ticket (at_desk g b) (out g b) (list g b) c.in_ok-take_back.ensures.kept c.self.invariant.0.2 c.self.invariant.0.1),
+        c.self.invariant.0.3,
+        c.self.invariant.0.4,
+        (let same = ap (λ ds. count_lent (all_lent ds)) (left g b) in let aside = c.self.invariant.0.5 in omega (arith, count, same, aside)),
+      ),
+      c.self.invariant.1,
+    )
 
 -- ---- the answer
 
