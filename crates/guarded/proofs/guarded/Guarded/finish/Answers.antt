@@ -32,7 +32,7 @@ invariant_of-self-2 g c =
           let high = ap (λ x. x.high.total) w.self-inside-is in
           let low = ap (λ x. x.low.total) w.self-inside-is in
           let now = ap (λ x. journal_sum x.fabric.journal) w.self-inside-is in (
-            omega (arith, more, before, number, high, low, now, w.add.ensures.total, w.add-2.ensures.total, c.audit.ensures.total, c.audit-2.ensures.total),
+            omega (arith, more, before, number, high, low, now, w.add.ensures.total, w.add-then-published.ensures.total, c.audit.ensures.total, c.audit-2.ensures.total),
             subst (IsServed g.N.ControlName.opened g.N.ControlName.asked) (sym (ap (λ x. x.fabric) w.self-inside-is))
                 (served_published g.N.ControlName.opened g.N.ControlName.asked s.fabric c.give_back.new.self i t.patch c.self.invariant.1 own (back.its.0 refl) done.0 fits done.1),
             (let out = ap (λ x. x.out.total) w.self-inside-is in
