@@ -1,4 +1,4 @@
-use Rattle.std.proofs.Common.{rules, ◌≡◌, ◌∙◌, [], All, map, vec_len, length, ap, subst, sym}
+use Rattle.std.proofs.Common.{rules, ◌≡◌, ◌∙◌, [], All, map, vec_len, length, ap, subst, sym, arith}
 use Rattle.publication.specs.Lists.{EachAt, new_writing, no_patches}
 use Rattle.publication.proofs.Places.{each-push, first_at, rest_all, rest_at}
 use Rattle.publication.proofs.writers.open_all.Goals as goal
@@ -51,3 +51,6 @@ loop-image-preserved g c =
           (each-push (λ k rs. (vec_len rs ≡ c.args.readers) × All (λ r. r ≡ no_patches k) rs.items) lists c.in-Ok-open.list v.12
           (subst (λ k. (vec_len c.in-Ok-open.list ≡ c.args.readers) × All (λ r. r ≡ no_patches k) c.in-Ok-open.list.items) (sym listed) (c.in-Ok-open.ensures.count, c.in-Ok-open.ensures.readers))),
     )
+
+pub overflow_cast-router : goal.overflow_cast-router
+overflow_cast-router g c = omega (arith, ap length c.in-Some.ensures.steps.0, c.loop-image.invariant.6, c.requires.few)
