@@ -1,5 +1,5 @@
 -- What events leave of what every timed simulation keeps.
-use Rattle.std.proofs.Common.{refl, sym, ap, subst, ◌∙◌, arith, inl, inr, length-append, ◌≡◌, ◌⊎◌, ℕ, ◌+◌, ◌≤◌, ◌<◌, if◌then◌else◌, List, [], ◌∷◌, ◌++◌, drop, map, length, IfSome, IfNone, Option, Some, None}
+use Rattle.std.proofs.Common.{refl, sym, ap, subst, ◌∙◌, arith, inl, inr, length-append, ◌≡◌, ◌⊎◌, ℕ, ◌+◌, ◌≤◌, ◌<◌, if◌then◌else◌, List, [], ◌∷◌, ◌++◌, drop, length, IfSome, IfNone, Option, Some, None}
 use Rattle.no_packet_loops.proofs.Common.{World, Network, IsNetwork, opening, Lawful, next, Refusal, Runs}
 use Rattle.world.specs.Steps.{CanBeRefused}
 use Rattle.world.proofs.Runs.{with_last_step}
