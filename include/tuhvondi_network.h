@@ -19,12 +19,14 @@
  *
  * Router 1 then has a row for 10.0.0.0/8 via its port 0. examples/c/network.c has more.
  *
- * Nothing happens but by steps. There are three ways to do them:
+ * Nothing happens but by steps. There are four ways to do them:
  *
  *   - You do the steps that you choose, one (tuhvondi_network_step) or many (tuhvondi_network_run).
  *   - You ask a router what it has to do next (tuhvondi_network_next_step), and do that when you like, as a
  *     simulator with a clock does to delay messages.
  *   - You let routers take turns until nothing is left to do (tuhvondi_network_settle).
+ *   - You open the network with delays, and let simulated time go on (tuhvondi_network_run_until). Such a
+ *     network does no step in another way: TUHVONDI_HAS_CLOCK.
  *
  * The functions are those of the static library `network_ffi`. It is proved what each answers, and what it
  * makes of the network. The proof holds for every call that keeps to the rules of "tuhvondi.h":
@@ -43,6 +45,48 @@
  *
  * A network takes no lock and starts no thread. It takes memory by its routers, links, rows and messages, but
  * not by its steps, so their number is limited by 2^64 - 1 alone.
+ *
+ * Simulated time says how long a network takes to come to rest, and for how long packets are lost.
+ * Messages are on their way for a time, and a router takes a time to publish its rows. What is due first is
+ * done first, and the clock jumps from one event to the next: a discrete-event simulation. Since the clock
+ * does not wait, an hour of the network takes what its events take. For example, the link above comes up after
+ * a millisecond:
+ *
+ *   struct tuhvondi_limits limits = TUHVONDI_PROGRAM_LIMITS;
+ *   struct tuhvondi_delays delays = {.to_a = 500, .to_b = 700};
+ *   uint64_t publications[2] = {100, 100}, moment;
+ *   tuhvondi_network_with_delays(&limits, 2, &link, 1, &owner, 1, &delays, 1, publications, 2, 0,
+ *                                &place, &network);
+ *   tuhvondi_network_at(&network, 1000, &up);
+ *   tuhvondi_network_run_to_rest(&network, 1000, &done);
+ *   tuhvondi_network_now(&network, &moment);
+ *
+ * The network is then at rest, since the moment 2900. examples/c/delays.c has more.
+ *
+ * A moment is a number of microseconds since the opening. What is left to do is due so:
+ *
+ *   - a change that you gave: at the moment that you gave with it
+ *   - the release of a message, and the notice of a router's own attachment: at once
+ *   - a publication: so long after the router had something to publish as its delay says
+ *   - an item on a link: so long after it was put as the delay of its direction says
+ *
+ * A link that fails is noticed so, too: each end takes the notice after the delay of its direction, and not
+ * after a time without a sign of life. So outages are those of a network that needs no timer to notice a
+ * failure.
+ *
+ * Of one moment changes come first, in the order in which you gave them, and then routers by number. So what
+ * happens is determined by what you give. Items of one direction of a link arrive in their order.
+ *
+ * A network in simulated time can keep a record of what goes on in it, if you open it so:
+ *
+ *   - its computations: from when until when the machine of a router for a prefix awaited replies
+ *   - its outages: from when until when a router was cut off from a prefix, which means that links that were up
+ *     led from it to a router that was attached to the prefix, although the published rows did not
+ *
+ * The record costs time with each event, and memory by the routers times the prefixes, neither of which a
+ * network takes without it. It is proved that nothing is done before it is due, and that nothing that is due
+ * is left out. A record is exact: a spell stands in it if and only if there was one, and those that ended stand
+ * there once each, in the order in which they did (docs/network.md).
  */
 #ifndef TUHVONDI_NETWORK_H
 #define TUHVONDI_NETWORK_H
@@ -81,7 +125,17 @@ enum tuhvondi_network_status {
      * limit of attachments, or its prefix is past the limit of prefixes. */
     TUHVONDI_BAD_OWNER = 27,
     /* A limit is above that of TUHVONDI_WIDEST_LIMITS. */
-    TUHVONDI_BAD_LIMITS = 50
+    TUHVONDI_BAD_LIMITS = 50,
+    /* The moment of the change is before the present one. */
+    TUHVONDI_PAST_MOMENT = 51,
+    /* The next event is due at 2^64 - 1 microseconds, the last moment that the clock can show, or later. */
+    TUHVONDI_TIME_SPENT = 52,
+    /* The network keeps no record. */
+    TUHVONDI_NO_RECORD = 53,
+    /* The network was opened with delays, so its steps are done by its clock. */
+    TUHVONDI_HAS_CLOCK = 56,
+    /* The network was opened without delays. */
+    TUHVONDI_NO_CLOCK = 57
 };
 
 /* A status of a network in words, for messages: never null, and not to be freed. */
@@ -89,7 +143,9 @@ static inline const char *tuhvondi_network_status_text(uint32_t status)
 {
     switch (status) {
     case TUHVONDI_BAD_KIND:
-        return "a step's kind is above 7";
+        return "a step's kind is above 7, or it is no change that can be given";
+    case TUHVONDI_BAD_COUNT:
+        return "two lists that belong together are not as long";
     case TUHVONDI_UNKNOWN_ROUTER:
         return "there is no such router";
     case TUHVONDI_UNKNOWN_LINK:
@@ -110,6 +166,16 @@ static inline const char *tuhvondi_network_status_text(uint32_t status)
         return "the attachment is of no router, was given before, or is one too many";
     case TUHVONDI_BAD_LIMITS:
         return "a limit is above the widest";
+    case TUHVONDI_PAST_MOMENT:
+        return "the moment of the change is past";
+    case TUHVONDI_TIME_SPENT:
+        return "the next event is due when the clock cannot go on";
+    case TUHVONDI_NO_RECORD:
+        return "the network keeps no record";
+    case TUHVONDI_HAS_CLOCK:
+        return "the network has a clock, by which its steps are done";
+    case TUHVONDI_NO_CLOCK:
+        return "the network has no clock";
     case TUHVONDI_UNKNOWN_PREFIX:
         return "the prefix is not known there";
     default:
@@ -180,7 +246,7 @@ enum tuhvondi_step_kind {
     TUHVONDI_ATTACH = 6,
     /* It is attached to the prefix no more. */
     TUHVONDI_DETACH = 7,
-    /* In answers of tuhvondi_network_next_step only: there is nothing to do. */
+    /* In answers only: there is nothing to do. */
     TUHVONDI_NO_STEP = 255
 };
 
@@ -298,6 +364,39 @@ struct tuhvondi_gate {
     uint8_t due;
 };
 
+/* How long an item is on its way over a link, in microseconds, towards the router `a` of the link and towards
+ * its router `b`. */
+struct tuhvondi_delays {
+    uint64_t to_a;
+    uint64_t to_b;
+};
+
+TUHVONDI_ASSERT(sizeof(struct tuhvondi_delays) == 16, "the delays of a link take 16 bytes");
+
+/* A step at a moment, and 1 if it is a change that you gave, else 0. If there is none, the step's kind is
+ * TUHVONDI_NO_STEP, and the other fields are 0. */
+struct tuhvondi_event {
+    uint64_t moment;
+    struct tuhvondi_step step;
+    uint8_t given;
+};
+
+TUHVONDI_ASSERT(sizeof(struct tuhvondi_event) == 32, "an event takes 32 bytes");
+TUHVONDI_ASSERT(offsetof(struct tuhvondi_event, given) == 24, "whether an event is given stands at byte 24");
+
+/* From when until when something was so at a router, for a prefix. If it goes on, `to` is UINT64_MAX, when
+ * nothing is done any more. */
+struct tuhvondi_spell {
+    uint64_t from;
+    uint64_t to;
+    uint32_t addr;
+    uint16_t router;
+    uint8_t len;
+};
+
+TUHVONDI_ASSERT(sizeof(struct tuhvondi_spell) == 24, "a spell takes 24 bytes");
+TUHVONDI_ASSERT(offsetof(struct tuhvondi_spell, len) == 22, "the length of a spell's prefix stands at byte 22");
+
 /* A handle, which holds a network or none. */
 struct tuhvondi_network {
     void *network_;
@@ -341,17 +440,17 @@ uint32_t tuhvondi_network_within(const struct tuhvondi_limits *limits, size_t ro
                                  struct tuhvondi_fault_place *place, struct tuhvondi_network *network);
 
 /* Has `other` hold a network of its own that is equal to that of `network`, and frees the network that `other`
- * held. All that can be asked of the two has the same answers, and so have the same steps and turns. What
- * becomes of one leaves the other as it is. Its time and memory grow with what is in the network, and not
- * with the steps that were done.
+ * held. All that can be asked of the two has the same answers, and so have the same steps, turns and events.
+ * What becomes of one leaves the other as it is. Its time and memory grow with what is in the network and in its
+ * record, and not with the steps that were done.
  * Refused: TUHVONDI_NO_NETWORK_HELD, TUHVONDI_NO_MEMORY. */
 uint32_t tuhvondi_network_copy(struct tuhvondi_network *network, struct tuhvondi_network *other);
 
 /* Does a step.
  * Refused, in this order: TUHVONDI_BAD_LENGTH, TUHVONDI_HOST_BITS, TUHVONDI_BAD_COST, TUHVONDI_BAD_KIND,
- * TUHVONDI_NO_NETWORK_HELD, TUHVONDI_STEPS_SPENT. Then come those of these that the kind of step can meet:
- * TUHVONDI_UNKNOWN_ROUTER, TUHVONDI_UNKNOWN_LINK, TUHVONDI_UNKNOWN_PREFIX if no router was attached to the
- * prefix at the opening, TUHVONDI_ALREADY_UP, TUHVONDI_IS_DOWN, TUHVONDI_SESSIONS_SPENT,
+ * TUHVONDI_NO_NETWORK_HELD, TUHVONDI_HAS_CLOCK, TUHVONDI_STEPS_SPENT. Then come those of these that the kind
+ * of step can meet: TUHVONDI_UNKNOWN_ROUTER, TUHVONDI_UNKNOWN_LINK, TUHVONDI_UNKNOWN_PREFIX if no router was
+ * attached to the prefix at the opening, TUHVONDI_ALREADY_UP, TUHVONDI_IS_DOWN, TUHVONDI_SESSIONS_SPENT,
  * TUHVONDI_NOTHING_TO_DELIVER, TUHVONDI_NOTHING_DUE, TUHVONDI_NOTHING_RIPE, TUHVONDI_NOT_ATTACHED.
  * The last is TUHVONDI_NO_MEMORY. With it no link is refused that goes down, no release of a message whose link
  * has left its session, and no delivery for which the router has room. */
@@ -359,7 +458,8 @@ uint32_t tuhvondi_network_step(struct tuhvondi_network *network, const struct tu
 
 /* Does steps in their order, up to the first that is refused, and writes how many were done. It answers why
  * that step is refused, as tuhvondi_network_step does, or TUHVONDI_DONE if all were done.
- * If the handle is empty, nothing is written: TUHVONDI_NO_NETWORK_HELD. */
+ * If the handle is empty, nothing is written: TUHVONDI_NO_NETWORK_HELD. If the network has a clock, no step is
+ * done: TUHVONDI_HAS_CLOCK. */
 uint32_t tuhvondi_network_run(struct tuhvondi_network *network, const struct tuhvondi_step *steps,
                               size_t step_count, size_t *done);
 
@@ -373,7 +473,8 @@ uint32_t tuhvondi_network_next_step(struct tuhvondi_network *network, uint16_t r
  * many were done. With seed 0 they take turns in the order of their numbers, again and again, and else in a
  * pseudo-random order that the seed determines.
  * Stopped by TUHVONDI_STEPS_SPENT or TUHVONDI_NO_MEMORY, it keeps the steps that were done. If the handle is
- * empty, nothing is written: TUHVONDI_NO_NETWORK_HELD. */
+ * empty, nothing is written: TUHVONDI_NO_NETWORK_HELD. If the network has a clock, no step is done:
+ * TUHVONDI_HAS_CLOCK. */
 uint32_t tuhvondi_network_settle(struct tuhvondi_network *network, uint64_t seed, size_t most,
                                  size_t *done);
 
@@ -447,6 +548,82 @@ uint32_t tuhvondi_network_notices(struct tuhvondi_network *network, uint16_t rou
  * Refused, and then nothing is written: TUHVONDI_NO_NETWORK_HELD. */
 uint32_t tuhvondi_network_counts(struct tuhvondi_network *network,
                                  struct tuhvondi_network_counts *counts);
+
+/* ---- simulated time */
+
+/* Opens a network as tuhvondi_network_within does, at moment 0. `delays` has the delays of each link, and
+ * `publications` for each router how long it takes to publish, in microseconds. It keeps a record from then on,
+ * unless `record` is 0.
+ * Refused first if there are not as many delays as links, or publications as routers: TUHVONDI_BAD_COUNT, in no
+ * list. Then it is refused as tuhvondi_network_within is. */
+uint32_t tuhvondi_network_with_delays(const struct tuhvondi_limits *limits, size_t routers,
+                                      const struct tuhvondi_link *links, size_t link_count,
+                                      const struct tuhvondi_owner *owners, size_t owner_count,
+                                      const struct tuhvondi_delays *delays, size_t delay_count,
+                                      const uint64_t *publications, size_t publication_count, uint8_t record,
+                                      struct tuhvondi_fault_place *place, struct tuhvondi_network *network);
+
+/* Gives a change that is to be done at a moment, after those that you gave before for the same one. It is a step
+ * of a link, a cost or an attachment. Whether it can be done shows when its moment comes.
+ * Refused, in this order: TUHVONDI_BAD_LENGTH, TUHVONDI_HOST_BITS, TUHVONDI_BAD_COST, TUHVONDI_BAD_KIND (also of
+ * a delivery, a publication and a release, which routers do), TUHVONDI_NO_NETWORK_HELD, TUHVONDI_NO_CLOCK,
+ * TUHVONDI_PAST_MOMENT, TUHVONDI_NO_MEMORY. */
+uint32_t tuhvondi_network_at(struct tuhvondi_network *network, uint64_t moment,
+                             const struct tuhvondi_step *change);
+
+/* Takes the first of the changes that are to be done off the list, and writes it. So you go on if a run has
+ * stopped at a change that is refused. If there is none, the step's kind is TUHVONDI_NO_STEP.
+ * Refused, and then nothing is written: TUHVONDI_NO_NETWORK_HELD, TUHVONDI_NO_CLOCK. */
+uint32_t tuhvondi_network_withdraw(struct tuhvondi_network *network, struct tuhvondi_event *change);
+
+/* Does what is due up to a moment, that included: at most so many events, until nothing is left to do up to
+ * then. Writes how many were done. The clock then shows the moment of the last of them.
+ * Stopped by TUHVONDI_TIME_SPENT, or by why the next step is refused (tuhvondi_network_step), it keeps the
+ * events that were done. A change that is refused stays the next one. A step of a router is refused for no other
+ * cause than TUHVONDI_STEPS_SPENT and TUHVONDI_NO_MEMORY.
+ * If the handle is empty, nothing is written: TUHVONDI_NO_NETWORK_HELD. If the network has no clock, nothing is
+ * done: TUHVONDI_NO_CLOCK. */
+uint32_t tuhvondi_network_run_until(struct tuhvondi_network *network, uint64_t moment, size_t most,
+                                    size_t *done);
+
+/* Does all that is left to do, as tuhvondi_network_run_until does, until the network is at rest. The clock then
+ * shows since when. */
+uint32_t tuhvondi_network_run_to_rest(struct tuhvondi_network *network, size_t most, size_t *done);
+
+/* Writes the moment of the last event, in microseconds since the opening.
+ * Refused, and then nothing is written: TUHVONDI_NO_NETWORK_HELD, TUHVONDI_NO_CLOCK. */
+uint32_t tuhvondi_network_now(struct tuhvondi_network *network, uint64_t *moment);
+
+/* Writes what is done next, and when. If nothing is left to do, the step's kind is TUHVONDI_NO_STEP.
+ * Refused, and then nothing is written: TUHVONDI_NO_NETWORK_HELD, TUHVONDI_NO_CLOCK. */
+uint32_t tuhvondi_network_next_event(struct tuhvondi_network *network, struct tuhvondi_event *event);
+
+/* Writes 1 if nothing is left to do, else 0: each change that you gave is done, and the network is settled.
+ * Refused, and then nothing is written: TUHVONDI_NO_NETWORK_HELD, TUHVONDI_NO_CLOCK. */
+uint32_t tuhvondi_network_is_at_rest(struct tuhvondi_network *network, uint8_t *rests);
+
+/* Writes the computations that ended, in the order in which they did. The first that is written stands at the
+ * place `from` of that list, counted from 0. Writes as many as there is room for, how many these are, and 1 if
+ * there are more, else 0. The list only grows, so you read it on from where you were.
+ * Refused, and then nothing is written, in this order: TUHVONDI_NO_NETWORK_HELD, TUHVONDI_NO_RECORD. */
+uint32_t tuhvondi_network_computations(struct tuhvondi_network *network, size_t from,
+                                       struct tuhvondi_spell *spells, size_t spell_count,
+                                       size_t *written, uint8_t *more);
+
+/* Writes the computations that go on now, by prefixes and then by routers: as many as there is room for, how
+ * many these are, and 1 if there are more, else 0.
+ * Refused as tuhvondi_network_computations is. */
+uint32_t tuhvondi_network_computing(struct tuhvondi_network *network, struct tuhvondi_spell *spells,
+                                    size_t spell_count, size_t *written, uint8_t *more);
+
+/* As tuhvondi_network_computations, of the outages that ended. */
+uint32_t tuhvondi_network_outages(struct tuhvondi_network *network, size_t from,
+                                  struct tuhvondi_spell *spells, size_t spell_count,
+                                  size_t *written, uint8_t *more);
+
+/* As tuhvondi_network_computing, of the outages that go on. At rest there are none. */
+uint32_t tuhvondi_network_cut_off(struct tuhvondi_network *network, struct tuhvondi_spell *spells,
+                                  size_t spell_count, size_t *written, uint8_t *more);
 
 /* Frees the network, if there is one. The handle then holds none. */
 void tuhvondi_network_free(struct tuhvondi_network *network);

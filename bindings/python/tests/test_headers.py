@@ -8,7 +8,7 @@ from pathlib import Path
 from tuhvondi import _library, status
 
 INCLUDE = Path(__file__).resolve().parents[3] / "include"
-HEADERS = ["tuhvondi.h", "tuhvondi_router.h", "tuhvondi_network.h", "tuhvondi_timed.h"]
+HEADERS = ["tuhvondi.h", "tuhvondi_router.h", "tuhvondi_network.h"]
 NUMBERS = {"uint8_t": ctypes.c_uint8, "uint16_t": ctypes.c_uint16, "uint32_t": ctypes.c_uint32,
            "uint64_t": ctypes.c_uint64, "size_t": ctypes.c_size_t, "bool": ctypes.c_bool}
 # Python has no writers and readers: its interpreter runs one thread at a time.
@@ -77,11 +77,11 @@ class Headers(unittest.TestCase):
 
     def test_statuses(self):
         for header, text in self.texts():
-            for body in re.findall(r"enum tuhvondi_(?:network_|timed_)?status \{([^}]*)\}", text):
+            for body in re.findall(r"enum tuhvondi_(?:network_)?status \{([^}]*)\}", text):
                 for name, number in re.findall(r"TUHVONDI_(\w+) = (\d+)", body):
                     if name == "DONE":
                         continue
-                    known = status.BY_NETWORK if re.search("network|timed", header) else status.BY_ROUTER
+                    known = status.BY_NETWORK if "network" in header else status.BY_ROUTER
                     mine = "EmptyHandle" if name.endswith("_HELD") else name.title().replace("_", "")
                     self.assertEqual(known[int(number)].__name__, mine)
 

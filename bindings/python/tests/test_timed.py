@@ -1,5 +1,6 @@
 """Networks in simulated time. Which events are done, and when, is worked out by hand from the delays."""
 
+import copy
 import io
 import random
 import unittest
@@ -104,11 +105,15 @@ class Records(unittest.TestCase):
         network = two_routers(record=True)
         network.at(3, UP)
         network.run_until(44)
-        self.assertEqual(network.cut_off(), [Spell("b", IPv4Network(NET), 3, None)])
-        self.assertEqual(network.outages(), [])
+        other = copy.copy(network)
         network.run_to_rest()
         self.assertEqual((network.cut_off(), network.outages(1)), ([], []))
         self.assertEqual(network.outages(), [Spell("b", IPv4Network(NET), 3, 45)])
+        # The copy is where the network was, with its record, and comes to rest alike.
+        self.assertEqual(other.cut_off(), [Spell("b", IPv4Network(NET), 3, None)])
+        self.assertEqual((other.now, other.outages()), (25, []))
+        other.run_to_rest()
+        self.assertEqual((other.now, other.outages()), (network.now, network.outages()))
 
     def test_two_computations(self):
         """A asks b at 110, b asks back at 137, and each answers as it publishes: a at 152 and b at 179."""

@@ -1,7 +1,7 @@
 """The shared library: where it is found, its structures, and the types of its functions.
 
-The structures and functions are those of the headers `tuhvondi.h`, `tuhvondi_router.h`, `tuhvondi_network.h`
-and `tuhvondi_timed.h`. `tests/test_headers.py` compares them with the headers.
+The structures and functions are those of the headers `tuhvondi.h`, `tuhvondi_router.h` and
+`tuhvondi_network.h`. `tests/test_headers.py` compares them with the headers.
 """
 
 from __future__ import annotations
@@ -149,10 +149,10 @@ STRUCTURES = {
     "tuhvondi_neighbour": NeighbourParts, "tuhvondi_machine": MachineParts,
     "tuhvondi_link_state": LinkStateParts, "tuhvondi_item": ItemParts, "tuhvondi_gate": GateParts,
     "tuhvondi_notice": NoticeParts, "tuhvondi_delays": DelayParts, "tuhvondi_event": EventParts,
-    "tuhvondi_spell": SpellParts, "tuhvondi_network": Handle, "tuhvondi_timed": Handle,
+    "tuhvondi_spell": SpellParts, "tuhvondi_network": Handle,
 }
 
-_IMAGE = _ROUTER = _NETWORK = _TIMED = POINTER(Handle)
+_IMAGE = _ROUTER = _NETWORK = POINTER(Handle)
 _ROWS, _SIZE, _BYTE, _U32S = POINTER(RowParts), POINTER(c_size_t), POINTER(c_uint8), POINTER(c_uint32)
 _NUMBER = POINTER(c_uint64)
 
@@ -208,29 +208,20 @@ FUNCTIONS: dict[str, list[Any]] = {
     "tuhvondi_network_held": [_NETWORK, c_uint16, POINTER(MessageParts), c_size_t, _SIZE, _BYTE],
     "tuhvondi_network_notices": [_NETWORK, c_uint16, POINTER(NoticeParts), c_size_t, _SIZE, _BYTE],
     "tuhvondi_network_free": [_NETWORK],
-    "tuhvondi_timed_new": [POINTER(LimitsParts), c_size_t, POINTER(LinkParts), c_size_t, POINTER(OwnerParts), c_size_t,
-                           POINTER(DelayParts), c_size_t, _NUMBER, c_size_t, POINTER(FaultPlaceParts), _TIMED],
-    "tuhvondi_timed_recorded": [POINTER(LimitsParts), c_size_t, POINTER(LinkParts), c_size_t, POINTER(OwnerParts),
-                                c_size_t, POINTER(DelayParts), c_size_t, _NUMBER, c_size_t,
-                                POINTER(FaultPlaceParts), _TIMED],
-    "tuhvondi_timed_at": [_TIMED, c_uint64, POINTER(StepParts)],
-    "tuhvondi_timed_withdraw": [_TIMED, POINTER(EventParts)],
-    "tuhvondi_timed_run_until": [_TIMED, c_uint64, c_size_t, _SIZE],
-    "tuhvondi_timed_run_to_rest": [_TIMED, c_size_t, _SIZE],
-    "tuhvondi_timed_now": [_TIMED, _NUMBER],
-    "tuhvondi_timed_next": [_TIMED, POINTER(EventParts)],
-    "tuhvondi_timed_is_at_rest": [_TIMED, _BYTE],
-    "tuhvondi_timed_lookup": [_TIMED, c_uint16, _U32S, c_size_t, _ROWS, c_size_t],
-    "tuhvondi_timed_trace": [_TIMED, c_uint16, c_uint32, POINTER(c_uint16), c_size_t, _SIZE, _BYTE],
-    "tuhvondi_timed_rows": [_TIMED, c_uint16, _ROWS, c_size_t, _SIZE, _BYTE],
-    "tuhvondi_timed_machine": [_TIMED, c_uint16, c_uint32, c_uint8, POINTER(MachineParts)],
-    "tuhvondi_timed_link": [_TIMED, c_uint16, POINTER(LinkStateParts)],
-    "tuhvondi_timed_counts": [_TIMED, POINTER(NetworkCountsParts)],
-    "tuhvondi_timed_computations": [_TIMED, c_size_t, POINTER(SpellParts), c_size_t, _SIZE, _BYTE],
-    "tuhvondi_timed_computing": [_TIMED, POINTER(SpellParts), c_size_t, _SIZE, _BYTE],
-    "tuhvondi_timed_outages": [_TIMED, c_size_t, POINTER(SpellParts), c_size_t, _SIZE, _BYTE],
-    "tuhvondi_timed_cut_off": [_TIMED, POINTER(SpellParts), c_size_t, _SIZE, _BYTE],
-    "tuhvondi_timed_free": [_TIMED],
+    "tuhvondi_network_with_delays": [POINTER(LimitsParts), c_size_t, POINTER(LinkParts), c_size_t, POINTER(OwnerParts),
+                                     c_size_t, POINTER(DelayParts), c_size_t, _NUMBER, c_size_t, c_uint8,
+                                     POINTER(FaultPlaceParts), _NETWORK],
+    "tuhvondi_network_at": [_NETWORK, c_uint64, POINTER(StepParts)],
+    "tuhvondi_network_withdraw": [_NETWORK, POINTER(EventParts)],
+    "tuhvondi_network_run_until": [_NETWORK, c_uint64, c_size_t, _SIZE],
+    "tuhvondi_network_run_to_rest": [_NETWORK, c_size_t, _SIZE],
+    "tuhvondi_network_now": [_NETWORK, _NUMBER],
+    "tuhvondi_network_next_event": [_NETWORK, POINTER(EventParts)],
+    "tuhvondi_network_is_at_rest": [_NETWORK, _BYTE],
+    "tuhvondi_network_computations": [_NETWORK, c_size_t, POINTER(SpellParts), c_size_t, _SIZE, _BYTE],
+    "tuhvondi_network_computing": [_NETWORK, POINTER(SpellParts), c_size_t, _SIZE, _BYTE],
+    "tuhvondi_network_outages": [_NETWORK, c_size_t, POINTER(SpellParts), c_size_t, _SIZE, _BYTE],
+    "tuhvondi_network_cut_off": [_NETWORK, POINTER(SpellParts), c_size_t, _SIZE, _BYTE],
 }
 
 

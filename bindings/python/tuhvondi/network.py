@@ -8,7 +8,7 @@ import math
 from ctypes import byref, c_size_t, c_uint8
 from ipaddress import IPv4Address, IPv4Network
 from typing import (Any, Callable, Hashable, Iterable, List, Mapping, NamedTuple, Optional, Sequence,
-                    Tuple, Union)
+                    Tuple, TypeVar, Union)
 
 from . import _library, graphs
 from .owner import Owner
@@ -294,6 +294,9 @@ def default_attachments(routers: Sequence[Name]) -> "dict[Name, IPv4Network]":
     return {name: network_of(0x0A000000 | number << 8, 24) for number, name in enumerate(routers)}
 
 
+Same = TypeVar("Same", bound="Whole")
+
+
 class Whole(Owner):
     """Routers with links and attachments, and what can be asked of them. `Network` and `TimedNetwork` say what it
     is made of, and how it goes on.
@@ -302,6 +305,8 @@ class Whole(Owner):
     >>> isinstance(net, Whole)
     True
     """
+
+    _kind = "network"
 
     def __init__(self, routers: Iterable[Name], links: Iterable[LinkGiven],
                  attachments: Optional[Attachments] = None) -> None:
@@ -380,10 +385,6 @@ class Whole(Owner):
         """Has the library open the network of these parts, and answers its status."""
         raise NotImplementedError
 
-    def _call(self, name: str) -> Any:
-        """The function of the library that answers of what this is."""
-        return getattr(self._library, f"{self._kind}_{name}")
-
     def to_networkx(self, down: bool = False) -> Any:
         """A graph of networkx of the network as it is now: a Graph, or a DiGraph if a link has two costs.
 
@@ -448,7 +449,7 @@ class Whole(Owner):
         """
         near, far = self._number(router), self._number(other)
         parts = _library.LinkStateParts()
-        self._need(self._call("link")(self._at, self._link(near, far), byref(parts)))
+        self._need(self._library.network_link(self._at, self._link(near, far), byref(parts)))
         ends = [(parts.from_a, parts.to_a), (parts.from_b, parts.to_b)]
         (cost, to_near), (back, to_far) = ends if parts.a == near else ends[::-1]
         return LinkState(router, other, cost, back, bool(parts.up), parts.session, to_near, to_far)
@@ -567,7 +568,7 @@ class Whole(Owner):
         Counts(steps=1, updates=0, queries=0, replies=0)
         """
         parts = _library.NetworkCountsParts()
-        self._need(self._call("counts")(self._at, byref(parts)))
+        self._need(self._library.network_counts(self._at, byref(parts)))
         return Counts(parts.steps, parts.updates, parts.queries, parts.replies)
 
     def _entry(self, router: int, parts: _library.RowParts) -> Optional[Entry]:
@@ -590,7 +591,7 @@ class Whole(Owner):
         """
         number = self._number(router)
         addrs, answers = (ctypes.c_uint32 * 1)(address_number(address)), (_library.RowParts * 1)()
-        self._need(self._call("lookup")(self._at, number, addrs, 1, answers, 1))
+        self._need(self._library.network_lookup(self._at, number, addrs, 1, answers, 1))
         return self._entry(number, answers[0])
 
     def trace(self, router: Name, address: Address) -> Trace:
@@ -608,7 +609,7 @@ class Whole(Owner):
         Raises UnknownRouter.
         """
         count, end = c_size_t(), c_uint8()
-        self._need(self._call("trace")(
+        self._need(self._library.network_trace(
             self._at, self._number(router), address_number(address), self._hops, len(self._names),
             byref(count), byref(end)))
         return Trace(tuple(self._names[number] for number in self._hops[:count.value]), End(end.value))
@@ -628,14 +629,14 @@ class Whole(Owner):
         number = self._number(router)
         rows = (_library.RowParts * max(1, len(self._prefixes)))()
         written, more = c_size_t(), c_uint8()
-        self._need(self._call("rows")(self._at, number, rows, len(self._prefixes),
+        self._need(self._library.network_rows(self._at, number, rows, len(self._prefixes),
                                               byref(written), byref(more)))
         entries = (self._entry(number, parts) for parts in rows[:written.value])
         return [entry for entry in entries if entry is not None]
 
     def _machine(self, router: int, prefix: "tuple[int, int]", parts: _library.MachineParts) -> bool:
         """Writes what a router has of a prefix, and answers whether it has heard of it."""
-        status = self._call("machine")(self._at, router, *prefix, byref(parts))
+        status = self._library.network_machine(self._at, router, *prefix, byref(parts))
         if status == UnknownPrefix.number:
             return False
         self._need(status)
@@ -743,6 +744,99 @@ class Whole(Owner):
 
         return pandas.DataFrame(self.distance_rows())
 
+    def under_way(self, sender: Name, receiver: Name) -> List[Item]:
+        """What a router has yet to take from a neighbour, oldest first.
+
+        >>> net = Network("ab", [("a", "b", 5)])
+        >>> net.under_way("a", "b")
+        [Item(kind=<ItemKind.CAME_UP: 3>, session=1, prefix=None, value=5)]
+
+        Raises UnknownRouter, UnknownLink.
+        """
+        near, far = self._number(receiver), self._number(sender)
+        self._link(near, far)
+        queue = self._listed(_library.ItemParts, self._library.network_queue, near, self._ports[near, far])
+        return [self._item(parts) for parts in queue]
+
+    @staticmethod
+    def _item(parts: _library.ItemParts) -> Item:
+        kind = ItemKind(parts.kind)
+        prefix = network_of(parts.addr, parts.len) if kind <= ItemKind.REPLY else None
+        return Item(kind, parts.session, prefix, distance_of(parts.value))
+
+    def held(self, router: Name) -> Held:
+        """What a router holds back until it publishes.
+
+        >>> net = Network("ab", [("a", "b", 5)])
+        >>> net.do(net.next_step("b"))   # b takes the notice that the link came up
+        >>> net.held("b").messages, net.held("b").ripe
+        (1, 0)
+
+        Raises UnknownRouter.
+        """
+        parts = _library.GateParts()
+        self._need(self._library.network_gate(self._at, self._number(router), byref(parts)))
+        return Held(parts.held, parts.ripe, parts.notices, parts.generation, bool(parts.due))
+
+    def held_messages(self, router: Name) -> List[HeldMessage]:
+        """The messages that a router holds back, in the order in which they leave.
+
+        >>> net = Network("ab", [("a", "b", 5)])
+        >>> net.do(net.next_step("b"))   # b takes the notice that the link came up
+        >>> [(it.kind.name, it.neighbour, it.value, it.ripe) for it in net.held_messages("b")]
+        [('UPDATE', 'a', 1, False)]
+
+        Raises UnknownRouter.
+        """
+        number, ripe = self._number(router), self.held(router).ripe
+        far = [self._names[neighbour] for neighbour in self._neighbours[number]]
+        messages = self._listed(_library.MessageParts, self._library.network_held, number)
+        return [HeldMessage(ItemKind(it.kind), far[it.port], it.session, network_of(it.addr, it.len),
+                            distance_of(it.value), place < ripe) for place, it in enumerate(messages)]
+
+    def notices(self, router: Name) -> List[Notice]:
+        """The notices of its own attachments that a router has yet to take, oldest first.
+
+        >>> net = Network("ab", [], {"a": "10.0.0.0/8"})
+        >>> net.attach("b", "10.0.0.0/8", 7)
+        >>> net.notices("b")
+        [Notice(prefix=IPv4Network('10.0.0.0/8'), cost=7)]
+
+        Raises UnknownRouter.
+        """
+        notices = self._listed(_library.NoticeParts, self._library.network_notices, self._number(router))
+        return [Notice(network_of(it.addr, it.len), it.cost or None) for it in notices]
+
+    def copy(self: Same) -> Same:
+        """Another network in the same state, for what-if questions.
+
+        The library copies what is in the network, its clock and record too: that takes time and memory by its
+        routers, links and rows, and not by the steps that were done. A pickle of a `Network` has its steps instead,
+        and does them again.
+
+        >>> net = Network("ab", [("a", "b", 5)])
+        >>> _ = net.settle()
+        >>> other = net.copy()
+        >>> other.fail("a", "b")
+        >>> _ = other.settle()
+        >>> net.distance("b", "10.0.0.0/24"), other.distance("b", "10.0.0.0/24")
+        (6, inf)
+
+        Raises NoMemory.
+        """
+        other = type(self).__new__(type(self))
+        Owner.__init__(other)
+        self._need(self._library.network_copy(self._at, other._at))
+        for name, value in vars(self).items():
+            vars(other).setdefault(name, value[:] if isinstance(value, bytearray) else value)
+        other._hops = type(self._hops)()
+        return other
+
+    __copy__ = copy
+
+    def __deepcopy__(self: Same, _memo: Any) -> Same:
+        return self.copy()
+
 
 class Network(Whole):
     """A network of routers that route by DUAL, with the table in force at each.
@@ -779,8 +873,6 @@ class Network(Whole):
 
     Raises BadRouters, BadLink, TooManyLinks, BadOwner, BadCost, NoMemory.
     """
-
-    _kind = "network"
 
     def __init__(self, routers: Iterable[Name], links: Iterable[LinkGiven],
                  attachments: Optional[Attachments] = None, *, up: bool = True) -> None:
@@ -1008,100 +1100,7 @@ class Network(Whole):
         self._need(self._library.network_is_settled(self._at, byref(settled)))
         return bool(settled.value)
 
-    def under_way(self, sender: Name, receiver: Name) -> List[Item]:
-        """What a router has yet to take from a neighbour, oldest first.
-
-        >>> net = Network("ab", [("a", "b", 5)])
-        >>> net.under_way("a", "b")
-        [Item(kind=<ItemKind.CAME_UP: 3>, session=1, prefix=None, value=5)]
-
-        Raises UnknownRouter, UnknownLink.
-        """
-        near, far = self._number(receiver), self._number(sender)
-        self._link(near, far)
-        queue = self._listed(_library.ItemParts, self._library.network_queue, near, self._ports[near, far])
-        return [self._item(parts) for parts in queue]
-
-    @staticmethod
-    def _item(parts: _library.ItemParts) -> Item:
-        kind = ItemKind(parts.kind)
-        prefix = network_of(parts.addr, parts.len) if kind <= ItemKind.REPLY else None
-        return Item(kind, parts.session, prefix, distance_of(parts.value))
-
-    def held(self, router: Name) -> Held:
-        """What a router holds back until it publishes.
-
-        >>> net = Network("ab", [("a", "b", 5)])
-        >>> net.do(net.next_step("b"))   # b takes the notice that the link came up
-        >>> net.held("b").messages, net.held("b").ripe
-        (1, 0)
-
-        Raises UnknownRouter.
-        """
-        parts = _library.GateParts()
-        self._need(self._library.network_gate(self._at, self._number(router), byref(parts)))
-        return Held(parts.held, parts.ripe, parts.notices, parts.generation, bool(parts.due))
-
-    def held_messages(self, router: Name) -> List[HeldMessage]:
-        """The messages that a router holds back, in the order in which they leave.
-
-        >>> net = Network("ab", [("a", "b", 5)])
-        >>> net.do(net.next_step("b"))   # b takes the notice that the link came up
-        >>> [(it.kind.name, it.neighbour, it.value, it.ripe) for it in net.held_messages("b")]
-        [('UPDATE', 'a', 1, False)]
-
-        Raises UnknownRouter.
-        """
-        number, ripe = self._number(router), self.held(router).ripe
-        far = [self._names[neighbour] for neighbour in self._neighbours[number]]
-        messages = self._listed(_library.MessageParts, self._library.network_held, number)
-        return [HeldMessage(ItemKind(it.kind), far[it.port], it.session, network_of(it.addr, it.len),
-                            distance_of(it.value), place < ripe) for place, it in enumerate(messages)]
-
-    def notices(self, router: Name) -> List[Notice]:
-        """The notices of its own attachments that a router has yet to take, oldest first.
-
-        >>> net = Network("ab", [], {"a": "10.0.0.0/8"})
-        >>> net.attach("b", "10.0.0.0/8", 7)
-        >>> net.notices("b")
-        [Notice(prefix=IPv4Network('10.0.0.0/8'), cost=7)]
-
-        Raises UnknownRouter.
-        """
-        notices = self._listed(_library.NoticeParts, self._library.network_notices, self._number(router))
-        return [Notice(network_of(it.addr, it.len), it.cost or None) for it in notices]
-
-    # ---- copies
-
-    def copy(self) -> Network:
-        """Another network in the same state, for what-if questions.
-
-        The library copies what is in the network: that takes time and memory by its routers, links and rows,
-        and not by the steps that were done. A pickle of a network has its steps instead, and does them again.
-
-        >>> net = Network("ab", [("a", "b", 5)])
-        >>> _ = net.settle()
-        >>> other = net.copy()
-        >>> other.fail("a", "b")
-        >>> _ = other.settle()
-        >>> net.distance("b", "10.0.0.0/24"), other.distance("b", "10.0.0.0/24")
-        (6, inf)
-
-        Raises NoMemory.
-        """
-        other = type(self).__new__(type(self))
-        Owner.__init__(other)
-        self._need(self._library.network_copy(self._at, other._at))
-        for name, value in vars(self).items():
-            vars(other).setdefault(name, value)
-        other._done = bytearray(self._done)
-        other._hops = type(self._hops)()
-        return other
-
-    __copy__ = copy
-
-    def __deepcopy__(self, _memo: Any) -> Network:
-        return self.copy()
+    # ---- pickles
 
     def __reduce__(self) -> Any:
         return _again, (type(self), self._names, self._given, bytes(self._done))

@@ -246,13 +246,25 @@ class NoRecord(Refused):
     number, text = 53, "the network keeps no record"
 
 
+class HasClock(Refused):
+    """The network is in simulated time, so its steps are done by its clock."""
+
+    number, text = 56, "the network has a clock, by which its steps are done"
+
+
+class NoClock(Refused):
+    """The network is not in simulated time."""
+
+    number, text = 57, "the network has no clock"
+
+
 _OF_ALL = (BadLength, HostBits, BadCost, BadKind, EmptyHandle, BadCount, AlreadyUp, IsDown, NothingDue,
            NothingRipe, NoMemory, UnknownPrefix, NotAttached)
 _OF_ROUTERS = (*_OF_ALL, Shared, UnknownPort, TooManyPorts, TooManyPrefixes, OtherSession,
                GenerationsSpent, Unasked, AskedTwice, StillUsed)
 _OF_NETWORKS = (*_OF_ALL, UnknownRouter, UnknownLink, SessionsSpent, NothingToDeliver, StepsSpent,
                 BadRouters, BadLink, TooManyLinks, BadOwner, BadLimits, PastMoment, TimeSpent,
-                NoRecord)
+                NoRecord, HasClock, NoClock)
 
 # The exceptions by their numbers. Of three numbers an image or a router means something else than a network.
 BY_ROUTER: "dict[int, Type[Refused]]" = {each.number: each for each in _OF_ROUTERS}

@@ -95,8 +95,6 @@ class TimedNetwork(Whole):
     Raises what a `Network` raises, and ValueError if a delay is none.
     """
 
-    _kind = "timed"
-
     def __init__(self, routers: Iterable[Name], links: Iterable[LinkGiven],
                  attachments: Optional[Attachments] = None, *, delay: DelayGiven = 1000,
                  publication: PublicationGiven = 1000, up: bool = True, record: bool = False) -> None:
@@ -111,9 +109,9 @@ class TimedNetwork(Whole):
         delays = (_library.DelayParts * max(1, link_count))(
             *[(self._between(b, a), self._between(a, b)) for a, b in self._pairs])
         publications = (c_uint64 * max(1, routers))(*[self._to_publish(name) for name in self._names])
-        new = self._library.timed_recorded if self._records else self._library.timed_new
-        return new(limits, routers, links, link_count, owners, owner_count, delays, link_count, publications, routers,
-                   byref(place), self._at)
+        return self._library.network_with_delays(
+            limits, routers, links, link_count, owners, owner_count, delays, link_count, publications, routers,
+            bool(self._records), byref(place), self._at)
 
     def _between(self, sender: int, receiver: int) -> int:
         """How long an item is on its way."""
@@ -199,7 +197,7 @@ class TimedNetwork(Whole):
         """
         parts, detail = self._parts_of(step)
         number_of("moment", moment, _LAST)
-        self._need(self._library.timed_at(self._at, moment, byref(parts)), detail)
+        self._need(self._library.network_at(self._at, moment, byref(parts)), detail)
 
     def withdraw(self) -> Optional[Event]:
         """Takes the first of the changes that are to be done off the list, or answers None. So you go on if a
@@ -217,7 +215,7 @@ class TimedNetwork(Whole):
         (4, True)
         """
         parts = _library.EventParts()
-        self._need(self._library.timed_withdraw(self._at, byref(parts)))
+        self._need(self._library.network_withdraw(self._at, byref(parts)))
         return self._event_of(parts)
 
     def run_until(self, moment: int, most: Optional[int] = None) -> Counts:
@@ -234,7 +232,7 @@ class TimedNetwork(Whole):
         the next event. The events before stay done.
         """
         number_of("moment", moment, _LAST)
-        return self._run(most, lambda wanted, done: self._library.timed_run_until(self._at, moment, wanted, done))
+        return self._run(most, lambda wanted, done: self._library.network_run_until(self._at, moment, wanted, done))
 
     def run_to_rest(self, most: Optional[int] = None) -> Counts:
         """Does all that is left to do, as `run_until` does. `now` is then the moment since which the network is
@@ -246,7 +244,7 @@ class TimedNetwork(Whole):
         >>> net.distances("10.0.0.0/8")
         {'a': 1, 'b': 6}
         """
-        return self._run(most, lambda wanted, done: self._library.timed_run_to_rest(self._at, wanted, done))
+        return self._run(most, lambda wanted, done: self._library.network_run_to_rest(self._at, wanted, done))
 
     def _run(self, most: Optional[int], call: Callable[[int, Any], int]) -> Counts:
         def run(wanted: int, done: c_size_t) -> None:
@@ -267,7 +265,7 @@ class TimedNetwork(Whole):
         0
         """
         moment = c_uint64()
-        self._need(self._library.timed_now(self._at, byref(moment)))
+        self._need(self._library.network_now(self._at, byref(moment)))
         return moment.value
 
     @property
@@ -278,7 +276,7 @@ class TimedNetwork(Whole):
         0: link up a b
         """
         parts = _library.EventParts()
-        self._need(self._library.timed_next(self._at, byref(parts)))
+        self._need(self._library.network_next_event(self._at, byref(parts)))
         return self._event_of(parts)
 
     @property
@@ -290,7 +288,7 @@ class TimedNetwork(Whole):
         (False, True)
         """
         rests = c_uint8()
-        self._need(self._library.timed_is_at_rest(self._at, byref(rests)))
+        self._need(self._library.network_is_at_rest(self._at, byref(rests)))
         return bool(rests.value)
 
     # ---- what went on, and what goes on
@@ -310,7 +308,7 @@ class TimedNetwork(Whole):
 
         Raises NoRecord if the network was made without `record=True`.
         """
-        return self._spells(self._library.timed_computations, number_of("start", start, _LAST))
+        return self._spells(self._library.network_computations, number_of("start", start, _LAST))
 
     def computing(self) -> List[Spell]:
         """The computations that go on now, by prefixes and then by routers.
@@ -324,7 +322,7 @@ class TimedNetwork(Whole):
 
         Raises NoRecord.
         """
-        return self._spells(self._library.timed_computing)
+        return self._spells(self._library.network_computing)
 
     def outages(self, start: int = 0) -> List[Spell]:
         """The outages that ended, in the order in which they did: from when until when a router was cut off from a
@@ -338,7 +336,7 @@ class TimedNetwork(Whole):
 
         Raises NoRecord if the network was made without `record=True`.
         """
-        return self._spells(self._library.timed_outages, number_of("start", start, _LAST))
+        return self._spells(self._library.network_outages, number_of("start", start, _LAST))
 
     def cut_off(self) -> List[Spell]:
         """The outages that go on now, by prefixes and then by routers. At rest there are none.
@@ -350,7 +348,7 @@ class TimedNetwork(Whole):
 
         Raises NoRecord.
         """
-        return self._spells(self._library.timed_cut_off)
+        return self._spells(self._library.network_cut_off)
 
     def _spells(self, call: Callable[..., int], *start: int) -> List[Spell]:
         """The spells that a call writes."""

@@ -1,12 +1,12 @@
 //! What the libraries for C programs share: the numbers of faults, rows as C has them, and what a handle
 //! owns.
 //!
-//! C has no `Result`, no enum with fields and no owner. So each call of the four libraries (`lookup_ffi`,
-//! `router_ffi`, `network_ffi`, `timed_ffi`) answers a number, reads and writes plain structs, and is handed
+//! C has no `Result`, no enum with fields and no owner. So each call of the three libraries (`lookup_ffi`,
+//! `router_ffi`, `network_ffi`) answers a number, reads and writes plain structs, and is handed
 //! a pointer. This crate says once what these mean.
 //!
 //! - A *status* is 0, or the number of the [`CallFault`] for which the call was refused. Numbers that the program
-//!   has too (`docs/dualnet.1`) mean the same here. 6 to 9, 36 to 39, 44, 50 and 53 are of the libraries alone.
+//!   has too (`docs/dualnet.1`) mean the same here. 6 to 9, 36 to 39, 44, 50, 53, 56 and 57 are of the libraries alone.
 //! - A [`Row`] is a prefix, and where packets go that it matches. Its `kind` is 0 for local, 1 for via, 2 for
 //!   unreachable, and in answers 3 for no row.
 //! - A *handle* is a pointer to a box, and a flag if there is one. What each library's handle holds and owns

@@ -43,6 +43,17 @@ impl<A: SmallAllocator> Minima<A> {
         })
     }
 
+    /// Equal moments, in memory of this allocator.
+    pub fn copy(&self, alloc: A) -> Result<Minima<A>, NoMemory>
+        ensures { IfOk result (λ m. m ≡ self.now) }
+    {
+        let nodes = Vec::from_slice(alloc, &self.nodes)?;
+        Ok(Minima {
+            count: self.count,
+            nodes,
+        })
+    }
+
     /// The router is due at this moment, or not at all. It takes time by the logarithm of the routers.
     pub fn set(&mut self, router: u16, moment: Option<u64>)
         requires { router < length self.old }

@@ -1,5 +1,5 @@
 pub mod Lists
 pub mod Ran
-pub mod Memory
-pub mod Positive
 pub mod Items
+pub mod Given
+pub mod Going

@@ -1,5 +1,5 @@
 -- Steps of C that are read and done, one after another.
-use Rattle.std.proofs.Common.{refl, sym, ap, subst, ◌∙◌, arith, ◌≡◌, ℕ, ◌+◌, ◌<◌, List, [], ◌∷◌, ◌++◌, map, length, take, get_or, Option, Some, None, option_map, Result, Ok, Err, MatchOption}
+use Rattle.std.proofs.Common.{refl, sym, ap, subst, ◌∙◌, arith, ◌≡◌, ℕ, ◌+◌, ◌<◌, List, [], ◌∷◌, ◌++◌, map, length, take, get_or, Option, Some, None, option_map, Result, Err, MatchOption}
 use Rattle.std.specs.Option.{option_map_or}
 use Rattle.std.proofs.lemmas.List.{map-append, take_more}
 use Rattle.std.proofs.lemmas.Option.{slice_get-get_or}
@@ -10,10 +10,11 @@ use Rattle.world.specs.Steps.{IsDoneOr}
 use Rattle.world.proofs.Runs.{with_last_step}
 use Rattle.simulation.specs.Simulation.{Simulation, after_step, after_steps, simulation_refusal}
 use Rattle.simulation.proofs.Simulations.{after_push}
-use Rattle.network_calls.specs.Calls.{IsDoneOrFails, IsRanTo, StepNeedsMemory, StopsBy, running_fault}
+use Rattle.network_calls.specs.Calls.{running_fault, IsDoneOrFails, IsRanTo, StepNeedsMemory, StopsBy}
 use Rattle.network_calls.specs.Steps.{parts_of_step_fault, step_of}
 use Rattle.network_calls.specs.declared.failure.Failure.{Failure}
 use Rattle.network_calls.specs.declared.failure.Failure.TheVariants.{Given, Refused}
+use Rattle.network_calls.specs.declared.running.Going.TheVariants.{BySteps}
 use Rattle.network_calls.specs.declared.step.StepParts.{StepParts}
 
 -- nothing done
@@ -39,23 +40,16 @@ fails_as : (Needs : Type 0) (o : Option Failure) (f : Failure) → IsDoneOrFails
 fails_as Needs None f h = h
 fails_as Needs (Some e) f h = let inner : ◌≡◌ {A = Result (Unit {0}) Failure} (Err f) (Err e) = h in cc
 
-pub stops : (parts : List StepParts) (mid new : Simulation) (done : ℕ) (p : StepParts) (f : Failure) → done < length parts → p ≡ get_or parts done p → new ≡ mid → IsDoneOrFails {X = Unit {0}} (running_fault p mid) (StepNeedsMemory (step_of p) mid.world) (Err f) → StopsBy parts new done (Err f)
+pub stops : (parts : List StepParts) (mid new : Simulation) (done : ℕ) (p : StepParts) (f : Failure) → done < length parts → p ≡ get_or parts done p → new ≡ mid → IsDoneOrFails {X = Unit {0}} (running_fault p (BySteps mid)) (StepNeedsMemory (step_of p) mid.world) (Err f) → StopsBy parts new done (Err f)
 stops parts mid new done p f below read same cause = (
   p,
   slice_get-get_or parts done p below ∙ ap Some (sym read),
-  subst (λ (s : Simulation). MatchOption (running_fault p s) ((f ≡ Refused Refusal.NoMemory) × StepNeedsMemory (step_of p) s.world) (λ e. f ≡ e)) (sym same) (fails_as (StepNeedsMemory (step_of p) mid.world) (running_fault p mid) f cause),
+  subst (λ (s : Simulation). MatchOption (running_fault p (BySteps s)) ((f ≡ Refused Refusal.NoMemory) × StepNeedsMemory (step_of p) s.world) (λ e. f ≡ e)) (sym same) (fails_as (StepNeedsMemory (step_of p) mid.world) (running_fault p (BySteps mid)) f cause),
 )
 
 -- what a step that was read is refused for
-pub reads : (p : StepParts) (s : Simulation) → parts_of_step_fault p ≡ None → running_fault p s ≡ option_map (λ e. Refused e) (simulation_refusal s (step_of p))
+pub reads : (p : StepParts) (s : Simulation) → parts_of_step_fault p ≡ None → running_fault p (BySteps s) ≡ option_map (λ e. Refused e) (simulation_refusal s (step_of p))
 reads p s none = ap (λ o. option_map_or (λ f. Some (Given f)) o (option_map (λ e. Refused e) (simulation_refusal s (step_of p)))) none
-
-pub unread : (p : StepParts) (s : Simulation) (f : _) → parts_of_step_fault p ≡ Some f → running_fault p s ≡ Some (Given f)
-unread p s f is = ap (λ o. option_map_or (λ g. Some (Given g)) o (option_map (λ e. Refused e) (simulation_refusal s (step_of p)))) is
-
-pub done_as : (Needs : Type 0) (o : Option Refusal) → IsDoneOr {X = Unit {0}} o (Ok (tt {0})) → IsDoneOrFails {X = Unit {0}} (option_map (λ e. Refused e) o) Needs (Ok (tt {0}))
-done_as Needs None h = tt
-done_as Needs (Some e) h = absurd (let no : ◌≡◌ {A = Result (Unit {0}) Refusal} (Ok (tt {0})) (Err e) = h in cc)
 
 pub refused_as : (Needs : Type 0) (o : Option Refusal) (e : Refusal) → IsDoneOr {X = Unit {0}} o (Err e) → (o ≡ None → Needs) → IsDoneOrFails {X = Unit {0}} (option_map (λ x. Refused x) o) Needs (Err (Refused e))
 refused_as Needs None e h needs = (ap (λ x. Refused x) h, needs refl)

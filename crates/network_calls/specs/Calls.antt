@@ -28,17 +28,28 @@ use Rattle.network_calls.specs.Shown.{machine_heard}
 use Rattle.network_calls.specs.declared.machine.MachineShown.{MachineShown}
 use Rattle.network_calls.specs.declared.counts.Counts.{Counts}
 use Rattle.network_calls.specs.declared.failure.Failure.{Failure}
-use Rattle.network_calls.specs.declared.failure.Failure.TheVariants.{Given, Refused}
+use Rattle.network_calls.specs.declared.failure.Failure.TheVariants.{Given, HasClock, NoClock, NoRecord, Refused}
+use Rattle.network_calls.specs.Running.{clocked_in, network_in, reported_in}
+use Rattle.network_calls.specs.declared.running.Going.{Going}
+use Rattle.network_calls.specs.declared.running.Going.TheVariants.{BySteps, InTime}
 use Rattle.network_calls.specs.declared.step.StepParts.{StepParts}
 
 -- what a test of the network finds; that the handle holds none comes first
-abbrev pub held_failure : (Simulation → Option Failure) → Option Simulation → Option Failure
+abbrev pub held_failure : {X : Type 0} → (X → Option Failure) → Option X → Option Failure
 held_failure test None = Some (Given Empty)
 held_failure test (Some s) = test s
 
 -- why nothing is done with a network as a whole: the handle holds none
-abbrev pub at_all : Option Simulation → Option Failure
+abbrev pub at_all : {X : Type 0} → Option X → Option Failure
 at_all held = held_failure (λ s. None) held
+
+-- why nothing is told of its time: the network has no clock
+abbrev pub at_clock : Option Going → Option Failure
+at_clock held = held_failure (λ g. option_map_or (λ t. None) (clocked_in g) (Some NoClock)) held
+
+-- why nothing is told of its record: the network keeps none
+abbrev pub at_record : Option Going → Option Failure
+at_record held = held_failure (λ g. option_map_or (λ r. None) (reported_in g) (Some NoRecord)) held
 
 -- what the test of router i finds; that there is none comes first
 abbrev pub router_fault : {X : Type 0} → (X → Option Failure) → List X → ℕ → Option Failure
@@ -46,13 +57,18 @@ router_fault test xs i = option_map_or test (slice_get xs i) (Some (Refused Refu
 
 -- ---- steps
 
--- why the network does not do the step of these parts
-abbrev pub running_fault : StepParts → Simulation → Option Failure
-running_fault parts s = option_map_or (λ f. Some (Given f)) (parts_of_step_fault parts) (option_map (λ e. Refused e) (simulation_refusal s (step_of parts)))
+-- why the network does not do this step: it is refused, or the network is in simulated time, where its caller does none
+abbrev pub step_failure : Step → Going → Option Failure
+step_failure step (BySteps s) = option_map (λ e. Refused e) (simulation_refusal s step)
+step_failure step (InTime r) = Some HasClock
 
--- the same of the network that a handle holds; a fault of the parts comes first
-abbrev pub step_fault : StepParts → Option Simulation → Option Failure
-step_fault parts held = option_map_or (λ f. Some (Given f)) (parts_of_step_fault parts) (held_failure (λ s. option_map (λ e. Refused e) (simulation_refusal s (step_of parts))) held)
+-- the same of the step of these parts, of which a fault comes first
+abbrev pub running_fault : StepParts → Going → Option Failure
+running_fault parts g = option_map_or (λ f. Some (Given f)) (parts_of_step_fault parts) (step_failure (step_of parts) g)
+
+-- the same of the network that a handle holds
+abbrev pub step_fault : StepParts → Option Going → Option Failure
+step_fault parts held = option_map_or (λ f. Some (Given f)) (parts_of_step_fault parts) (held_failure (step_failure (step_of parts)) held)
 
 -- what a step may need memory for: all but a link that goes down, the release of a message that is stale, and a delivery at a router with room
 abbrev pub StepNeedsMemory : Step → World → Type 0
@@ -66,8 +82,8 @@ StepNeedsMemory (Attach i p cost) w = Unit {0}
 StepNeedsMemory (Detach i p) w = Unit {0}
 
 -- the same of the network that a handle holds
-abbrev pub HeldNeedsMemory : Step → Option Simulation → Type 0
-HeldNeedsMemory step held = IfSome held (λ s. StepNeedsMemory step s.world)
+abbrev pub HeldNeedsMemory : Step → Option Going → Type 0
+HeldNeedsMemory step held = IfSome held (λ g. StepNeedsMemory step (network_in g).world)
 
 -- refused for this cause, if there is one; else done, or refused for want of memory, where it may need some
 abbrev pub IsDoneOrFails : {X : Type 0} → Option Failure → Type 0 → Result X Failure → Type 0
@@ -84,7 +100,7 @@ pub record IsRanTo (parts : List StepParts) (old new : Simulation) (done : ℕ) 
 -- all were done, or the one at this place has a fault or is refused
 abbrev pub StopsBy : List StepParts → Simulation → ℕ → Result (Unit {0}) Failure → Type 0
 StopsBy parts new done (Ok x) = done ≡ length parts
-StopsBy parts new done (Err f) = (p : StepParts) × (slice_get parts done ≡ Some p) × MatchOption (running_fault p new) ((f ≡ Refused Refusal.NoMemory) × StepNeedsMemory (step_of p) new.world) (λ e. f ≡ e)
+StopsBy parts new done (Err f) = (p : StepParts) × (slice_get parts done ≡ Some p) × MatchOption (running_fault p (BySteps new)) ((f ≡ Refused Refusal.NoMemory) × StepNeedsMemory (step_of p) new.world) (λ e. f ≡ e)
 
 -- what the call answers that runs steps: how many were done, and why it stopped
 pub record IsRun (parts : List StepParts) (old new : Simulation) (done status : ℕ) : Type 0 where

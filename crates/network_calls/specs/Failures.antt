@@ -4,9 +4,10 @@ use Rattle.faults.specs.Numbers.{kind_number}
 use Rattle.network_model.specs.Kinds.{network_kind, refusal_kind}
 use Rattle.network_model.specs.declared.network.NetworkFault.{NetworkFault}
 use Rattle.network_model.specs.declared.step.Refusal.{Refusal}
+use Rattle.timed_simulation.specs.Kinds.{time_kind}
 use Rattle.c_interface.specs.Faults.{fault_number, IsDoneOrOutOfMemory}
 use Rattle.network_calls.specs.declared.failure.Failure.{Failure}
-use Rattle.network_calls.specs.declared.failure.Failure.TheVariants.{Given, BadLimits, Network, Refused}
+use Rattle.network_calls.specs.declared.failure.Failure.TheVariants.{Given, BadLimits, HasClock, NoClock, NoRecord, Network, Refused, Time}
 
 -- the number of the refusal of a step
 abbrev pub refusal_number : Refusal → ℕ
@@ -20,6 +21,10 @@ network_number f = kind_number (network_kind f)
 abbrev pub failure_number : Failure → ℕ
 failure_number (Given f) = fault_number f
 failure_number BadLimits = 50
+failure_number NoRecord = 53
+failure_number HasClock = 56
+failure_number NoClock = 57
+failure_number (Time f) = kind_number (time_kind f)
 failure_number (Network f) = network_number f
 failure_number (Refused e) = refusal_number e
 

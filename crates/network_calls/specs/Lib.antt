@@ -4,4 +4,8 @@ pub mod Failures
 pub mod Parts
 pub mod Steps
 pub mod Shown
+pub mod Running
 pub mod Calls
+pub mod Delays
+pub mod Times
+pub mod Spells

@@ -88,8 +88,8 @@ IsFaultWithin limits routers links attachments f =
     ((AreWithin limits widest_limits → ⊥) × (f ≡ (BadLimits, record { position = 0; list = 0 })))
     ⊎ (AreWithin limits widest_limits × IsOpeningFault (list_fault links attachments) (network_failure limits routers links attachments) f)
 
--- what a call answers and writes that opens no network
-pub record IsNotOpened (limits : Limits) (routers : ℕ) (links : List LinkParts) (attachments : List AttachmentParts) (status : ℕ) (place : FaultPlace) : Type 0 where
+-- what a call answers and writes that opens no network, by what may be the cause
+pub record IsNotOpened (Causes : Failure × FaultPlace → Type 0) (status : ℕ) (place : FaultPlace) : Type 0 where
   pub failure : Failure
-  pub cause : IsFaultWithin limits routers links attachments (failure, place)
+  pub cause : Causes (failure, place)
   pub number : status ≡ failure_number failure

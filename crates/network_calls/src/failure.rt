@@ -6,6 +6,7 @@ ghost use Rattle.network_calls.specs.Failures.{failure_number};
 use c_interface::CallFault;
 use faults::FaultKind;
 use network_model::{NetworkFault, Refusal};
+use timed_simulation::TimeFault;
 
 /// Why a call on a network is refused.
 #[derive(Clone, Copy, Debug, PartialEq, Eq)]
@@ -14,6 +15,14 @@ pub enum Failure {
     Given(CallFault),
     /// A limit of a network is above the widest.
     BadLimits,
+    /// The network keeps no record.
+    NoRecord,
+    /// The network is in simulated time, so no step is done by its caller.
+    HasClock,
+    /// The network is not in simulated time.
+    NoClock,
+    /// The moment of a change is past, or an event cannot be done.
+    Time(TimeFault),
     /// The network cannot be opened.
     Network(NetworkFault),
     /// A step, or a call at a router, is refused.
@@ -29,6 +38,10 @@ impl Failure {
         match self {
             Failure::Given(fault) => fault.number(),
             Failure::BadLimits => 50,
+            Failure::NoRecord => 53,
+            Failure::HasClock => 56,
+            Failure::NoClock => 57,
+            Failure::Time(fault) => u32::from(FaultKind::from(fault).number()),
             Failure::Network(fault) => u32::from(FaultKind::from(fault).number()),
             Failure::Refused(refusal) => u32::from(FaultKind::from(refusal).number()),
         }

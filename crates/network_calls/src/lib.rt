@@ -1,14 +1,16 @@
-//! What the calls on whole networks share, for C programs: a network behind a handle (`network_ffi`), and one in
-//! simulated time (`timed_ffi`).
+//! What the calls on whole networks do, for C programs, which have a network behind a handle (`network_ffi`).
 //!
-//! C has a network as lists of numbers, does steps as numbers, and is shown numbers. Two static libraries
-//! need that, and no crate can stand on a static library, so it stands here.
+//! C has a network as lists of numbers, does steps as numbers, and is shown numbers.
 //!
 //! ```text
-//!   LimitsParts, LinkParts, AttachmentParts ── read_network ──> Network         (or Failure, FaultPlace)
+//!   LimitsParts, LinkParts, AttachmentParts ── open ──> Running, by steps        (or Failure, FaultPlace)
+//!   the same, DelayParts ── open_timed ──> Running, in simulated time
 //!   StepParts ── read ──> Step ── of ──> StepParts
 //!   Simulation, World ── look_up, trace_of, rows_of, machine_of, queue_of, .. ──> what C is shown
 //! ```
+//!
+//! A network goes on by the steps of its caller or in simulated time ([`Running`]), and what is shown of both is the
+//! same. A step that is asked of a network with a clock is refused, and so is a moment of one that has none.
 //!
 //! What always holds: numbers are tested in a fixed order, and the first fault is answered. Each refusal has a
 //! number of its own (`failure_number` in `specs/Failures.antt`), which is never 0. What C is shown is what the
@@ -19,6 +21,7 @@
 #![tactic(auto)]
 
 mod counts;
+mod delays;
 mod failure;
 mod gate;
 mod link;
@@ -27,17 +30,23 @@ mod opening;
 mod parts;
 mod rows;
 mod running;
+mod spells;
 mod step;
+mod stepped;
+mod timed;
 mod trace;
 
 pub use counts::Counts;
+pub use delays::{DelayParts, EventParts, read_change};
 pub use failure::{Failure, status};
 pub use gate::{GateShown, NoticeShown, write_held, write_notices};
 pub use link::{ItemShown, LinkShown, queue_of};
 pub use machine::{MachineShown, NeighbourShown, machine_of};
-pub use opening::{FULL, NOWHERE, copy_of, open, open_within, read_network, read_network_within};
+pub use opening::{copy_of, open, open_timed};
 pub use parts::{AttachmentParts, FaultPlace, LimitsParts, LinkParts};
 pub use rows::{look_up, rows_of};
 pub use running::Running;
+pub use spells::{SpellParts, write_ended, write_going_on};
 pub use step::StepParts;
+pub use timed::is_at_rest;
 pub use trace::trace_of;

@@ -1,13 +1,12 @@
 //! Networks that are opened for C.
 
-ghost use Rattle.std.specs.Prelude.{◌≡◌, None, IfOk, IfErr, OnOk};
-ghost use Rattle.simulation.specs.Simulation.{opening_simulation};
+ghost use Rattle.std.specs.Prelude.{◌≡◌, None, true, length, map, IfErr, IfOk, OnOk};
 ghost use Rattle.network_model.specs.Network.{widest_limits, AreWithin};
-ghost use Rattle.c_interface.specs.declared.fault.CallFault.TheVariants.{NoMemory as LacksMemory};
-ghost use Rattle.network_calls.specs.declared.failure.Failure.TheVariants.{Given};
-ghost use Rattle.network_calls.specs.Headline.{HasHeadline};
+ghost use Rattle.network_calls.specs.Delays.{delays_of, is_counted, IsTimedFault};
 ghost use Rattle.network_calls.specs.Parts.{limits_of, list_fault, network_failure, parts_network, IsFaultWithin, IsOpeningFault};
+ghost use Rattle.network_calls.specs.Running.{opening_steps, IsTimedOpening};
 
+use crate::delays::{DelayParts, read_delays};
 use crate::failure::Failure;
 use crate::parts::{
     AttachmentParts, FaultPlace, LimitsParts, LinkParts, check_attachments, check_links,
@@ -19,17 +18,20 @@ use network_model::{Limits, NoMemory};
 use simulation::Network;
 use std::alloc::Global;
 
-/// Where no list has the fault.
-pub const NOWHERE: FaultPlace = FaultPlace {
+// Where no list has the fault.
+const NOWHERE: FaultPlace = FaultPlace {
     position: 0,
     list: 0,
 };
 
-/// What is refused for want of memory.
-pub const FULL: (Failure, FaultPlace) = (Failure::Given(CallFault::NoMemory), NOWHERE);
+// What is refused for want of memory.
+const FULL: (Failure, FaultPlace) = (Failure::Given(CallFault::NoMemory), NOWHERE);
 
-/// The network of these parts within limits of the caller's, of which a fault is told first.
-pub fn read_network_within(
+// What is refused because a delay is missing, or one too many.
+const MISCOUNTED: (Failure, FaultPlace) = (Failure::Given(CallFault::BadCount), NOWHERE);
+
+// The network of these parts within limits of the caller's, of which a fault is told first.
+fn read_network_within(
     alloc: Global,
     limits: &LimitsParts,
     routers: usize,
@@ -50,9 +52,9 @@ pub fn read_network_within(
     read_network(alloc, own, routers, links, attachments)
 }
 
-/// The network of these parts within these limits. The first fault of the lists is answered with its place;
-/// then memory may be refused, or else the first fault of the network is answered.
-pub fn read_network(
+// The network of these parts within these limits. The first fault of the lists is answered with its place;
+// then memory may be refused, or else the first fault of the network is answered.
+fn read_network(
     alloc: Global,
     limits: Limits,
     routers: usize,
@@ -84,8 +86,9 @@ pub fn read_network(
     }
 }
 
-/// Opens the network of these parts within limits of the caller's, of which a fault is told first.
-pub fn open_within(
+/// Opens the network of these parts within limits of the caller's, of which a fault is told first. It goes on by
+/// steps.
+pub fn open(
     alloc: Global,
     limits: &LimitsParts,
     routers: usize,
@@ -96,65 +99,96 @@ pub fn open_within(
     ensures ok { OnOk result ((list_fault links.now attachments.now ≡ None)
         × (network_failure (limits_of limits.now) routers links.now attachments.now ≡ None)) }
     ensures opened { IfOk result (λ b. b.value
-        ≡ opening_simulation (parts_network routers links.now attachments.now)) }
-    ensures headline { IfOk result (λ b. HasHeadline b.value) }
+        ≡ opening_steps (parts_network routers links.now attachments.now)) }
     ensures err { IfErr result
         (IsFaultWithin (limits_of limits.now) routers links.now attachments.now) }
 {
     let network = read_network_within(alloc, limits, routers, links, attachments)?;
-    run(alloc, network)
+    match boxed(alloc, network) {
+        Ok(opened) => Ok(opened),
+        Err(_) => Err(FULL),
+    }
 }
 
-/// Opens the network of these parts within these limits, as [`read_network`] reads it.
-pub fn open(
+/// Opens the network of these parts as [`open`] does, but in simulated time, with these delays of its links and of its
+/// routers' publications; one that keeps a record, if this is asked for. That the delays are not as many as links
+/// and routers is told before all else.
+pub fn open_timed(
     alloc: Global,
-    limits: Limits,
+    limits: &LimitsParts,
     routers: usize,
     links: &[LinkParts],
     attachments: &[AttachmentParts],
+    delays: &[DelayParts],
+    publications: &[u64],
+    records: bool,
 ) -> Result<Box<Running>, (Failure, FaultPlace)>
-    requires { AreWithin limits widest_limits }
+    ensures counted { OnOk result (is_counted routers links.now delays.now publications.now ≡ true) }
+    ensures within { OnOk result (AreWithin (limits_of limits.now) widest_limits) }
     ensures ok { OnOk result ((list_fault links.now attachments.now ≡ None)
-        × (network_failure limits routers links.now attachments.now ≡ None)) }
-    ensures opened { IfOk result (λ b. b.value
-        ≡ opening_simulation (parts_network routers links.now attachments.now)) }
-    ensures headline { IfOk result (λ b. HasHeadline b.value) }
-    ensures err { IfErr result (IsOpeningFault (list_fault links.now attachments.now)
-        (network_failure limits routers links.now attachments.now)) }
+        × (network_failure (limits_of limits.now) routers links.now attachments.now ≡ None)) }
+    ensures opened { IfOk result (λ b. IsTimedOpening records (parts_network routers links.now
+        attachments.now) (map delays_of delays.now) publications.now b.value) }
+    ensures err { IfErr result (IsTimedFault (limits_of limits.now)
+        routers links.now attachments.now delays.now publications.now) }
 {
-    let network = read_network(alloc, limits, routers, links, attachments)?;
-    run(alloc, network)
+    if !are_counted(routers, links, delays, publications) {
+        return Err(MISCOUNTED);
+    }
+    let network = read_network_within(alloc, limits, routers, links, attachments)?;
+    match boxed_timed(alloc, network, delays, publications, records) {
+        Ok(opened) => Ok(opened),
+        Err(_) => Err(FULL),
+    }
 }
 
 /// A network equal to this one, in a box of its own.
 pub fn copy_of(alloc: Global, network: &Running) -> Result<Box<Running>, NoMemory>
-    ensures ok { IfOk result (λ b. b.value ≡ network.now) }
-    ensures headline { IfOk result (λ b. HasHeadline b.value) }
+    ensures { IfOk result (λ b. b.value ≡ network.now) }
 {
     let copy = network.copy(alloc)?;
     let boxed = Box::new(alloc, copy)?;
     Ok(boxed)
 }
 
-// Opens a network, in a box.
+// Whether there are delays for each link, and one for each router.
+fn are_counted(
+    routers: usize,
+    links: &[LinkParts],
+    delays: &[DelayParts],
+    publications: &[u64],
+) -> bool
+    ensures counted { result ≡ is_counted routers links.now delays.now publications.now }
+    ensures each_link { result ≡ true → length delays.now ≡ length links.now }
+    ensures each_router { result ≡ true → length publications.now ≡ routers }
+{
+    delays.len() == links.len() && publications.len() == routers
+}
+
+// Opens a network that goes on by steps, in a box.
 fn boxed(alloc: Global, network: Network) -> Result<Box<Running>, NoMemory>
-    ensures ok { IfOk result (λ b. b.value ≡ opening_simulation network) }
-    ensures headline { IfOk result (λ b. HasHeadline b.value) }
+    ensures { IfOk result (λ b. b.value ≡ opening_steps network) }
 {
     let running = Running::open(alloc, network)?;
     let boxed = Box::new(alloc, running)?;
     Ok(boxed)
 }
 
-// The same. Only memory can be lacked.
-fn run(alloc: Global, network: Network) -> Result<Box<Running>, (Failure, FaultPlace)>
-    ensures ok { IfOk result (λ b. b.value ≡ opening_simulation network) }
-    ensures headline { IfOk result (λ b. HasHeadline b.value) }
-    ensures err { IfErr result (λ f. f
-        ≡ (Given LacksMemory, record { position = 0; list = 0 })) }
+// Opens a network in simulated time, in a box.
+fn boxed_timed(
+    alloc: Global,
+    network: Network,
+    delays: &[DelayParts],
+    publications: &[u64],
+    records: bool,
+) -> Result<Box<Running>, NoMemory>
+    requires each_link { length delays.now ≡ length network.links }
+    requires each_router { length publications.now ≡ network.routers }
+    ensures { IfOk result (λ b. IsTimedOpening records network (map delays_of delays.now)
+        publications.now b.value) }
 {
-    match boxed(alloc, network) {
-        Ok(running) => Ok(running),
-        Err(_) => Err(FULL),
-    }
+    let read = read_delays(alloc, delays)?;
+    let opened = Running::open_timed(alloc, records, network, &read, publications)?;
+    let boxed = Box::new(alloc, opened)?;
+    Ok(boxed)
 }

@@ -81,6 +81,15 @@ pub fn read_cost(cost: u32) -> Result<Cost, CallFault>
 }
 
 impl LimitsParts {
+    /// The limits of the program.
+    pub const PROGRAM: LimitsParts = LimitsParts {
+        routers: 256,
+        links: 1024,
+        ports: 32,
+        prefixes: 4096,
+        attachments: 16_384,
+    };
+
     /// The limits of these parts.
     pub fn limits(&self) -> Limits
         ensures { result ≡ limits_of self.now }

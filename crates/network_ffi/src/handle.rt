@@ -1,7 +1,7 @@
 //! What C holds of a network. No other module sees its pointer.
 
 ghost use Rattle.std.specs.Prelude.{◌≡◌, MatchOption, None, Some};
-ghost use Rattle.simulation.specs.Simulation.{Simulation as State};
+ghost use Rattle.network_calls.specs.declared.running.Going.{Going};
 
 use network_calls::Running;
 use std::alloc::Global;
@@ -16,7 +16,7 @@ pub struct NetworkHandle {
     network: *mut u8,
     holds: bool,
     alloc: Global,
-    ghost value: { State },
+    ghost value: { Going },
 }
 
 impl Model for NetworkHandle {
@@ -27,11 +27,11 @@ impl Model for NetworkHandle {
 }
 
 impl NetworkHandle {
-    ghost use Rattle.network_ffi.specs.Handles.{handle_network};
+    ghost use Rattle.network_ffi.specs.Handles.{handle_going};
 
     /// A handle that holds no network.
     pub fn none(alloc: Global) -> NetworkHandle
-        ensures { handle_network result ≡ None }
+        ensures { handle_going result ≡ None }
     {
         NetworkHandle {
             network: null_mut(),
@@ -42,7 +42,7 @@ impl NetworkHandle {
 
     // A handle that holds this network.
     fn of(network: Box<Running>) -> NetworkHandle
-        ensures { handle_network result ≡ Some network.value }
+        ensures { handle_going result ≡ Some network.value }
     {
         let (ptr, alloc) = Box::into_raw_with_allocator(network);
         NetworkHandle {
@@ -54,8 +54,8 @@ impl NetworkHandle {
 
     // The network that the handle holds, if any.
     fn into_box(self) -> Option<Box<Running>>
-        ensures { MatchOption result (handle_network self ≡ None)
-            (λ b. handle_network self ≡ Some b.value) }
+        ensures { MatchOption result (handle_going self ≡ None)
+            (λ b. handle_going self ≡ Some b.value) }
     {
         let NetworkHandle {
             network,
@@ -71,16 +71,16 @@ impl NetworkHandle {
 
     /// Takes the network out of the handle, which then holds none.
     pub fn take(&mut self, alloc: Global) -> Option<Box<Running>>
-        ensures taken { MatchOption result (handle_network self.old ≡ None)
-            (λ b. handle_network self.old ≡ Some b.value) }
-        ensures empty { handle_network self.new ≡ None }
+        ensures taken { MatchOption result (handle_going self.old ≡ None)
+            (λ b. handle_going self.old ≡ Some b.value) }
+        ensures empty { handle_going self.new ≡ None }
     {
         replace(self, NetworkHandle::none(alloc)).into_box()
     }
 
     /// Puts a network into the handle. The one that it held is freed.
     pub fn put(&mut self, network: Box<Running>)
-        ensures { handle_network self.new ≡ Some network.value }
+        ensures { handle_going self.new ≡ Some network.value }
     {
         *self = NetworkHandle::of(network);
     }

@@ -4,7 +4,7 @@ ghost use Rattle.std.specs.Prelude.{◌≡◌, ◌≢◌, Some, IfSome, option_m
 ghost use Rattle.c_interface.specs.Rows.{as_prefix};
 ghost use Rattle.network_calls.specs.Calls.{at_link, at_machine, at_router_port, at_router, shown_machine};
 ghost use Rattle.network_calls.specs.Failures.{status_by_failure};
-ghost use Rattle.network_ffi.specs.Handles.{handle_network};
+ghost use Rattle.network_ffi.specs.Handles.{handle_going, handle_network};
 ghost use Rattle.network_calls.specs.Shown.{gate_at, link_shown, AreHeldShown, AreNoticesShown, IsQueueShown};
 
 use crate::handle::NetworkHandle;
@@ -31,7 +31,7 @@ pub extern "C" fn tuhvondi_network_machine(
     ensures done { result ≡ 0 → IfSome (handle_network network.old) (λ s.
         shown_machine s.world router (as_prefix addr len) ≡ Some machine.new) }
     ensures refused { result ≢ 0 → machine.new ≡ machine.old }
-    ensures network { handle_network network.new ≡ handle_network network.old }
+    ensures network { handle_going network.new ≡ handle_going network.old }
 {
     let prefix = match read_prefix(addr, len) {
         Ok(prefix) => prefix,
@@ -40,7 +40,7 @@ pub extern "C" fn tuhvondi_network_machine(
     let Some(held) = network.take(alloc) else {
         return CallFault::Empty.number();
     };
-    let found = machine_of(held.get().world(), router, prefix);
+    let found = machine_of(held.simulation().world(), router, prefix);
     network.put(held);
     match found {
         Ok(shown) => {
@@ -63,12 +63,12 @@ pub extern "C" fn tuhvondi_network_link(
     ensures done { result ≡ 0 → IfSome (handle_network network.old) (λ s.
         option_map link_shown (slice_get s.world.links link) ≡ Some shown.new) }
     ensures refused { result ≢ 0 → shown.new ≡ shown.old }
-    ensures network { handle_network network.new ≡ handle_network network.old }
+    ensures network { handle_going network.new ≡ handle_going network.old }
 {
     let Some(held) = network.take(alloc) else {
         return CallFault::Empty.number();
     };
-    let found = LinkShown::at(held.get().world(), link);
+    let found = LinkShown::at(held.simulation().world(), link);
     network.put(held);
     let Some(found) = found else {
         return Failure::Refused(Refusal::UnknownLink).number();
@@ -94,12 +94,12 @@ pub extern "C" fn tuhvondi_network_queue(
         s.world router port items.old items.new written.new more.new) }
     ensures refused { result ≢ 0 →
         (items.new ≡ items.old) × (written.new ≡ written.old) × (more.new ≡ more.old) }
-    ensures network { handle_network network.new ≡ handle_network network.old }
+    ensures network { handle_going network.new ≡ handle_going network.old }
 {
     let Some(held) = network.take(alloc) else {
         return CallFault::Empty.number();
     };
-    let told = queue_of(held.get().world(), router, port, items);
+    let told = queue_of(held.simulation().world(), router, port, items);
     network.put(held);
     match told {
         Ok((count, left)) => {
@@ -123,12 +123,12 @@ pub extern "C" fn tuhvondi_network_gate(
     ensures done { result ≡ 0 → IfSome (handle_network network.old) (λ s.
         gate_at router s.world ≡ Some gate.new) }
     ensures refused { result ≢ 0 → gate.new ≡ gate.old }
-    ensures network { handle_network network.new ≡ handle_network network.old }
+    ensures network { handle_going network.new ≡ handle_going network.old }
 {
     let Some(held) = network.take(alloc) else {
         return CallFault::Empty.number();
     };
-    let found = GateShown::at(held.get().world(), router);
+    let found = GateShown::at(held.simulation().world(), router);
     network.put(held);
     let Some(found) = found else {
         return Failure::Refused(Refusal::UnknownRouter).number();
@@ -153,12 +153,12 @@ pub extern "C" fn tuhvondi_network_held(
         s.world router messages.old messages.new written.new more.new) }
     ensures refused { result ≢ 0 →
         (messages.new ≡ messages.old) × (written.new ≡ written.old) × (more.new ≡ more.old) }
-    ensures network { handle_network network.new ≡ handle_network network.old }
+    ensures network { handle_going network.new ≡ handle_going network.old }
 {
     let Some(held) = network.take(alloc) else {
         return CallFault::Empty.number();
     };
-    let told = match held.get().world().routers().get(usize::from(router)) {
+    let told = match held.simulation().world().routers().get(usize::from(router)) {
         Some(found) => Some(write_held(found, messages)),
         None => None,
     };
@@ -187,13 +187,13 @@ pub extern "C" fn tuhvondi_network_notices(
         s.world router notices.old notices.new written.new more.new) }
     ensures refused { result ≢ 0 →
         (notices.new ≡ notices.old) × (written.new ≡ written.old) × (more.new ≡ more.old) }
-    ensures network { handle_network network.new ≡ handle_network network.old }
+    ensures network { handle_going network.new ≡ handle_going network.old }
 {
     let Some(held) = network.take(alloc) else {
         return CallFault::Empty.number();
     };
-    let told = match held.get().world().routers().get(usize::from(router)) {
-        Some(_) => Some(write_notices(held.get().world(), router, notices)),
+    let told = match held.simulation().world().routers().get(usize::from(router)) {
+        Some(_) => Some(write_notices(held.simulation().world(), router, notices)),
         None => None,
     };
     network.put(held);

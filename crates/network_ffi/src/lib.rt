@@ -14,16 +14,31 @@
 //! tuhvondi_network_free(&n);
 //! ```
 //!
-//! The words: a *handle* is a pointer to a network in a box, and a flag if there is one. A *status* is 0, or
-//! the number of why a call is refused (`failure_number` in `specs/Failures.antt` of `network_calls`).
+//! A network may be in simulated time: then messages are on their way for a time, and routers take a time to publish
+//! (`timed_simulation`). It is opened with delays, is given changes, and runs until a moment or until it is at rest
+//! (`src/timed.rt`), while the calls that show something show it of both kinds. If you ask for it, such a network
+//! keeps a record of its computations and outages, whose lists C is shown from a place on (`src/recorded.rt`).
 //!
-//! What always holds: the tests have an order. Faults of the numbers come first, then an empty handle, then
-//! the network's own refusal, and want of memory last (`step_fault` in `specs/Calls.antt` of `network_calls`). If a call is
-//! done, the network is what `simulation` says, by the very definitions that its contracts cite. The four parts
-//! of the headline are clauses of each call that makes or changes one (`HasHeadline`). If a call is refused, the
-//! network stays as it was, but for the steps that a run or a settling did before. Nothing is written but what
-//! the contract names. Only `tuhvondi_network_new`,
-//! `tuhvondi_network_within`, `tuhvondi_network_copy` and the calls that do steps ask for memory.
+//! ```text
+//! tuhvondi_network_with_delays(&limits, 2, links, 1, owners, 1, delays, 1, publications, 2, 0, &place, &n);
+//! tuhvondi_network_at(&n, 1000, &up);                           /* a link comes up, after a millisecond */
+//! tuhvondi_network_run_to_rest(&n, 1000, &done);                /* until nothing is left to do */
+//! tuhvondi_network_now(&n, &moment);                            /* when that was, in microseconds */
+//! ```
+//!
+//! The words: a *handle* is a pointer to a network in a box, and a flag if there is one. A *status* is 0, or
+//! the number of why a call is refused (`failure_number` in `specs/Failures.antt` of `network_calls`). A *moment* is a
+//! number of microseconds since the opening, a *change* a step that a router does not do by itself, and an *event* a step
+//! at its moment.
+//!
+//! What always holds: the tests have an order. Faults of the numbers come first, then an empty handle, then that
+//! the network has a clock or has none, then its own refusal or that a moment is past, and want of memory last
+//! (`step_fault` in `specs/Calls.antt`, `given_failure` in `specs/Times.antt` of `network_calls`). If a call is done, the
+//! network is what `simulation` or `timed_simulation` says, by the very definitions that their contracts cite. The four
+//! parts of the headline are clauses of each call that makes or changes one (`HasHeadline`). A record is exact, as
+//! `timed_reports` defines that, of all events since the opening (`IsOpened`, `GoesOn`). If a call is refused, the network
+//! stays as it was, but for the steps and events that a run or a settling did before. Nothing is written but what the
+//! contract names. Only the calls that open or copy a network, do steps or events, or are given a change ask for memory.
 //!
 //! What is tricky is the pointer. Each call takes the box out of the handle, works on what is in it, and puts
 //! it back. So only three small functions touch the pointer (`src/handle.rt`), and these are proved by hand.
@@ -33,30 +48,32 @@
 //! is told, and no two arguments overlap.
 #![tactic(auto)]
 
-ghost use Rattle.std.specs.Prelude.{◌≡◌, ◌≢◌, None, Some, OnOk, OnErr, IfErr, IfOk, IfSome, IfNone, is_some, length, option_map, slice_get};
+ghost use Rattle.std.specs.Prelude.{◌≡◌, ◌≢◌, None, Some, OnOk, OnErr, IfErr, IfSome, IfNone, is_some, length, option_map, slice_get};
 ghost use Rattle.network_model.specs.Turns as turns;
 ghost use Rattle.c_interface.specs.Faults.{fault_number};
 ghost use Rattle.single_router.specs.States.{flag};
-ghost use Rattle.simulation.specs.Simulation.{after_step, opening_simulation};
-ghost use Rattle.network_ffi.specs.Handles.{handle_network};
+ghost use Rattle.network_ffi.specs.Handles.{handle_going, handle_network};
 ghost use Rattle.network_calls.specs.Failures.{failure_number, status_by_failure, IsStatusByFailure, IsStatusOnlyByFailure};
 ghost use Rattle.network_model.specs.Network.{program_limits, widest_limits, AreWithin};
 ghost use Rattle.network_calls.specs.Headline.{HasHeadline};
-ghost use Rattle.network_calls.specs.Parts.{limits_of, list_fault, network_failure, parts_network, IsNotOpened};
+ghost use Rattle.network_calls.specs.Parts.{limits_of, list_fault, network_failure, parts_network, IsFaultWithin, IsNotOpened};
+ghost use Rattle.network_calls.specs.Running.{opening_steps, with_step_done, GoesBySteps};
 ghost use Rattle.network_calls.specs.Steps.{parts_of_step, step_of};
 ghost use Rattle.network_calls.specs.Calls.{at_all, at_router, counts_of, lookup_fault, step_fault, HeldNeedsMemory, IsAnswered, IsFollowed, AreRowsListed, IsRun, IsSettling};
 
 use c_interface::{CallFault, Row};
 use network_calls::{
     AttachmentParts, Counts, Failure, FaultPlace, LimitsParts, LinkParts, StepParts, copy_of,
-    look_up, open, open_within, rows_of, status, trace_of,
+    look_up, open, rows_of, status, trace_of,
 };
-use network_model::{Limits, Refusal};
+use network_model::Refusal;
 use simulation::Order;
 use std::alloc::Global;
 
 mod handle;
 mod inspecting;
+mod recorded;
+mod timed;
 
 use handle::NetworkHandle;
 
@@ -74,21 +91,23 @@ pub extern "C" fn tuhvondi_network_new(
 ) -> u32
     ensures lists { result ≡ 0 → list_fault links.now attachments.now ≡ None }
     ensures valid { result ≡ 0 → network_failure program_limits routers links.now attachments.now ≡ None }
-    ensures done { result ≡ 0 → handle_network network.new
-        ≡ Some (opening_simulation (parts_network routers links.now attachments.now)) }
+    ensures done { result ≡ 0 → handle_going network.new
+        ≡ Some (opening_steps (parts_network routers links.now attachments.now)) }
     ensures headline { result ≡ 0 → IfSome (handle_network network.new) HasHeadline }
     ensures place { result ≡ 0 → place.new ≡ place.old }
-    ensures refused { result ≢ 0 → handle_network network.new ≡ handle_network network.old }
-    ensures cause { result ≢ 0 → IsNotOpened program_limits routers links.now attachments.now result place.new }
+    ensures refused { result ≢ 0 → handle_going network.new ≡ handle_going network.old }
+    ensures cause { result ≢ 0 → IsNotOpened
+        (IsFaultWithin program_limits routers links.now attachments.now) result place.new }
 {
     match open(
         alloc,
-        Limits::PROGRAM,
+        &LimitsParts::PROGRAM,
         usize::from(routers),
         links,
         attachments,
     ) {
         Ok(running) => {
+            running.holds();
             network.put(running);
             0
         }
@@ -114,16 +133,17 @@ pub extern "C" fn tuhvondi_network_within(
     ensures lists { result ≡ 0 → list_fault links.now attachments.now ≡ None }
     ensures valid { result ≡ 0 → network_failure
         (limits_of limits.now) routers links.now attachments.now ≡ None }
-    ensures done { result ≡ 0 → handle_network network.new
-        ≡ Some (opening_simulation (parts_network routers links.now attachments.now)) }
+    ensures done { result ≡ 0 → handle_going network.new
+        ≡ Some (opening_steps (parts_network routers links.now attachments.now)) }
     ensures headline { result ≡ 0 → IfSome (handle_network network.new) HasHeadline }
     ensures place { result ≡ 0 → place.new ≡ place.old }
-    ensures refused { result ≢ 0 → handle_network network.new ≡ handle_network network.old }
+    ensures refused { result ≢ 0 → handle_going network.new ≡ handle_going network.old }
     ensures cause { result ≢ 0 → IsNotOpened
-        (limits_of limits.now) routers links.now attachments.now result place.new }
+        (IsFaultWithin (limits_of limits.now) routers links.now attachments.now) result place.new }
 {
-    match open_within(alloc, limits, routers, links, attachments) {
+    match open(alloc, limits, routers, links, attachments) {
         Ok(opened) => {
+            opened.holds();
             network.put(opened);
             0
         }
@@ -142,11 +162,11 @@ pub extern "C" fn tuhvondi_network_copy(
     network: &mut NetworkHandle,
     other: &mut NetworkHandle,
 ) -> u32
-    ensures status { IsStatusByFailure (at_all (handle_network network.old)) result }
-    ensures done { result ≡ 0 → handle_network other.new ≡ handle_network network.old }
+    ensures status { IsStatusByFailure (at_all (handle_going network.old)) result }
+    ensures done { result ≡ 0 → handle_going other.new ≡ handle_going network.old }
     ensures headline { result ≡ 0 → IfSome (handle_network other.new) HasHeadline }
-    ensures refused { result ≢ 0 → handle_network other.new ≡ handle_network other.old }
-    ensures network { handle_network network.new ≡ handle_network network.old }
+    ensures refused { result ≢ 0 → handle_going other.new ≡ handle_going other.old }
+    ensures network { handle_going network.new ≡ handle_going network.old }
 {
     let Some(held) = network.take(alloc) else {
         return CallFault::Empty.number();
@@ -155,6 +175,7 @@ pub extern "C" fn tuhvondi_network_copy(
     network.put(held);
     match made {
         Ok(copy) => {
+            copy.holds();
             other.put(copy);
             0
         }
@@ -164,14 +185,14 @@ pub extern "C" fn tuhvondi_network_copy(
 
 // Does a step of a handle's network.
 fn do_step(alloc: Global, network: &mut NetworkHandle, parts: StepParts) -> Result<(), Failure>
-    ensures ok { OnOk result (IsStatusOnlyByFailure (step_fault parts (handle_network network.old))
-        (HeldNeedsMemory (step_of parts) (handle_network network.old)) 0) }
-    ensures stepped { OnOk result (handle_network network.new
-        ≡ option_map (λ s. after_step s (step_of parts)) (handle_network network.old)) }
+    ensures ok { OnOk result (IsStatusOnlyByFailure (step_fault parts (handle_going network.old))
+        (HeldNeedsMemory (step_of parts) (handle_going network.old)) 0) }
+    ensures stepped { OnOk result (handle_going network.new
+        ≡ option_map (with_step_done (step_of parts)) (handle_going network.old)) }
     ensures headline { OnOk result (IfSome (handle_network network.new) HasHeadline) }
-    ensures unchanged { OnErr result (handle_network network.new ≡ handle_network network.old) }
-    ensures err { IfErr result (λ f. IsStatusOnlyByFailure (step_fault parts (handle_network network.old))
-        (HeldNeedsMemory (step_of parts) (handle_network network.old)) (failure_number f)) }
+    ensures unchanged { OnErr result (handle_going network.new ≡ handle_going network.old) }
+    ensures err { IfErr result (λ f. IsStatusOnlyByFailure (step_fault parts (handle_going network.old))
+        (HeldNeedsMemory (step_of parts) (handle_going network.old)) (failure_number f)) }
 {
     if let Err(fault) = parts.read() {
         return Err(Failure::Given(fault));
@@ -180,28 +201,30 @@ fn do_step(alloc: Global, network: &mut NetworkHandle, parts: StepParts) -> Resu
         return Err(Failure::Given(CallFault::Empty));
     };
     let outcome = held.read_and_step(parts);
+    held.holds();
     network.put(held);
     outcome
 }
 
-/// Does a step.
+/// Does a step. It is refused if the network has a clock.
 #[unsafe(no_mangle)]
 pub extern "C" fn tuhvondi_network_step(
     alloc: Global,
     network: &mut NetworkHandle,
     parts: &StepParts,
 ) -> u32
-    ensures status { IsStatusOnlyByFailure (step_fault parts.now (handle_network network.old))
-        (HeldNeedsMemory (step_of parts.now) (handle_network network.old)) result }
-    ensures done { result ≡ 0 → handle_network network.new
-        ≡ option_map (λ s. after_step s (step_of parts.now)) (handle_network network.old) }
+    ensures status { IsStatusOnlyByFailure (step_fault parts.now (handle_going network.old))
+        (HeldNeedsMemory (step_of parts.now) (handle_going network.old)) result }
+    ensures done { result ≡ 0 → handle_going network.new
+        ≡ option_map (with_step_done (step_of parts.now)) (handle_going network.old) }
     ensures headline { result ≡ 0 → IfSome (handle_network network.new) HasHeadline }
-    ensures refused { result ≢ 0 → handle_network network.new ≡ handle_network network.old }
+    ensures refused { result ≢ 0 → handle_going network.new ≡ handle_going network.old }
 {
     status(do_step(alloc, network, *parts))
 }
 
-/// Does steps in order, up to the first that has a fault or is refused, and writes how many were done.
+/// Does steps in order, up to the first that has a fault or is refused, and writes how many were done. None is done
+/// if the network has a clock.
 #[unsafe(no_mangle)]
 pub extern "C" fn tuhvondi_network_run(
     alloc: Global,
@@ -209,20 +232,22 @@ pub extern "C" fn tuhvondi_network_run(
     steps: &[StepParts],
     done: &mut usize,
 ) -> u32
-    ensures some { IfSome (handle_network network.old) (λ s. IfSome (handle_network network.new)
-        (λ t. IsRun steps.now s t done.new result)) }
+    ensures some { IfSome (handle_going network.old) (λ f. IfSome (handle_going network.new)
+        (GoesBySteps (λ s t. IsRun steps.now s t done.new result)
+        ((done.new ≡ 0) × (result ≡ failure_number Failure.HasClock)) f)) }
     ensures headline { IfSome (handle_network network.new) HasHeadline }
-    ensures kept { is_some (handle_network network.new) ≡ is_some (handle_network network.old) }
-    ensures none { IfNone (handle_network network.old)
+    ensures kept { is_some (handle_going network.new) ≡ is_some (handle_going network.old) }
+    ensures none { IfNone (handle_going network.old)
         ((result ≡ fault_number CallFault.Empty) × (done.new ≡ done.old)) }
 {
     let Some(mut held) = network.take(alloc) else {
         return CallFault::Empty.number();
     };
-    let (count, outcome) = held.run(steps);
+    let (count, number) = held.run(steps);
+    held.holds();
     network.put(held);
     *done = count;
-    status(outcome)
+    number
 }
 
 /// Writes what a router has to do next. If it has nothing to do, the kind is 255.
@@ -237,13 +262,13 @@ pub extern "C" fn tuhvondi_network_next_step(
     ensures done { result ≡ 0 → IfSome (handle_network network.old) (λ s. step.new
         ≡ parts_of_step (turns.next_step s.world router)) }
     ensures refused { result ≢ 0 → step.new ≡ step.old }
-    ensures network { handle_network network.new ≡ handle_network network.old }
+    ensures network { handle_going network.new ≡ handle_going network.old }
 {
     let Some(held) = network.take(alloc) else {
         return CallFault::Empty.number();
     };
-    let known = usize::from(router) < held.get().world().routers().len();
-    let next = held.get().next_step(router);
+    let known = usize::from(router) < held.simulation().world().routers().len();
+    let next = held.simulation().next_step(router);
     network.put(held);
     if !known {
         return Failure::Refused(Refusal::UnknownRouter).number();
@@ -253,7 +278,8 @@ pub extern "C" fn tuhvondi_network_next_step(
 }
 
 /// Lets routers take turns, at most so many, until nothing is left to do, and writes how many were taken.
-/// With seed 0 they do so in cyclic order, and else in a pseudo-random order that the seed determines.
+/// With seed 0 they do so in cyclic order, and else in a pseudo-random order that the seed determines. None is taken
+/// if the network has a clock.
 #[unsafe(no_mangle)]
 pub extern "C" fn tuhvondi_network_settle(
     alloc: Global,
@@ -262,11 +288,12 @@ pub extern "C" fn tuhvondi_network_settle(
     most: usize,
     done: &mut usize,
 ) -> u32
-    ensures some { IfSome (handle_network network.old) (λ s. IfSome (handle_network network.new)
-        (λ t. IsSettling s t most done.new result)) }
+    ensures some { IfSome (handle_going network.old) (λ f. IfSome (handle_going network.new)
+        (GoesBySteps (λ s t. IsSettling s t most done.new result)
+        ((done.new ≡ 0) × (result ≡ failure_number Failure.HasClock)) f)) }
     ensures headline { IfSome (handle_network network.new) HasHeadline }
-    ensures kept { is_some (handle_network network.new) ≡ is_some (handle_network network.old) }
-    ensures none { IfNone (handle_network network.old)
+    ensures kept { is_some (handle_going network.new) ≡ is_some (handle_going network.old) }
+    ensures none { IfNone (handle_going network.old)
         ((result ≡ fault_number CallFault.Empty) × (done.new ≡ done.old)) }
 {
     let Some(mut held) = network.take(alloc) else {
@@ -277,13 +304,11 @@ pub extern "C" fn tuhvondi_network_settle(
     } else {
         Order::Seeded(seed)
     };
-    let ran = held.settle(order, most);
+    let (turns, number) = held.settle(order, most);
+    held.holds();
     network.put(held);
-    *done = ran.done;
-    match ran.refusal {
-        None => 0,
-        Some(refusal) => Failure::Refused(refusal).number(),
-    }
+    *done = turns;
+    number
 }
 
 /// Writes 1 where nothing is left to do, else 0.
@@ -297,12 +322,12 @@ pub extern "C" fn tuhvondi_network_is_settled(
         (result ≡ 0) × (settled.new ≡ flag (turns.is_settled s.world))) }
     ensures none { IfNone (handle_network network.old)
         ((result ≡ fault_number CallFault.Empty) × (settled.new ≡ settled.old)) }
-    ensures network { handle_network network.new ≡ handle_network network.old }
+    ensures network { handle_going network.new ≡ handle_going network.old }
 {
     let Some(held) = network.take(alloc) else {
         return CallFault::Empty.number();
     };
-    *settled = u8::from(held.get().is_settled());
+    *settled = u8::from(held.simulation().is_settled());
     network.put(held);
     0
 }
@@ -322,12 +347,12 @@ pub extern "C" fn tuhvondi_network_lookup(
     ensures done { result ≡ 0 →
         IfSome (handle_network network.old) (IsAnswered router addrs.now answers.new) }
     ensures refused { result ≢ 0 → answers.new ≡ answers.old }
-    ensures network { handle_network network.new ≡ handle_network network.old }
+    ensures network { handle_going network.new ≡ handle_going network.old }
 {
     let Some(held) = network.take(alloc) else {
         return CallFault::Empty.number();
     };
-    let outcome = look_up(held.get(), router, addrs, answers);
+    let outcome = look_up(held.simulation(), router, addrs, answers);
     network.put(held);
     status(outcome)
 }
@@ -350,12 +375,12 @@ pub extern "C" fn tuhvondi_network_trace(
         s addr router hops.old hops.new count.new end.new) }
     ensures refused { result ≢ 0 →
         (hops.new ≡ hops.old) × (count.new ≡ count.old) × (end.new ≡ end.old) }
-    ensures network { handle_network network.new ≡ handle_network network.old }
+    ensures network { handle_going network.new ≡ handle_going network.old }
 {
     let Some(held) = network.take(alloc) else {
         return CallFault::Empty.number();
     };
-    let followed = trace_of(held.get(), router, addr, hops);
+    let followed = trace_of(held.simulation(), router, addr, hops);
     network.put(held);
     match followed {
         Ok((passed, number)) => {
@@ -384,12 +409,12 @@ pub extern "C" fn tuhvondi_network_rows(
         (λ r. AreRowsListed r rows.old rows.new written.new more.new)) }
     ensures refused { result ≢ 0 →
         (rows.new ≡ rows.old) × (written.new ≡ written.old) × (more.new ≡ more.old) }
-    ensures network { handle_network network.new ≡ handle_network network.old }
+    ensures network { handle_going network.new ≡ handle_going network.old }
 {
     let Some(held) = network.take(alloc) else {
         return CallFault::Empty.number();
     };
-    let told = rows_of(held.get().world(), router, rows);
+    let told = rows_of(held.simulation().world(), router, rows);
     network.put(held);
     match told {
         Ok((count, left)) => {
@@ -412,12 +437,12 @@ pub extern "C" fn tuhvondi_network_counts(
         (result ≡ 0) × (counts.new ≡ counts_of s)) }
     ensures none { IfNone (handle_network network.old)
         ((result ≡ fault_number CallFault.Empty) × (counts.new ≡ counts.old)) }
-    ensures network { handle_network network.new ≡ handle_network network.old }
+    ensures network { handle_going network.new ≡ handle_going network.old }
 {
     let Some(held) = network.take(alloc) else {
         return CallFault::Empty.number();
     };
-    *counts = Counts::of(held.get());
+    *counts = Counts::of(held.simulation());
     network.put(held);
     0
 }
@@ -425,10 +450,12 @@ pub extern "C" fn tuhvondi_network_counts(
 /// Frees the network, if there is one. The handle then holds none.
 #[unsafe(no_mangle)]
 pub extern "C" fn tuhvondi_network_free(alloc: Global, network: &mut NetworkHandle)
-    ensures { handle_network network.new ≡ None }
+    ensures { handle_going network.new ≡ None }
 {
     *network = NetworkHandle::none(alloc);
 }
 
 #[cfg(test)]
 mod tests;
+#[cfg(test)]
+mod timed_tests;

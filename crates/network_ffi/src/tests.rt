@@ -28,7 +28,7 @@ pub(crate) fn equal<T: PartialEq + Debug + Drop>(rt: &impl Abort, found: T, want
     assert_eq!(rt; found, wanted);
 }
 
-const NOWHERE: FaultPlace = FaultPlace {
+pub(crate) const NOWHERE: FaultPlace = FaultPlace {
     position: 9,
     list: 9,
 };
@@ -57,14 +57,14 @@ const LINE: [LinkParts; 2] = [
     },
 ];
 
-const OWNER: [AttachmentParts; 1] = [AttachmentParts {
+pub(crate) const OWNER: [AttachmentParts; 1] = [AttachmentParts {
     addr: 0x0a00_0000,
     cost: 1,
     router: 0,
     len: 8,
 }];
 
-fn row(kind: u8, port: u8, session: u16) -> Row {
+pub(crate) fn row(kind: u8, port: u8, session: u16) -> Row {
     Row {
         addr: 0x0a00_0000,
         len: 8,
@@ -74,7 +74,7 @@ fn row(kind: u8, port: u8, session: u16) -> Row {
     }
 }
 
-fn plain(kind: u8, subject: u16) -> StepParts {
+pub(crate) fn plain(kind: u8, subject: u16) -> StepParts {
     StepParts {
         addr: 0,
         cost: 0,
@@ -85,14 +85,14 @@ fn plain(kind: u8, subject: u16) -> StepParts {
     }
 }
 
-fn line(alloc: Global) -> NetworkHandle {
+pub(crate) fn line(alloc: Global) -> NetworkHandle {
     let mut network = NetworkHandle::none(alloc);
     let mut place = NOWHERE;
     let _ = tuhvondi_network_new(alloc, 3, &LINE, &OWNER, &mut place, &mut network);
     network
 }
 
-fn look_up(alloc: Global, network: &mut NetworkHandle, router: u16) -> Row {
+pub(crate) fn look_up(alloc: Global, network: &mut NetworkHandle, router: u16) -> Row {
     let mut answers = [NO_ROW];
     let _ = tuhvondi_network_lookup(alloc, network, router, &[0x0a01_0203], &mut answers);
     answers[0]

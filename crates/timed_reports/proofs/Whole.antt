@@ -156,12 +156,13 @@ taker_within old e timed w is made at i q takes =
     let many : length w.routers ≡ length (world_of old.timed).routers = ap (λ (u : World). length u.routers) at ∙ as_many_after old.timed timed e made in
     omega (arith, there, many)
 
--- parts that stand for what was before
+-- parts that are equal to those of a report make it
+pub equal_report : (r : Reported) (timed : Timed) (xs : List Spell) (cs : List Watched) (ys : List Spell) (ds : List Watched) → timed ≡ r.timed → xs ≡ r.computations → cs ≡ r.computing → ys ≡ r.outages → ds ≡ r.cut_off → reported_of timed xs cs ys ds ≡ r
+equal_report r timed xs cs ys ds same past going out cut = λ i. record { timed = same i; computations = past i; computing = going i; outages = out i; cut_off = cut i }
+
+-- the same where what goes on is as it was
 pub same_report : (r : Reported) (timed : Timed) (xs ys : List Spell) → timed ≡ r.timed → xs ≡ r.computations → ys ≡ r.outages → reported_of timed xs r.computing ys r.cut_off ≡ r
-same_report r timed xs ys same past out =
-    ap (λ (t : Timed). reported_of t xs r.computing ys r.cut_off) same
-    ∙ ap (λ (zs : List Spell). reported_of r.timed zs r.computing ys r.cut_off) past
-    ∙ ap (λ (zs : List Spell). reported_of r.timed r.computations r.computing zs r.cut_off) out
+same_report r timed xs ys same past out = equal_report r timed xs r.computing ys r.cut_off same past refl out refl
 
 -- a report at the opening
 pub report_opening : (t : Timed) → IsNetwork (t.simulation).network → t.clock ≡ 0 → world_of t ≡ opening (t.simulation).network → (computing cut_off : List Watched)

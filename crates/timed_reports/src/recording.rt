@@ -45,6 +45,16 @@ impl Recording {
         Ok(Recording::Off(timed))
     }
 
+    /// An equal network, with its record if it keeps one.
+    pub fn copy(&self, alloc: Global) -> Result<Recording, NoMemory>
+        ensures { IfOk result (λ f. f ≡ self.now) }
+    {
+        match self {
+            Recording::Off(timed) => Ok(Recording::Off(timed.copy(alloc)?)),
+            Recording::On(report) => Ok(Recording::On(report.copy(alloc)?)),
+        }
+    }
+
     /// The network in simulated time.
     pub fn timed(&self) -> &TimedSimulation
         ensures { result.now ≡ timed_in self.now }

@@ -188,6 +188,28 @@ impl<A: SmallAllocator> Report<A> {
         })
     }
 
+    /// An equal network with its record, as `TimedSimulation::copy` makes one.
+    pub fn copy(&self, alloc: A) -> Result<Report<A>, NoMemory>
+        ensures { IfOk result (λ r. r ≡ self.now) }
+    {
+        let timed = self.timed.copy(alloc)?;
+        let computations = Vec::from_slice(alloc, &self.computations)?;
+        let computing = Vec::from_slice(alloc, &self.computing)?;
+        let outages = Vec::from_slice(alloc, &self.outages)?;
+        let cut_off = Vec::from_slice(alloc, &self.cut_off)?;
+        let cut = CutOff::new(alloc, self.cut.routers())?;
+        let marks = Vec::from_slice(alloc, &self.marks)?;
+        Ok(Report {
+            timed,
+            computations,
+            computing,
+            outages,
+            cut_off,
+            cut,
+            marks,
+        })
+    }
+
     /// The network, its world, its clock and its changes.
     pub fn timed(&self) -> &TimedSimulation<A>
         ensures { result.now ≡ (self.now).timed }

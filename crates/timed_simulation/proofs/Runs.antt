@@ -1,16 +1,16 @@
 -- What events leave of what every timed simulation keeps.
-use Rattle.std.proofs.Common.{refl, sym, ap, subst, ◌∙◌, arith, inl, inr, length-append, ◌≡◌, ◌⊎◌, ℕ, ◌+◌, ◌≤◌, ◌<◌, if◌then◌else◌, List, [], ◌∷◌, ◌++◌, drop, map, length, IfSome, IfNone, Option, Some, None}
+use Rattle.std.proofs.Common.{refl, sym, ap, subst, ◌∙◌, arith, inl, inr, length-append, ◌≡◌, ◌⊎◌, ℕ, ◌+◌, ◌≤◌, ◌<◌, if◌then◌else◌, List, [], ◌∷◌, ◌++◌, drop, length, IfSome, IfNone, Option, Some, None}
 use Rattle.no_packet_loops.proofs.Common.{World, Network, IsNetwork, opening, Lawful, next, Refusal, Runs}
 use Rattle.world.specs.Steps.{CanBeRefused}
 use Rattle.world.proofs.Runs.{with_last_step}
-use Rattle.simulation.specs.Simulation.{Simulation, after_step, opening_simulation}
+use Rattle.simulation.specs.Simulation.{Simulation, after_step}
 use Rattle.timed_simulation.specs.declared.events.Change.{Change}
 use Rattle.timed_simulation.specs.declared.events.Event.{Event}
 use Rattle.timed_simulation.specs.declared.events.RouterTime.{RouterTime}
 use Rattle.timed_simulation.specs.declared.fault.TimeFault.{TimeFault}
 use Rattle.timed_simulation.specs.declared.links.LinkDelays.{LinkDelays}
-use Rattle.timed_simulation.specs.Links.{TimedLink, last_moment, links_after, motion_of, opening_directions}
-use Rattle.timed_simulation.specs.Timed.{Timed, after_event, after_events, begins_at, opening_router_time, opening_timed, routers_after, timed_of, world_of}
+use Rattle.timed_simulation.specs.Links.{TimedLink, last_moment, links_after, motion_of}
+use Rattle.timed_simulation.specs.Timed.{Timed, after_event, after_events, begins_at, opening_timed, routers_after, timed_of, world_of}
 use Rattle.timed_simulation.specs.Events.{next_event}
 use Rattle.timed_simulation.specs.Due.{IsDue, IsFirst, NothingIsDue, RisesFrom}
 use Rattle.timed_simulation.specs.Runs.{Ascends, IsNext, IsStoppedShort, IsTimed, IsTimedRun, LeadsTo, steps_of}
@@ -110,16 +110,15 @@ pub fewer_done : (moment most done : ℕ) (t : Timed) (o : Option TimeFault) →
 fewer_done moment most done t None short = tt
 fewer_done moment most done t (Some f) short = short.few
 
--- ---- the parts of an opening
+-- ---- the parts of a network, and of an event
 
-pub opened_parts : (n : Network) (delays : List LinkDelays) (waits : List ℕ) (s : Simulation) (ks : List TimedLink) (rs : List RouterTime) (cs : List Change) → s ≡ opening_simulation n → ks ≡ map opening_directions delays → rs ≡ map opening_router_time waits → cs ≡ [] → timed_of s 0 ks rs cs ≡ opening_timed n delays waits
-opened_parts n delays waits s ks rs cs simulation links routers changes =
-    ap (λ x. timed_of x 0 ks rs cs) simulation
-    ∙ ap (λ x. timed_of (opening_simulation n) 0 x rs cs) links
-    ∙ ap (λ x. timed_of (opening_simulation n) 0 (map opening_directions delays) x cs) routers
-    ∙ ap (timed_of (opening_simulation n) 0 (map opening_directions delays) (map opening_router_time waits)) changes
-
--- ---- the parts of an event
+-- parts that are equal to those of a network make it
+pub equal_parts : (t : Timed) (s : Simulation) (ks : List TimedLink) (rs : List RouterTime) (cs : List Change) → s ≡ t.simulation → ks ≡ t.links → rs ≡ t.routers → cs ≡ t.changes → timed_of s t.clock ks rs cs ≡ t
+equal_parts t s ks rs cs simulation links routers changes =
+    ap (λ x. timed_of x t.clock ks rs cs) simulation
+    ∙ ap (λ x. timed_of t.simulation t.clock x rs cs) links
+    ∙ ap (λ x. timed_of t.simulation t.clock t.links x cs) routers
+    ∙ ap (timed_of t.simulation t.clock t.links t.routers) changes
 
 -- parts that stand for what was before are what was before
 pub same_parts : (t : Timed) (s : Simulation) (ks : List TimedLink) → s ≡ t.simulation → ks ≡ t.links → timed_of s t.clock ks t.routers t.changes ≡ t

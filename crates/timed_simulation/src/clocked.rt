@@ -16,7 +16,9 @@ use crate::events::{
     take_done,
 };
 use crate::fault::TimeFault;
-use crate::links::{LinkDelays, LinkTimes, later, motion_of, note, opening_links, reserve};
+use crate::links::{
+    LinkDelays, LinkTimes, copy_links, later, motion_of, note, opening_links, reserve,
+};
 use network_model::{NoMemory, Place, SmallAllocator, Step};
 use simulation::Simulation;
 use std::alloc::Global;
@@ -80,6 +82,23 @@ impl<A: SmallAllocator> Clocked<A> {
             links,
             routers,
             changes: VecDeque::new(alloc),
+        })
+    }
+
+    /// An equal network, in memory of this allocator.
+    pub fn copy(&self, alloc: A) -> Result<Clocked<A>, NoMemory>
+        ensures { IfOk result (λ t. t ≡ self.now) }
+    {
+        let simulation = self.simulation.copy(alloc)?;
+        let links = copy_links(alloc, &self.links)?;
+        let routers = Vec::from_slice(alloc, &self.routers)?;
+        let changes = self.changes.iter().copied().collect(alloc)?;
+        Ok(Clocked {
+            simulation,
+            clock: self.clock,
+            links,
+            routers,
+            changes,
         })
     }
 

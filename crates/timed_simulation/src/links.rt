@@ -112,6 +112,30 @@ impl<S: Allocator> Line<S> {
     }
 }
 
+impl<S: Allocator + Copy> Line<S> {
+    // The same, in memory of this allocator.
+    fn copy(&self, alloc: S) -> Result<Line<S>, AllocError>
+        ensures { IfOk result (λ l. direction_of l ≡ direction_of self.now) }
+    {
+        let arrivals = self.arrivals.iter().copied().collect(alloc)?;
+        Ok(Line {
+            delay: self.delay,
+            arrivals,
+        })
+    }
+}
+
+impl<S: Allocator + Copy> LinkTimes<S> {
+    // The same, in memory of this allocator.
+    fn copy(&self, alloc: S) -> Result<LinkTimes<S>, AllocError>
+        ensures { IfOk result (λ k. link_of k ≡ link_of self.now) }
+    {
+        let to_a = self.to_a.copy(alloc)?;
+        let to_b = self.to_b.copy(alloc)?;
+        Ok(LinkTimes { to_a, to_b })
+    }
+}
+
 impl<S: Allocator> LinkTimes<S> {
     // When the front item towards an end arrives; 0 where there is none.
     pub fn front(&self, to: End) -> u64
@@ -174,6 +198,21 @@ pub fn opening_links<A: SmallAllocator>(
         })?;
     }
     Ok(links)
+}
+
+// The same links, in memory of this allocator.
+pub fn copy_links<A: SmallAllocator>(
+    alloc: A,
+    links: &[LinkTimes<A>],
+) -> Result<Vec<LinkTimes<A>, A>, NoMemory>
+    ensures { IfOk result (λ copies. map link_of copies.items ≡ map link_of links.now) }
+{
+    let mut copies = Vec::new(alloc);
+    for link in links {
+        let copy = link.copy(alloc)?;
+        copies.push(copy)?;
+    }
+    Ok(copies)
 }
 
 // Makes room for what is about to be put.

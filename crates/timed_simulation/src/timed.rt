@@ -67,6 +67,16 @@ impl<A: SmallAllocator> TimedSimulation<A> {
         Ok(TimedSimulation { clocked, minima })
     }
 
+    /// An equal network in memory of this allocator, with what is on its way and the changes that are to be done:
+    /// what becomes of one of the two leaves the other as it is. It takes time and memory by all that stands in it.
+    pub fn copy(&self, alloc: A) -> Result<TimedSimulation<A>, NoMemory>
+        ensures { IfOk result (λ t. t ≡ self.now) }
+    {
+        let minima = self.minima.copy(alloc)?;
+        let clocked = self.clocked.copy(alloc)?;
+        Ok(TimedSimulation { clocked, minima })
+    }
+
     /// The network, its world, the images in force, and how many steps and messages there were.
     pub fn simulation(&self) -> &Simulation<A>
         ensures { result.now ≡ (self.now).simulation }

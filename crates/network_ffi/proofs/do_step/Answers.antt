@@ -1,10 +1,11 @@
 use Rattle.std.proofs.Common.{rules, ◌≡◌, Result, Ok, Err, Option, None, Some, IfErr, inr, sym, ap, subst}
-use Rattle.simulation.specs.Simulation.{Simulation}
 use Rattle.network_calls.specs.Calls.{HeldNeedsMemory, IsDoneOrFails, StepNeedsMemory, running_fault, step_fault}
 use Rattle.network_calls.specs.Failures.{failure_number, IsStatusOnlyByFailure}
+use Rattle.network_calls.specs.Running.{network_in}
 use Rattle.network_calls.specs.Steps.{step_of}
-use Rattle.network_ffi.specs.Handles.{handle_network}
 use Rattle.network_calls.specs.declared.failure.Failure.{Failure}
+use Rattle.network_calls.specs.declared.running.Going.{Going}
+use Rattle.network_ffi.specs.Handles.{handle_going}
 use Rattle.network_ffi.proofs.do_step.Goals as goal
 
 -- what a network refuses is told by its number
@@ -17,10 +18,10 @@ status_of Needs (Some e) (Err f) h = let inner : ◌≡◌ {A = Result (Unit {0}
 -- the network that did the step is the one that the handle held
 pub returns-clause-err : goal.returns-clause-err
 returns-clause-err c =
-    let b : Simulation = c.deref_mut.result.now in
-    let is_held : handle_network c.args.network.now ≡ Some b = search rules in
-    subst (λ (o : Option Simulation). IfErr c.read_and_step-outcome.result (λ f. IsStatusOnlyByFailure (step_fault c.args.parts o) (HeldNeedsMemory (step_of c.args.parts) o) (failure_number f))) (sym is_held)
-    (status_of (StepNeedsMemory (step_of c.args.parts) b.world) (running_fault c.args.parts b) c.read_and_step-outcome.result c.read_and_step-outcome.ensures.cause)
+    let b : Going = c.deref_mut.result.now in
+    let is_held : handle_going c.args.network.now ≡ Some b = search rules in
+    subst (λ (o : Option Going). IfErr c.read_and_step-outcome.result (λ f. IsStatusOnlyByFailure (step_fault c.args.parts o) (HeldNeedsMemory (step_of c.args.parts) o) (failure_number f))) (sym is_held)
+    (status_of (StepNeedsMemory (step_of c.args.parts) (network_in b).world) (running_fault c.args.parts b) c.read_and_step-outcome.result c.read_and_step-outcome.ensures.cause)
 
 pub returns-in-Err-clause-stepped : goal.returns-in-Err-clause-stepped
 returns-in-Err-clause-stepped c = search rules

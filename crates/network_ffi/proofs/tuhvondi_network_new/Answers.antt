@@ -1,22 +1,12 @@
-use Rattle.std.proofs.Common.{arith, inr, subst, rules}
-use Rattle.network_model.specs.Network.{program_limits, widest_limits, AreWithin}
-use Rattle.network_calls.specs.Parts.{list_fault, network_failure, IsOpeningFault}
+use Rattle.std.proofs.Common.{subst, rules}
+use Rattle.network_model.specs.Network.{program_limits}
+use Rattle.network_calls.specs.Parts.{IsFaultWithin}
 use Rattle.network_ffi.proofs.tuhvondi_network_new.Goals as goal
-
--- the program's limits are within the widest
-within : AreWithin program_limits widest_limits
-within = record { routers = omega arith; links = omega arith; ports = omega arith; prefixes = omega arith; attachments = omega arith }
-
-pub open-requires : goal.open-requires
-open-requires c = within
 
 pub returns-in-Err-clause-cause : goal.returns-in-Err-clause-cause
 returns-in-Err-clause-cause c = λ refused. record {
   failure = c.in-Err.failure;
-  cause = inr (
-    within,
-    subst (λ n. IsOpeningFault (list_fault c.args.links.now c.args.attachments.now) (network_failure program_limits n c.args.links.now c.args.attachments.now) (c.in-Err.failure, c.in-Err.at)) c.from.ensures c.in-Err.ensures.err,
-  );
+  cause = subst (λ n. IsFaultWithin program_limits n c.args.links.now c.args.attachments.now (c.in-Err.failure, c.in-Err.at)) c.from.ensures c.in-Err.ensures.err;
   number = c.number.ensures.number;
 }
 

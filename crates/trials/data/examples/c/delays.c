@@ -7,7 +7,7 @@
  * event, and after each event a packet is followed from each router. At the end it tells from the network's record
  * for how long routers were cut off, and for how long machines awaited replies.
  */
-#include <tuhvondi_timed.h>
+#include <tuhvondi_network.h>
 
 #include <inttypes.h>
 #include <stdio.h>
@@ -15,13 +15,13 @@
 
 enum { ROUTERS = 5, ADDRESS = 0x0a010203, SECOND = 1000000 };
 
-static struct tuhvondi_timed timed = TUHVONDI_NO_TIMED;
+static struct tuhvondi_network network = TUHVONDI_NO_NETWORK;
 
 static void need(uint32_t status)
 {
     if (status == TUHVONDI_DONE)
         return;
-    fprintf(stderr, "delays: refused with %" PRIu32 ": %s\n", status, tuhvondi_timed_status_text(status));
+    fprintf(stderr, "delays: refused with %" PRIu32 ": %s\n", status, tuhvondi_network_status_text(status));
     exit(1);
 }
 
@@ -33,14 +33,14 @@ static unsigned lost(void)
         uint16_t hops[ROUTERS];
         size_t passed;
         uint8_t end;
-        need(tuhvondi_timed_trace(&timed, router, ADDRESS, hops, ROUTERS, &passed, &end));
+        need(tuhvondi_network_trace(&network, router, ADDRESS, hops, ROUTERS, &passed, &end));
         count += end != TUHVONDI_DELIVERED;
     }
     return count;
 }
 
 /* How many spells of the record have ended, and how long the longest was. */
-static void tell(const char *what, uint32_t (*call)(struct tuhvondi_timed *, size_t, struct tuhvondi_spell *,
+static void tell(const char *what, uint32_t (*call)(struct tuhvondi_network *, size_t, struct tuhvondi_spell *,
                                                     size_t, size_t *, uint8_t *))
 {
     struct tuhvondi_spell spells[16];
@@ -48,7 +48,7 @@ static void tell(const char *what, uint32_t (*call)(struct tuhvondi_timed *, siz
     size_t count = 0, written;
     uint8_t more = 1;
     while (more) {
-        need(call(&timed, count, spells, 16, &written, &more));
+        need(call(&network, count, spells, 16, &written, &more));
         for (size_t i = 0; i < written; i++)
             if (spells[i].to - spells[i].from > longest)
                 longest = spells[i].to - spells[i].from;
@@ -66,11 +66,11 @@ static void change(uint64_t moment, uint16_t link, uint8_t kind)
     unsigned most_lost = 0;
     uint8_t rests = 0;
     size_t done;
-    need(tuhvondi_timed_at(&timed, moment, &step));
+    need(tuhvondi_network_at(&network, moment, &step));
     while (!rests) {
         unsigned before;
-        need(tuhvondi_timed_next(&timed, &next));
-        need(tuhvondi_timed_run_until(&timed, next.moment, 1, &done));
+        need(tuhvondi_network_next_event(&network, &next));
+        need(tuhvondi_network_run_until(&network, next.moment, 1, &done));
         before = lost();
         if (before > most_lost)
             most_lost = before;
@@ -78,9 +78,9 @@ static void change(uint64_t moment, uint16_t link, uint8_t kind)
             found = UINT64_MAX;
         else if (found == UINT64_MAX)
             found = next.moment;
-        need(tuhvondi_timed_is_at_rest(&timed, &rests));
+        need(tuhvondi_network_is_at_rest(&network, &rests));
     }
-    need(tuhvondi_timed_now(&timed, &now));
+    need(tuhvondi_network_now(&network, &now));
     printf("%2" PRIu64 " s: link %u %s: ", moment / SECOND, (unsigned)link,
            kind == TUHVONDI_LINK_UP ? "comes up" : "goes down");
     if (found == UINT64_MAX)
@@ -108,16 +108,16 @@ int main(void)
         delays[i].to_a = delays[i].to_b = (i + 1) * 1000;
         publications[i] = 2000;
     }
-    need(tuhvondi_timed_recorded(&limits, ROUTERS, links, ROUTERS, &owner, 1, delays, ROUTERS,
-                                 publications, ROUTERS, &place, &timed));
+    need(tuhvondi_network_with_delays(&limits, ROUTERS, links, ROUTERS, &owner, 1, delays, ROUTERS,
+                                      publications, ROUTERS, 1, &place, &network));
     for (uint16_t link = 0; link < ROUTERS; link++)
         change(++second * SECOND, link, TUHVONDI_LINK_UP);
     for (uint16_t link = 0; link < ROUTERS; link++) {
         change(++second * SECOND, link, TUHVONDI_LINK_DOWN);
         change(++second * SECOND, link, TUHVONDI_LINK_UP);
     }
-    tell("outages", tuhvondi_timed_outages);
-    tell("computations", tuhvondi_timed_computations);
-    tuhvondi_timed_free(&timed);
+    tell("outages", tuhvondi_network_outages);
+    tell("computations", tuhvondi_network_computations);
+    tuhvondi_network_free(&network);
     return 0;
 }

@@ -15,7 +15,7 @@ use Rattle.std.proofs.raw_atomic.Walks.{proved}
 use Rattle.std_heap.proofs.Global.TheLaws as heap_laws
 use Rattle.c_interface.proofs.Handles.{Heap, heap_bits, heap_fits, bits, leaves_result}
 use Rattle.network_ffi.proofs.Words.{Handle, fits, handle_had}
-use Rattle.network_calls.specs.Handles.{no_network}
+use Rattle.network_calls.specs.Handles.{nothing_held}
 use Rattle.network_ffi.specs.contracts.handle.NetworkHandle.none as f
 use Rattle.network_ffi.proofs.handle.NetworkHandle.none.Statement.{statement}
 use Rattle.network_ffi.proofs.handle.NetworkHandle.none.Code as code
@@ -30,7 +30,7 @@ none_spec 𝓤 𝓛 𝓜 𝓡 wired =
     f.Key.name code.function (code.unfolded 𝓤 𝓛.H 𝓜 𝓡 wired)
     (λ κs. ((λ _. heap_bits ∷ []), tt)) (λ κs. (heap_laws.lowers.val_is, tt)) (λ κs qs bounds a _ are.
     let y : (walk_of 𝓛 f.ended stayed c).Ghost = ((κs, qs, bounds, a, (heap_bits ∷ [], tt)), tt) in
-    let empty : Handle.Denot = record { network = null_ptr; holds = false; alloc = a.0; value = no_network } in
+    let empty : Handle.Denot = record { network = null_ptr; holds = false; alloc = a.0; value = nothing_held } in
     qed 𝓛 (raw (on_entry 𝓛 f.signature κs qs a y.0.4) ∷ raw (emp 𝓤) ∷ []) ∵ drop ! $ drop ! $
     enter ! _ _ _ _ _ $ alloc_all ! (λ l. pass_all ! refl (heap_fits, tt) $
     sets ! (agg ! (and_then ! (lit ! tt) (and_then ! (false_lit !) (and_then ! (get ! refl) (no_more !))))) refl (fits null_ptr false) $

@@ -1,4 +1,0 @@
-pub mod Words
-pub mod Crossing
-pub mod Given
-pub mod Going

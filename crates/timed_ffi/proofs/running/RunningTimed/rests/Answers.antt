@@ -1,8 +1,0 @@
-use Rattle.std.proofs.Common.{rules}
-use Rattle.timed_ffi.proofs.running.RunningTimed.rests.Goals as goal
-
-pub returns-then-is_at_rest : goal.returns-then-is_at_rest
-returns-then-is_at_rest c = search rules
-
-pub returns-else-is_at_rest : goal.returns-else-is_at_rest
-returns-else-is_at_rest c = search rules

@@ -1,5 +1,0 @@
-use Rattle.timed_ffi.proofs.Going.{AreWritten}
-use Rattle.timed_ffi.proofs.spells.write_going_on.Given as goal
-
-abbrev pub invariant-loop-place : goal.invariant-loop-place
-invariant-loop-place l = AreWritten l.all l.fn.spells l.spells l.place l.written

@@ -1,4 +1,0 @@
-pub mod Handles
-pub mod Parts
-pub mod Spells
-pub mod Calls
