@@ -27,7 +27,7 @@ use std::alloc::Global;
 
 /// Opens the network of so many routers, with these links and attachments, within these limits, at moment 0, and
 /// puts it into the handle; the network that the handle held is freed. There are delays for each link, and one
-/// for each router: how long it takes to publish. It keeps a record from then on, unless `record` is 0. If none is
+/// for each router: how long it takes to publish. It keeps a record from then on, unless `keeps_record` is 0. If none is
 /// opened, it answers why, and writes where that stands.
 #[unsafe(no_mangle)]
 pub extern "C" fn tuhvondi_network_with_delays(
@@ -38,7 +38,7 @@ pub extern "C" fn tuhvondi_network_with_delays(
     attachments: &[AttachmentParts],
     delays: &[DelayParts],
     publications: &[u64],
-    record: u8,
+    keeps_record: u8,
     place: &mut FaultPlace,
     network: &mut NetworkHandle,
 ) -> u32
@@ -47,7 +47,7 @@ pub extern "C" fn tuhvondi_network_with_delays(
     ensures lists { result ≡ 0 → list_fault links.now attachments.now ≡ None }
     ensures valid { result ≡ 0 → network_failure
         (limits_of limits.now) routers links.now attachments.now ≡ None }
-    ensures done { result ≡ 0 → MatchOption (handle_going network.new) ⊥ (IsTimedOpening (nat_lt 0 record)
+    ensures done { result ≡ 0 → MatchOption (handle_going network.new) ⊥ (IsTimedOpening (nat_lt 0 keeps_record)
         (parts_network routers links.now attachments.now) (map delays_of delays.now) publications.now) }
     ensures headline { result ≡ 0 → IfSome (handle_network network.new) HasHeadline }
     ensures place { result ≡ 0 → place.new ≡ place.old }
@@ -63,7 +63,7 @@ pub extern "C" fn tuhvondi_network_with_delays(
         attachments,
         delays,
         publications,
-        record > 0,
+        keeps_record > 0,
     ) {
         Ok(opened) => {
             opened.holds();

@@ -234,8 +234,9 @@ fn spell(router: u16, from: u64, to: u64, more: u8) -> Told {
 
 fn computations(alloc: Global, network: &mut NetworkHandle, from: usize) -> Told {
     let (mut it, mut count, mut more) = ([NO_SPELL], 9, 9);
-    let status =
-        tuhvondi_network_computations(alloc, network, from, &mut it, &mut count, &mut more);
+    let status = tuhvondi_network_computations(
+        alloc, network, from, &mut it, &mut count, &mut more,
+    );
     (status, it, count, more)
 }
 
@@ -282,8 +283,7 @@ fn a_record_is_kept(rt: HostRuntime) {
     equal(&rt, to_rest(alloc, &mut other), (0, 3, 50));
     equal(&rt, outages(alloc, &mut other, 0), spell(1, 3, 45, 0));
     let (mut count, mut more) = (9, 9);
-    let status =
-        tuhvondi_network_outages(alloc, &mut net, 0, &mut [], &mut count, &mut more);
+    let status = tuhvondi_network_outages(alloc, &mut net, 0, &mut [], &mut count, &mut more);
     equal(&rt, (status, count, more), (0, 0, 1));
     let gone = StepParts {
         addr: 0x0a00_0000,
