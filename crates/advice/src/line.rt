@@ -92,15 +92,11 @@ pub fn why_no_prefix<'a>(
     {
         return Some(why);
     }
-    let earlier = prefixes
-        .iter()
-        .take(position)
-        .position(|other| ends(other.as_str()) == (prefix, router));
-    Some(match earlier {
-        Some(place) => {
+    for (place, other) in prefixes.iter().take(position).enumerate() {
+        if ends(other.as_str()) == (prefix, router) {
             let before = "this router has the prefix already: prefixes ";
-            Why::of(before, Word::Number(place), "")
+            return Some(Why::of(before, Word::Number(place), ""));
         }
-        None => Why::plain("there are as many prefixes as there can be"),
-    })
+    }
+    Some(Why::plain("there are as many prefixes as there can be"))
 }
