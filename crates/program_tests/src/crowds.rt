@@ -1,46 +1,37 @@
 //! A network in which there is enough to publish for several control threads.
 
+use crate::commands::{MISSING, REPLAY};
 use crate::equal_to::equal;
+use crate::limits::push_attachments;
 use command_line::{Format, Words};
-use harness::{play_in_memory, run_in_memory};
+use harness::play_in_memory;
 use play::Host;
 use std::alloc::{AllocError, Global};
 use std::process::Abort;
 
-const LEAVES: u16 = 6;
-
 const PREFIXES: u16 = 4096;
+
+const NETWORK: &str = "routers = [\"r0\", \"a\", \"b\", \"c\", \"d\", \"e\", \"f\"]\n\
+    links = [\"r0 a 1 1\", \"r0 b 1 1\", \"r0 c 1 1\", \"r0 d 1 1\", \"r0 e 1 1\", \"r0 f 1 1\"]\n\
+    prefixes = [";
+
+const SCRIPT: &str = "]\nscript = [\
+    \"up r0 a\", \"up r0 b\", \"up r0 c\", \"up r0 d\", \"up r0 e\", \"up r0 f\", \"settle\", \
+    \"down r0 a\", \"down r0 b\", \"down r0 c\", \"down r0 d\", \"down r0 e\", \"down r0 f\", \"settle\", \
+    \"lookup a 10.0.0.1\"]\n";
 
 // A hub that is attached to all prefixes, and leaves that reach them over it. All links come up, and then
 // all go down at once: each leaf has as many rows to publish as there are prefixes.
-fn outage(alloc: Global) -> Result<String, AllocError> {
-    let mut text = String::new(alloc);
-    text.push_str("routers = [\"hub\",")?;
-    for leaf in 0..LEAVES {
-        write!(text, "\"leaf{leaf}\",")?;
-    }
-    text.push_str("]\nlinks = [")?;
-    for leaf in 0..LEAVES {
-        write!(text, "\"hub leaf{leaf} 1 1\",")?;
-    }
-    text.push_str("]\nprefixes = [")?;
-    for prefix in 0..PREFIXES {
-        write!(text, "\"10.{}.{}.0/24 hub\",", prefix / 256, prefix % 256)?;
-    }
-    text.push_str("]\nscript = [")?;
-    for command in ["up", "down"] {
-        for leaf in 0..LEAVES {
-            write!(text, "\"{command} hub leaf{leaf}\",")?;
-        }
-        text.push_str("\"settle\",")?;
-    }
-    text.push_str("\"lookup leaf0 10.0.0.1\"]\n")?;
-    Ok(text)
+fn push_outage(text: &mut String) -> Result<(), AllocError> {
+    text.push_str(NETWORK)?;
+    push_attachments(text, PREFIXES, PREFIXES, 1)?;
+    text.push_str(SCRIPT)
 }
 
 // Settles it by so many threads, and does the journal again.
 fn is_settled_by<H: Host + Abort>(rt: &H, alloc: Global, threads: u8) {
-    let text = outage(alloc).expect(rt, "memory");
+    let mut text = String::new(alloc);
+    push_outage(&mut text).expect(rt, "memory");
     let run = Words::Run {
         file: "",
         threads,
@@ -51,41 +42,19 @@ fn is_settled_by<H: Host + Abort>(rt: &H, alloc: Global, threads: u8) {
         format: Format::Text,
         progress: false,
     };
-    let ran = run_in_memory(rt, alloc, &run, text.as_bytes());
+    let ran = play_in_memory(rt, alloc, &run, text.as_bytes(), MISSING);
     equal(rt, ran.err.as_slice(), b"".as_slice());
     equal(rt, ran.status, 0);
-    assert!(rt;
-        ran.out
-            .starts_with(b"lookup leaf0 10.0.0.1: 10.0.0.0/24 unreachable\n")
-    );
-    let replay = Words::Replay {
-        file: "",
-        journal: "",
-        explain: false,
-        format: Format::Text,
-        progress: false,
-    };
-    let again = play_in_memory(rt, alloc, &replay, text.as_bytes(), ran.kept.as_slice());
+    let out = b"lookup a 10.0.0.1: 10.0.0.0/24 unreachable\n";
+    equal(rt, ran.out.starts_with(out), true);
+    let again = play_in_memory(rt, alloc, &REPLAY, text.as_bytes(), ran.kept.as_slice());
     equal(rt, again.err.as_slice(), b"".as_slice());
     equal(rt, again.status, 0);
 }
 
 #[test]
-fn one_thread_settles_a_crowd(rt: HostRuntime) {
-    is_settled_by(&rt, rt.alloc(), 1);
-}
-
-#[test]
-fn two_threads_settle_a_crowd(rt: HostRuntime) {
-    is_settled_by(&rt, rt.alloc(), 2);
-}
-
-#[test]
-fn four_threads_settle_a_crowd(rt: HostRuntime) {
-    is_settled_by(&rt, rt.alloc(), 4);
-}
-
-#[test]
-fn sixteen_threads_settle_a_crowd(rt: HostRuntime) {
-    is_settled_by(&rt, rt.alloc(), 16);
+fn a_crowd_is_settled(rt: HostRuntime) {
+    for threads in [1, 2, 4, 16] {
+        is_settled_by(&rt, rt.alloc(), threads);
+    }
 }

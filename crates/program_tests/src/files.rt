@@ -1,60 +1,22 @@
 //! Files that cannot be read or written, and texts that are not UTF-8.
 
+use crate::commands::{CHECK, MISSING, REPLAY, RUN, SHELL, TIME, tells};
 use crate::equal_to::equal;
-use command_line::{Format, Words, exit_status, not_utf8};
-use harness::{Outcome, play_in_memory, run_in_memory};
-use play::{Host, Source, play};
+use command_line::{exit_status, not_utf8};
+use play::{Host, play};
 use program_files::is_one_file;
 use std::alloc::Global;
 use std::io::{self, Read, Write};
 use std::process::Abort;
 
-pub const CHECK: Words<'static> = Words::Check {
-    file: "scenario.toml",
-    explain: false,
-};
-
-pub const RUN: Words<'static> = Words::Run {
-    file: "scenario.toml",
-    threads: 1,
-    workers: 1,
-    journal: None,
-    no_journal: false,
-    explain: false,
-    format: Format::Text,
-    progress: false,
-};
-
-const REPLAY: Words<'static> = Words::Replay {
-    file: "scenario.toml",
-    journal: "journal",
-    explain: false,
-    format: Format::Text,
-    progress: false,
-};
-
-pub const TIME: Words<'static> = Words::Time {
-    file: "scenario.toml",
-    times: "times.toml",
-    spells: false,
-    explain: false,
-    format: Format::Text,
-};
-
 const SCENARIO: &[u8] = b"routers = [\"a\"]\nlinks = []\nprefixes = [\"0.0.0.0/0 a\"]\n\
     script = [\"table a\", \"lookup a 0.0.0.0\", \"state a 0.0.0.0/0\", \"report\"]\n";
 
-// The fault is told, and nothing else is printed.
-pub fn tells(rt: &impl Abort, got: &Outcome, fault: &str) {
-    equal(rt, got.err.as_slice(), fault.as_bytes());
-    assert!(rt; got.out.is_empty());
-    assert!(rt; got.kept.is_empty());
-    equal(rt, got.status, 1);
-}
+const UNREADABLE: &str = "dualnet: 47 Unreadable\n";
 
 // A reader that gives one byte and then fails.
 #[derive(Drop)]
-pub struct Broken {
+struct Broken {
     given: bool,
 }
 
@@ -69,80 +31,53 @@ impl Read for Broken {
     }
 }
 
-pub const BROKEN: Broken = Broken { given: false };
-
-const MISSING: Source<io::Empty> = Source::Missing;
+const BROKEN: Broken = Broken { given: false };
 
 #[test]
-fn scenario_cannot_be_read(rt: HostRuntime) {
+fn what_cannot_be_read(rt: HostRuntime) {
     let alloc = rt.alloc();
-    tells(
-        &rt,
-        &run_in_memory(&rt, alloc, &CHECK, MISSING),
-        "dualnet: 47 Unreadable\n",
-    );
-    tells(
-        &rt,
-        &run_in_memory(&rt, alloc, &RUN, BROKEN),
-        "dualnet: 47 Unreadable\n",
-    );
-    tells(
-        &rt,
-        &run_in_memory(&rt, alloc, &RUN, b"\xff".as_slice()),
-        "dualnet: 40 BadToml\n",
-    );
+    tells(&rt, alloc, &CHECK, MISSING, MISSING, UNREADABLE);
+    tells(&rt, alloc, &RUN, BROKEN, MISSING, UNREADABLE);
+    tells(&rt, alloc, &REPLAY, SCENARIO, MISSING, UNREADABLE);
+    tells(&rt, alloc, &REPLAY, SCENARIO, BROKEN, UNREADABLE);
+    tells(&rt, alloc, &TIME, SCENARIO, MISSING, UNREADABLE);
+    tells(&rt, alloc, &TIME, SCENARIO, BROKEN, UNREADABLE);
+    tells(&rt, alloc, &SHELL, SCENARIO, BROKEN, UNREADABLE);
 }
 
 #[test]
-fn journal_cannot_be_read(rt: HostRuntime) {
+fn what_is_no_text(rt: HostRuntime) {
     let alloc = rt.alloc();
-    let got = play_in_memory(&rt, alloc, &REPLAY, SCENARIO, MISSING);
-    tells(&rt, &got, "dualnet: 47 Unreadable\n");
-    let got = play_in_memory(&rt, alloc, &REPLAY, SCENARIO, BROKEN);
-    tells(&rt, &got, "dualnet: 47 Unreadable\n");
-    let bytes = b"dualnet journal 2\nend\n\xff\n".as_slice();
-    let got = play_in_memory(&rt, alloc, &REPLAY, SCENARIO, bytes);
-    tells(&rt, &got, "dualnet: 48 BadJournal\n");
+    let no_text = b"\xff".as_slice();
+    let fault = "dualnet: 40 BadToml\n";
+    tells(&rt, alloc, &RUN, no_text, MISSING, fault);
+    let fault = "dualnet: 40 BadToml in the times\n";
+    tells(&rt, alloc, &TIME, SCENARIO, no_text, fault);
+    let journal = b"dualnet journal 2\nend\n\xff\n".as_slice();
+    let fault = "dualnet: 48 BadJournal\n";
+    tells(&rt, alloc, &REPLAY, SCENARIO, journal, fault);
 }
 
-#[test]
-fn times_cannot_be_read(rt: HostRuntime) {
-    let alloc = rt.alloc();
-    let got = play_in_memory(&rt, alloc, &TIME, SCENARIO, MISSING);
-    tells(&rt, &got, "dualnet: 47 Unreadable\n");
-    let got = play_in_memory(&rt, alloc, &TIME, SCENARIO, BROKEN);
-    tells(&rt, &got, "dualnet: 47 Unreadable\n");
-    let got = play_in_memory(&rt, alloc, &TIME, SCENARIO, b"\xff".as_slice());
-    tells(&rt, &got, "dualnet: 40 BadToml in the times\n");
-}
-
-// The last line of a journal may end without a line feed.
-#[test]
-fn journal_without_its_last_line_feed(rt: HostRuntime) {
-    let journal =
-        b"dualnet journal 2\nend\na gen 0 held 0 ripe 0 attach 0\na 0.0.0.0/0 passive RD 1 FD 1 local";
-    let got = play_in_memory(&rt, rt.alloc(), &REPLAY, SCENARIO, journal.as_slice());
-    equal(
-        &rt,
-        got.out.as_slice(),
-        b"replay agrees: 0 steps\n".as_slice(),
-    );
-    equal(&rt, got.status, 0);
-}
+// A path of a file, and whether it leads to `/dev/null`.
+static PATHS: [(&str, bool); 3] = [
+    ("/dev/../dev/null", true),
+    ("/dev/zero", false),
+    ("/dev/no-such-file", false),
+];
 
 #[test]
 fn one_file_by_two_paths(rt: HostRuntime) {
-    assert!(rt; is_one_file(&rt, "/dev/null", "/dev/../dev/null"));
-    assert!(rt; !is_one_file(&rt, "/dev/null", "/dev/zero"));
-    assert!(rt; !is_one_file(&rt, "/dev/null", "/dev/no-such-file"));
+    for (path, wanted) in &PATHS {
+        equal(&rt, is_one_file(&rt, "/dev/null", path), *wanted);
+    }
 }
 
 #[test]
 fn word_is_no_text(rt: HostRuntime) {
     let error = not_utf8(rt.alloc()).expect(&rt, "memory");
     let text = error.to_string(rt.alloc()).expect(&rt, "memory");
-    assert!(rt; text.starts_with("error: a word is not UTF-8"), "{text}");
-    assert!(rt; error.use_stderr());
+    equal(&rt, text.starts_with("error: a word is not UTF-8"), true);
+    equal(&rt, error.use_stderr(), true);
     equal(&rt, exit_status(&error), 1);
 }
 
@@ -160,10 +95,10 @@ impl Write for Closed {
     }
 }
 
-// The status of a run whose output is lost, and what is kept behind a line that was kept before.
-fn lost<H: Host + Abort>(rt: &H, alloc: Global, scenario: &[u8]) -> (u8, Vec<u8>) {
+// A run whose output is lost ends with this status, and this is kept behind a line that was kept before.
+fn loses<H: Host + Abort>(rt: &H, alloc: Global, scenario: &[u8], status: u8, wanted: &str) {
     let mut kept = vec![in alloc; b'k', b'\n'].expect(rt, "memory");
-    let status = play(
+    let ended = play(
         rt,
         alloc,
         &RUN,
@@ -174,21 +109,21 @@ fn lost<H: Host + Abort>(rt: &H, alloc: Global, scenario: &[u8]) -> (u8, Vec<u8>
         &mut kept,
         &mut None,
     );
-    (status, kept)
+    equal(rt, ended, status);
+    equal(rt, kept.as_slice(), wanted.as_bytes());
 }
 
-// What cannot be written is lost, and the status stays. A journal comes behind what was kept before, and of a run
-// that stops nothing is kept.
+const KEPT: &str = "k\ndualnet journal 2\nend\na gen 0 held 0 ripe 0 attach 0\n\
+    a 0.0.0.0/0 passive RD 1 FD 1 local\n";
+
+const REFUSED: &[u8] =
+    b"routers = [\"a\"]\nlinks = []\nprefixes = []\nscript = [\"table a\", \"publish a\"]\n";
+
+// What cannot be written is lost, and the status stays. Of a run that stops nothing is kept.
 #[test]
 fn writes_that_fail_leave_the_status(rt: HostRuntime) {
-    let refused =
-        b"routers = [\"a\"]\nlinks = []\nprefixes = []\nscript = [\"table a\", \"publish a\"]\n";
-    let (status, kept) = lost(&rt, rt.alloc(), SCENARIO);
-    equal(&rt, status, 0);
-    assert!(rt; kept.starts_with(b"k\ndualnet journal 2\nend\n"));
-    let (status, kept) = lost(&rt, rt.alloc(), refused.as_slice());
-    equal(&rt, status, 2);
-    equal(&rt, kept.as_slice(), b"k\n".as_slice());
-    let (status, _) = lost(&rt, rt.alloc(), b"x".as_slice());
-    equal(&rt, status, 1);
+    let alloc = rt.alloc();
+    loses(&rt, alloc, SCENARIO, 0, KEPT);
+    loses(&rt, alloc, REFUSED, 2, "k\n");
+    loses(&rt, alloc, b"x", 1, "k\n");
 }

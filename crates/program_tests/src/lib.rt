@@ -8,7 +8,7 @@
 //! ```text
 //!   files     files that cannot be read or written, and texts that are not UTF-8
 //!   limits    the largest file, network and script that are taken, and larger ones that are refused
-//!   texts_of_lines   lines with numbers that no run reaches
+//!   numbers   lines with numbers that no run reaches
 //!   written   what faults, costs and distances are written as
 //!   json      lines of JSON, read by another reader (`serde_json`)
 //!   shells    lines that are typed into a shell and are no text, and its answers as objects
@@ -16,11 +16,11 @@
 //!   crowds    a network of 4,096 prefixes, which 1, 2, 4 and 16 threads settle
 //! ```
 //!
-//! Most run the program in memory (`harness`), and look at what it gave:
+//! Most have the program do a command in memory (`harness`), and ask what it gave (`commands`):
 //!
 //! ```text
-//! let got = run_in_memory(&rt, alloc, &CHECK, MISSING);     // a scenario that cannot be read
-//! tells(&rt, &got, "dualnet: 47 Unreadable\n");             // printed nothing but this, and kept nothing
+//! prints(&rt, alloc, &RUN, scenario, MISSING, "done: 0 steps\n");    // printed this alone, and ended with 0
+//! tells(&rt, alloc, &CHECK, MISSING, MISSING, "dualnet: 47 Unreadable\n");    // told this fault alone
 //! ```
 //!
 //! What a test expects comes from the definitions, from the man page or from the plain model in `model`. It
@@ -33,6 +33,8 @@
 #![tactic(auto)]
 
 #[cfg(test)]
+mod commands;
+#[cfg(test)]
 mod crowds;
 #[cfg(test)]
 mod equal_to;
@@ -43,9 +45,9 @@ mod json;
 #[cfg(test)]
 mod limits;
 #[cfg(test)]
-mod shells;
+mod numbers;
 #[cfg(test)]
-mod texts_of_lines;
+mod shells;
 #[cfg(test)]
 mod views;
 #[cfg(test)]

@@ -1,20 +1,12 @@
 //! Lines that are typed into a shell and that no file of cases can hold.
 
+use crate::commands::SHELL;
 use crate::equal_to::equal;
-use crate::files::{BROKEN, tells};
-use crate::json::are_objects;
+use crate::json::prints_objects;
 use command_line::{Format, Words};
 use harness::play_in_memory;
 
-const SHELL: Words<'static> = Words::Shell {
-    file: "scenario.toml",
-    journal: None,
-    no_journal: false,
-    explain: false,
-    format: Format::Text,
-};
-
-const JSON: Words<'static> = Words::Shell {
+const OBJECTS: Words<'static> = Words::Shell {
     file: "scenario.toml",
     journal: None,
     no_journal: false,
@@ -32,29 +24,15 @@ const TYPED: &[u8] =
 #[test]
 fn a_line_that_is_no_text_ends_nothing(rt: HostRuntime) {
     let got = play_in_memory(&rt, rt.alloc(), &SHELL, SCENARIO, TYPED);
-    equal(
-        &rt,
-        got.out.as_slice(),
-        b"\"\\\x01\nb 10.0.0.0/8 via a 1\ndone: 9 steps\n".as_slice(),
-    );
-    equal(
-        &rt,
-        got.err.as_slice(),
-        b"dualnet: 45 BadCommand\ndualnet: 45 BadCommand\ndualnet: 45 BadCommand\n".as_slice(),
-    );
+    let out = b"\"\\\x01\nb 10.0.0.0/8 via a 1\ndone: 9 steps\n".as_slice();
+    let err =
+        b"dualnet: 45 BadCommand\ndualnet: 45 BadCommand\ndualnet: 45 BadCommand\n".as_slice();
+    equal(&rt, got.out.as_slice(), out);
+    equal(&rt, got.err.as_slice(), err);
     equal(&rt, got.status, 0);
 }
 
 #[test]
 fn each_line_is_answered_by_an_object(rt: HostRuntime) {
-    let got = play_in_memory(&rt, rt.alloc(), &JSON, SCENARIO, TYPED);
-    equal(&rt, are_objects(&rt, rt.alloc(), &got.out), 9);
-    assert!(rt; got.err.is_empty());
-    equal(&rt, got.status, 0);
-}
-
-#[test]
-fn what_is_typed_cannot_be_read(rt: HostRuntime) {
-    let got = play_in_memory(&rt, rt.alloc(), &SHELL, SCENARIO, BROKEN);
-    tells(&rt, &got, "dualnet: 47 Unreadable\n");
+    prints_objects(&rt, rt.alloc(), &OBJECTS, SCENARIO, TYPED, 9);
 }

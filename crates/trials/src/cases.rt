@@ -14,7 +14,8 @@
 //!     status N    the exit status; where it is missing, 0
 //!
 //! Where the text of `out` or `err` ends with `..` and a line feed, it is met by each text that begins
-//! like it. The journal of a run or a shell that ends with status 0 has to be replayed with status 0.
+//! like it. The text of a case's last block has no line feed at its end if no empty line follows. The
+//! journal of a run or a shell that ends with status 0 has to be replayed with status 0.
 
 use crate::asking::{Case, is_right};
 use crate::fault_files::do_faults;
