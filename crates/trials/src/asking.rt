@@ -1,8 +1,9 @@
 //! Does what a case asks, and tells where it gives something else. Where it asks for several threads, these are
 //! started whenever there is something to publish: the networks of cases reach no threshold of the program.
 
+use crate::examples::REPLAY;
 use advice::explain;
-use command_line::{Error, Format, Words, exit_status, read_words};
+use command_line::{Error, Words, exit_status, read_words};
 use harness::case::{Given, Verdict, Wanted, judge};
 use harness::{Outcome, play_in_memory, play_in_memory_by};
 use play::{Host, NO_THRESHOLDS, NoGate};
@@ -116,29 +117,16 @@ fn replay_status<H: Host>(
     scenario: &[u8],
     ran: &Outcome,
 ) -> u8 {
-    let file = match *asked {
+    match *asked {
         Words::Run {
-            file,
             no_journal: false,
             ..
-        } => Some(file),
-        Words::Shell {
-            file,
+        }
+        | Words::Shell {
             no_journal: false,
             ..
-        } => Some(file),
-        _ => None,
-    };
-    match file {
-        Some(file) if ran.status == 0 => {
-            let again = Words::Replay {
-                file,
-                journal: "",
-                explain: false,
-                format: Format::Text,
-                progress: false,
-            };
-            play_in_memory(wait, alloc, &again, scenario, ran.kept.as_slice()).status
+        } if ran.status == 0 => {
+            play_in_memory(wait, alloc, &REPLAY, scenario, ran.kept.as_slice()).status
         }
         _ => 0,
     }

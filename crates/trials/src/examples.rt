@@ -11,6 +11,35 @@ use std::alloc::{AllocError, Global};
 use std::fs;
 use std::io::{self, Write};
 
+/// A run by one thread.
+pub const RUN: Words<'static> = Words::Run {
+    file: "",
+    threads: 1,
+    workers: 1,
+    journal: None,
+    no_journal: false,
+    explain: false,
+    format: Format::Text,
+    progress: false,
+};
+
+/// The replay of a journal.
+pub const REPLAY: Words<'static> = Words::Replay {
+    file: "",
+    journal: "",
+    explain: false,
+    format: Format::Text,
+    progress: false,
+};
+
+const SHELL: Words<'static> = Words::Shell {
+    file: "",
+    journal: None,
+    no_journal: false,
+    explain: false,
+    format: Format::Text,
+};
+
 /// Whether the example of this scenario's file is as it should be; tells what is found of it.
 pub fn is_example_right<H: Host, W: Write>(
     rt: &HostRuntime,
@@ -26,55 +55,35 @@ pub fn is_example_right<H: Host, W: Write>(
     verdict == Verdict::IsAsItShouldBe
 }
 
-// Runs a scenario, does the commands of its script in a shell, and replays its journal.
-fn try_example<H: Host>(rt: &HostRuntime, wait: &H, scenario: &str) -> io::Result<Verdict> {
+// Reads a scenario, and what it should print, and tries it.
+fn try_example<H: Host>(rt: &HostRuntime, wait: &H, file: &str) -> io::Result<Verdict> {
     let alloc = rt.alloc();
-    let name = scenario.strip_suffix(".toml").unwrap_or(scenario);
+    let name = file.strip_suffix(".toml").unwrap_or(file);
     let output = format!(in alloc; "{name}.out")?;
     let wanted = fs::read(rt, output.as_str())?;
-    let run = Words::Run {
-        file: scenario,
-        threads: 1,
-        workers: 1,
-        journal: None,
-        no_journal: false,
-        explain: false,
-        format: Format::Text,
-        progress: false,
-    };
-    let file = fs::open(rt, scenario)?;
-    let ran = run_in_memory(wait, alloc, &run, file);
-    let replay = Words::Replay {
-        file: scenario,
-        journal: "",
-        explain: false,
-        format: Format::Text,
-        progress: false,
-    };
-    let file = fs::open(rt, scenario)?;
-    let replayed = play_in_memory(wait, alloc, &replay, file, ran.kept.as_slice());
-    let text = fs::read_to_string(rt, scenario)?;
-    let typed = shell_input(alloc, text.as_str())?;
-    let shell = Words::Shell {
-        file: scenario,
-        journal: None,
-        no_journal: false,
-        explain: false,
-        format: Format::Text,
-    };
-    let file = fs::open(rt, scenario)?;
-    let shown = play_in_memory(wait, alloc, &shell, file, typed.as_bytes());
-    Ok(judge(&ran, &shown, &wanted, &replayed))
+    let scenario = fs::read_to_string(rt, file)?;
+    let typed = shell_input(alloc, scenario.as_str())?;
+    Ok(try_texts(wait, alloc, scenario.as_bytes(), typed.as_bytes(), &wanted))
+}
+
+// Runs a scenario, types these lines into a shell of it, and replays the run's journal.
+fn try_texts<H: Host>(
+    wait: &H,
+    alloc: Global,
+    scenario: &[u8],
+    typed: &[u8],
+    wanted: &[u8],
+) -> Verdict {
+    let ran = run_in_memory(wait, alloc, &RUN, scenario);
+    let replayed = play_in_memory(wait, alloc, &REPLAY, scenario, ran.kept.as_slice());
+    let shown = play_in_memory(wait, alloc, &SHELL, scenario, typed);
+    judge(&ran, &shown, wanted, &replayed)
 }
 
 // The lines of a scenario's script, as they are typed into a shell; none where it is no scenario.
 fn shell_input(alloc: Global, text: &str) -> Result<String, AllocError> {
-    let mut typed = String::new(alloc);
-    if let Ok(lines) = read_scenario(alloc, text) {
-        for line in &lines.script {
-            typed.push_str(line.as_str())?;
-            typed.push('\n')?;
-        }
+    match read_scenario(alloc, text) {
+        Ok(lines) => lines.script.join(alloc, "\n"),
+        Err(_) => Ok(String::new(alloc)),
     }
-    Ok(typed)
 }

@@ -1,6 +1,6 @@
 //! Random scenarios.
 
-ghost use Rattle.std.specs.Prelude.{◌<◌, ◌≤◌};
+ghost use Rattle.std.specs.Prelude.{◌<◌, ◌≤◌, IfOk, length};
 
 use std::alloc::{AllocError, Global};
 
@@ -25,6 +25,41 @@ pub const ADDRESSES: [&str; 5] = [
     "192.0.2.1",
 ];
 
+const COSTS: [&str; 9] = ["1", "2", "3", "4", "5", "6", "7", "8", "9"];
+
+// Commands, each as often as it is likely: of a router R, an address A, a prefix P, a cost C, and the two ends F and T of a
+// link. One that may be refused is tried.
+static COMMANDS: [&str; 28] = [
+    "settle",
+    "settle",
+    "settle",
+    "drain",
+    "inject R A",
+    "inject R A",
+    "inject R A",
+    "inject R A",
+    "try publish R",
+    "try publish R",
+    "try release R",
+    "try release R",
+    "try up F T",
+    "try up F T",
+    "try up F T",
+    "try up F T",
+    "try down F T",
+    "try down F T",
+    "try cost F T C",
+    "try cost F T C",
+    "try deliver F T",
+    "try deliver F T",
+    "try deliver F T",
+    "try deliver F T",
+    "try attach R P C",
+    "try attach R P C",
+    "try detach R P",
+    "try deliver R R",
+];
+
 // Numbers that look random: a sum of odd constants, mixed (SplitMix64 of Steele, Lea and Flood).
 #[derive(Drop)]
 struct Dice {
@@ -44,6 +79,13 @@ impl Dice {
         word ^= word >> 31;
         ((word >> 32) as usize) % bound
     }
+
+    // One of these.
+    fn one_of(&mut self, words: &[&'static str]) -> &'static str
+        requires { 0 < length words.now }
+    {
+        words[self.below(words.len())]
+    }
 }
 
 /// A scenario of so many routers.
@@ -54,130 +96,144 @@ pub struct Scenario {
     ghost few: { routers ≤ 8 },
 }
 
+// Two routers.
+type Pair = (&'static str, &'static str);
+
 /// The scenario of this seed: 3 to 8 routers, links between half of all pairs, 2 to 5 prefixes, to each
 /// of which one router or two are attached, and 200 commands, none of which ends the run.
 pub fn draw(alloc: Global, seed: u64) -> Result<Scenario, AllocError> {
+    let (mut text, mut links) = (String::new(alloc), Vec::new(alloc));
+    let routers = write_scenario(seed, &mut text, &mut links)?;
+    Ok(Scenario { text, routers })
+}
+
+// Writes it, and gives how many routers it has, and which have links.
+fn write_scenario(seed: u64, text: &mut String, links: &mut Vec<Pair>) -> Result<u8, AllocError>
+    ensures { IfOk result (λ r. r ≤ 8) }
+{
     let mut dice = Dice { state: seed };
-    let mut text = String::new(alloc);
     let routers = 3 + dice.below(6);
     text.push_str("routers = [")?;
-    for router in 0..routers {
-        write!(&mut text, "\"{}\", ", NAMES[router])?;
+    for name in &NAMES[..routers] {
+        push(text, &["\"", *name, "\", "])?;
     }
     text.push_str("]\nlinks = [")?;
-    let links = link(alloc, &mut dice, routers, &mut text)?;
+    link(&mut dice, routers, text, links)?;
     text.push_str("]\nprefixes = [")?;
     let prefixes = 2 + dice.below(4);
-    for prefix in 0..prefixes {
-        attach(&mut dice, routers, PREFIXES[prefix], &mut text)?;
+    for prefix in &PREFIXES[..prefixes] {
+        attach(&mut dice, routers, *prefix, text)?;
     }
     text.push_str("]\nscript = [\n")?;
     for _ in 0..200u8 {
-        command(&mut dice, routers, prefixes, &links, &mut text)?;
+        command(&mut dice, routers, prefixes, links, text)?;
     }
     text.push_str("]\n")?;
-    Ok(Scenario {
-        text,
-        routers: routers as u8,
-    })
+    Ok(routers as u8)
 }
 
-// Links between about half of all pairs of routers, at costs of 1 to 9, and the names of their ends.
+/// Writes these texts one behind the other.
+pub fn push(text: &mut String, parts: &[&'static str]) -> Result<(), AllocError> {
+    for part in parts {
+        text.push_str(part)?;
+    }
+    Ok(())
+}
+
+// Links between about half of all pairs of routers, at costs of 1 to 9.
 fn link(
-    alloc: Global,
     dice: &mut Dice,
     routers: usize,
     text: &mut String,
-) -> Result<Vec<(&'static str, &'static str)>, AllocError>
+    links: &mut Vec<Pair>,
+) -> Result<(), AllocError>
     requires { routers ≤ 8 }
 {
-    let mut links = Vec::new(alloc);
     for one in 0..routers {
         for other in one + 1..routers {
             if dice.below(2) == 0 {
-                let costs = (1 + dice.below(9), 1 + dice.below(9));
-                write!(
+                let (one, other) = (NAMES[one], NAMES[other]);
+                let (there, back) = (dice.one_of(&COSTS), dice.one_of(&COSTS));
+                push(
                     text,
-                    "\"{} {} {} {}\", ",
-                    NAMES[one], NAMES[other], costs.0, costs.1
+                    &["\"", one, " ", other, " ", there, " ", back, "\", "],
                 )?;
-                links.push((NAMES[one], NAMES[other]))?;
+                links.push((one, other))?;
             }
         }
     }
-    Ok(links)
+    Ok(())
 }
 
 // One attachment of a prefix, or two at routers beside each other, at costs of 1 to 9.
 fn attach(
     dice: &mut Dice,
     routers: usize,
-    prefix: &str,
+    prefix: &'static str,
     text: &mut String,
 ) -> Result<(), AllocError>
     requires { (0 < routers) × (routers ≤ 8) }
 {
     let first = dice.below(routers);
-    let cost = 1 + dice.below(9);
-    write!(text, "\"{prefix} {} {cost}\", ", NAMES[first])?;
+    let cost = dice.one_of(&COSTS);
+    push(text, &["\"", prefix, " ", NAMES[first], " ", cost, "\", "])?;
     let second = (first + 1) % routers;
     if second != first && dice.below(2) == 0 {
-        let cost = 1 + dice.below(9);
-        write!(text, "\"{prefix} {} {cost}\", ", NAMES[second])?;
+        let cost = dice.one_of(&COSTS);
+        push(text, &["\"", prefix, " ", NAMES[second], " ", cost, "\", "])?;
     }
     Ok(())
 }
 
-// One command. One that may be refused is tried.
+// The two ends of a link, from either; none if there is no link.
+fn ends_of_one(dice: &mut Dice, links: &[Pair]) -> Option<Pair> {
+    if links.is_empty() {
+        return None;
+    }
+    let (one, other) = links[dice.below(links.len())];
+    if dice.below(2) == 0 {
+        Some((one, other))
+    } else {
+        Some((other, one))
+    }
+}
+
+// One command, or none if it would be of a link and there is none.
 fn command(
     dice: &mut Dice,
     routers: usize,
     prefixes: usize,
-    links: &[(&str, &str)],
+    links: &[Pair],
     text: &mut String,
 ) -> Result<(), AllocError>
     requires routers { (0 < routers) × (routers ≤ 8) }
     requires prefixes { (0 < prefixes) × (prefixes ≤ 5) }
 {
     let router = NAMES[dice.below(routers)];
-    let kind = dice.below(28);
-    match kind {
-        0..=2 => return writeln!(text, "\"settle\","),
-        3 => return writeln!(text, "\"drain\","),
-        4..=7 => {
-            let addr = ADDRESSES[dice.below(ADDRESSES.len())];
-            return writeln!(text, "\"inject {router} {addr}\",");
-        }
-        8 | 9 => return writeln!(text, "\"try publish {router}\","),
-        10 | 11 => return writeln!(text, "\"try release {router}\","),
-        24 | 25 => {
-            let prefix = PREFIXES[dice.below(prefixes)];
-            let cost = 1 + dice.below(9);
-            return writeln!(text, "\"try attach {router} {prefix} {cost}\",");
-        }
-        26 => {
-            let prefix = PREFIXES[dice.below(prefixes)];
-            return writeln!(text, "\"try detach {router} {prefix}\",");
-        }
-        27 => return writeln!(text, "\"try deliver {router} {router}\","),
-        _ => {}
-    }
-    if links.is_empty() {
-        return Ok(());
-    }
-    let (one, other) = links[dice.below(links.len())];
-    let ends = if dice.below(2) == 0 {
-        (one, other)
+    let command = dice.one_of(&COMMANDS);
+    let ends = if command.contains('F') {
+        ends_of_one(dice, links)
     } else {
-        (other, one)
+        Some(("", ""))
     };
-    match kind {
-        12..=15 => writeln!(text, "\"try up {} {}\",", ends.0, ends.1),
-        16 | 17 => writeln!(text, "\"try down {} {}\",", ends.0, ends.1),
-        18 | 19 => {
-            let cost = 1 + dice.below(9);
-            writeln!(text, "\"try cost {} {} {cost}\",", ends.0, ends.1)
-        }
-        _ => writeln!(text, "\"try deliver {} {}\",", ends.0, ends.1),
+    let Some((from, to)) = ends else {
+        return Ok(());
+    };
+    text.push('"')?;
+    for letter in command.chars() {
+        let word = match letter {
+            'R' => router,
+            'A' => dice.one_of(&ADDRESSES),
+            'P' => dice.one_of(&PREFIXES[..prefixes]),
+            'C' => dice.one_of(&COSTS),
+            'F' => from,
+            'T' => to,
+            _ => {
+                text.push(letter)?;
+                continue;
+            }
+        };
+        text.push_str(word)?;
     }
+    text.push_str("\",\n")
 }

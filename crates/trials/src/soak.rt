@@ -3,6 +3,7 @@
 //! something to publish, since such networks reach no threshold of the program. The seed is printed first,
 //! then the text of each scenario that does not end as it should, and then how many threads did steps.
 
+use crate::examples::{REPLAY, RUN};
 use crate::random::{Scenario, draw};
 use crate::traces::{PART, are_straight, step_lines, trace_all};
 use command_line::{Format, Words};
@@ -114,6 +115,17 @@ pub fn are_scenarios_good<H: Host + Clock, W: Write>(
     count > 0 && good == count
 }
 
+const RUN_BY_THREADS: Words<'static> = Words::Run {
+    file: "",
+    threads: THREADS,
+    workers: WORKERS,
+    journal: None,
+    no_journal: false,
+    explain: false,
+    format: Format::Text,
+    progress: false,
+};
+
 // Whether a scenario is run to its end, what its journal tells is done again, and no packet that is
 // traced after a step of it meets a router twice.
 fn try_scenario<H: Host + Clock>(
@@ -122,29 +134,12 @@ fn try_scenario<H: Host + Clock>(
     turnout: &Turnout<'_, H>,
     scenario: &Scenario,
 ) -> Result<bool, AllocError> {
-    let words = Words::Run {
-        file: "",
-        threads: THREADS,
-        workers: WORKERS,
-        journal: None,
-        no_journal: false,
-        explain: false,
-        format: Format::Text,
-        progress: false,
-    };
-    let text = scenario.text.as_bytes();
+    let (words, text) = (&RUN_BY_THREADS, scenario.text.as_bytes());
     let missing: Source<io::Empty> = Source::Missing;
-    let ran = play_in_memory_by(rt, alloc, NO_THRESHOLDS, turnout, &words, text, missing);
-    let words = Words::Replay {
-        file: "",
-        journal: "",
-        explain: false,
-        format: Format::Text,
-        progress: false,
-    };
-    let replayed = play_in_memory(rt, alloc, &words, text, ran.kept.as_slice());
+    let ran = play_in_memory_by(rt, alloc, NO_THRESHOLDS, turnout, words, text, missing);
+    let replayed = play_in_memory(rt, alloc, &REPLAY, text, ran.kept.as_slice()).status;
     let straight = is_straight(rt, alloc, scenario, &ran.kept)?;
-    Ok(is_good(ran.status, replayed.status, straight))
+    Ok(is_good(ran.status, replayed, straight))
 }
 
 // Whether the steps of a journal are done again with traces after each, none of which meets a router
@@ -155,39 +150,40 @@ fn is_straight<H: Host>(
     scenario: &Scenario,
     journal: &[u8],
 ) -> Result<bool, AllocError> {
-    let Ok(journal) = str::from_utf8(journal) else {
-        return Ok(false);
+    let steps = match str::from_utf8(journal) {
+        Ok(journal) => step_lines(journal),
+        Err(_) => None,
     };
-    let Some(steps) = step_lines(journal) else {
+    let Some(steps) = steps else {
         return Ok(false);
     };
     let last = steps.lines().count().saturating_sub(1) / PART;
     for part in 0..=last {
-        let Some(text) = trace_all(alloc, scenario, steps, part)? else {
-            return Ok(false);
-        };
-        if !is_run_straight(rt, alloc, &text) {
+        if !is_part_straight(rt, alloc, scenario, steps, part)? {
             return Ok(false);
         }
     }
     Ok(true)
 }
 
+fn is_part_straight<H: Host>(
+    rt: &H,
+    alloc: Global,
+    scenario: &Scenario,
+    steps: &str,
+    part: usize,
+) -> Result<bool, AllocError> {
+    match trace_all(alloc, scenario, steps, part)? {
+        Some(text) => Ok(is_run_straight(rt, alloc, &text)),
+        None => Ok(false),
+    }
+}
+
 // Whether a script comes to its end, and prints traces, none of which meets a router twice.
 fn is_run_straight<H: Host>(rt: &H, alloc: Global, text: &str) -> bool {
-    let words = Words::Run {
-        file: "",
-        threads: 1,
-        workers: 1,
-        journal: None,
-        no_journal: false,
-        explain: false,
-        format: Format::Text,
-        progress: false,
-    };
-    let ran = run_in_memory(rt, alloc, &words, text.as_bytes());
-    let Ok(out) = str::from_utf8(&ran.out) else {
-        return false;
-    };
-    ran.status == 0 && are_straight(out)
+    let ran = run_in_memory(rt, alloc, &RUN, text.as_bytes());
+    match str::from_utf8(&ran.out) {
+        Ok(out) => ran.status == 0 && are_straight(out),
+        Err(_) => false,
+    }
 }

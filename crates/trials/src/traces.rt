@@ -1,6 +1,8 @@
 //! Traces after each step of a journal.
 
-use crate::random::{ADDRESSES, NAMES, Scenario};
+ghost use Rattle.std.specs.Prelude.{◌≤◌};
+
+use crate::random::{ADDRESSES, NAMES, Scenario, push};
 use std::alloc::{AllocError, Global};
 
 /// How many steps of a journal one script traces: a script has at most 10,000 commands.
@@ -24,30 +26,41 @@ pub fn trace_all(
     let Some((network, _)) = scenario.text.split_once("script = [") else {
         return Ok(None);
     };
+    let mut text = String::new(alloc);
+    text.push_str(network)?;
+    push_steps(&mut text, scenario.routers, steps, part)?;
+    Ok(Some(text))
+}
+
+// The script: the steps up to those of this part, and the traces after each of these.
+fn push_steps(text: &mut String, routers: u8, steps: &str, part: usize) -> Result<(), AllocError>
+    requires { routers ≤ 8 }
+{
     let first = part.saturating_mul(PART);
     let past = first.saturating_add(PART);
-    let mut text = String::new(alloc);
-    write!(&mut text, "{network}script = [\n")?;
-    let mut place = 0usize;
-    for step in steps.lines() {
+    text.push_str("script = [\n")?;
+    for (place, step) in steps.lines().enumerate() {
         if place >= past {
             break;
         }
-        writeln!(&mut text, "\"{step}\",")?;
+        text.push_str("\"")?;
+        text.push_str(step)?;
+        text.push_str("\",\n")?;
         if place >= first {
-            let addr = ADDRESSES[place % ADDRESSES.len()];
-            for router in 0..scenario.routers {
-                writeln!(
-                    &mut text,
-                    "\"trace {} {addr}\",",
-                    NAMES[usize::from(router)]
-                )?;
-            }
+            push_traces(text, routers, ADDRESSES[place % ADDRESSES.len()])?;
         }
-        place = place.saturating_add(1);
     }
-    text.push_str("]\n")?;
-    Ok(Some(text))
+    text.push_str("]\n")
+}
+
+// A trace for an address from each router.
+fn push_traces(text: &mut String, routers: u8, addr: &'static str) -> Result<(), AllocError>
+    requires { routers ≤ 8 }
+{
+    for name in &NAMES[..usize::from(routers)] {
+        push(text, &["\"trace ", *name, " ", addr, "\",\n"])?;
+    }
+    Ok(())
 }
 
 /// Whether traces were printed, and none of them meets a router twice.
