@@ -174,28 +174,36 @@ fn measure<B: FabricName + Send + Sync, R: Threads + Wait + Sync>(
     requires rows { image.rows ≡ opening_of B.openings 0 }
 {
     let (mut writer, readers) = open::<B, _, R>(rt, alloc, unnamed, 0, image, workers).ok()?;
-    let told = writer.tell();
-    let Ok(mut lanes) = lanes_of(alloc, readers) else {
-        writer.close(rt);
-        return None;
+    let measured = match lanes_of(alloc, readers) {
+        Ok(mut lanes) => Some(race(rt, alloc, &mut writer, lanes.as_mut_slice(), answers)),
+        Err(_) => None,
     };
+    writer.close(rt);
+    measured
+}
+
+// Lets all workers answer while the writer publishes.
+fn race<B: FabricName + Send + Sync, R: Threads + Wait + Sync>(
+    rt: &R,
+    alloc: Global,
+    writer: &mut ImageWriter<B>,
+    lanes: &mut [Lane<B>],
+    answers: u32,
+) -> (u64, u64)
+    requires { writer.old.waiting ≡ [] }
+{
+    let told = writer.tell();
     let stop = AtomicBool::new(false);
-    let threads = lanes.len();
-    if threads == 0 {
-        writer.close(rt);
-        return None;
-    }
+    let threads = lanes.len().max(1);
     let (published, ()) = thread::join(
         rt,
-        ||
-            requires { writer.waiting ≡ [] }
-        { publish_until(rt, alloc, &mut writer, &stop) },
+        || publish_until(rt, alloc, writer, &stop),
         ||
             requires { 0 < threads }
         {
             thread::for_each_mut(
                 rt,
-                lanes.as_mut_slice(),
+                lanes,
                 threads,
                 &|_, lane| {
                     lane.run(&told, answers);
@@ -204,10 +212,9 @@ fn measure<B: FabricName + Send + Sync, R: Threads + Wait + Sync>(
             stop.store(true, Ordering::SeqCst);
         },
     );
-    writer.close(rt);
     let mut answered = 0u64;
-    for lane in lanes.as_slice() {
+    for lane in lanes {
         answered = answered.saturating_add(lane.answered);
     }
-    Some((answered, published))
+    (answered, published)
 }
