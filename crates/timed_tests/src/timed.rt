@@ -1,17 +1,15 @@
 //! Networks in simulated time. Which events are done, and when, is worked out by hand from the delays.
 
-ghost use Rattle.std.specs.Prelude.{◌≡◌, length, false};
-ghost use Rattle.coming_to_rest.specs.Worlds.{is_own};
+ghost use Rattle.std.specs.Prelude.{◌≡◌, length, IfSome};
 
 use crate::equal_to::equal;
-use network_model::SmallAllocator;
+use network_model::{Entry, SmallAllocator};
 use std::alloc::Global;
 use std::fmt;
 use std::fmt::Write;
-use std::process::Abort;
 use test_support::{Refused, Refusing, ten, two_routers};
 use timed_simulation::{
-    Event, LinkDelays, Network, Refusal, Step, TimeFault, TimedRan, TimedSimulation, is_change,
+    LinkDelays, Network, Refusal, Step, TimeFault, TimedRan, TimedSimulation, is_change,
 };
 
 // More allocations than a call makes.
@@ -20,151 +18,211 @@ const MOST: u64 = 4096;
 // An address of 10.0.0.0/8.
 const ADDR: u32 = 0x0A00_0001;
 
+// An item is 5 microseconds on its way to router 0 and 7 to router 1.
+pub const DELAYS: LinkDelays = LinkDelays { to_a: 5, to_b: 7 };
+
+// The routers publish 10 and 20 microseconds after they have something to publish.
+pub const PUBLICATIONS: [u64; 2] = [10, 20];
+
+// What is done, and what comes of it; or what is shown then.
+enum Act {
+    // A change is given for a moment.
+    At(u64, Step, Result<(), TimeFault>),
+    // The next event is done by itself: when, and its step.
+    Next(u64, Step),
+    // What is due up to a moment is done, or all: so many events, up to this fault.
+    Until(u64, usize, Option<TimeFault>),
+    ToRest(usize, Option<TimeFault>),
+    // The first change is taken off the list.
+    Withdraw(Option<(u64, Step)>),
+    // The moment, how many changes are left, and whether nothing is left to do.
+    Is(u64, usize, bool),
+    // How many steps were done, and what router 1 answers: of which generation, and the entry of 10.0.0.0/8.
+    Finds(u64, u64, Option<Entry>),
+}
+
+fn does_next(timed: &mut TimedSimulation, moment: u64, step: Step) -> bool {
+    let Some(next) = timed.next_event() else {
+        return false;
+    };
+    let ran = timed.run_until(moment, 1);
+    (next.moment, next.step, next.given) == (moment, step, is_change(&step))
+        && (ran.done, ran.fault, timed.now()) == (1, None, moment)
+}
+
+fn withdraws(timed: &mut TimedSimulation, wanted: Option<(u64, Step)>) -> bool {
+    match (timed.withdraw(), wanted) {
+        (Some(change), Some(wanted)) => (change.moment, change.step) == wanted,
+        (change, wanted) => change == None && wanted == None,
+    }
+}
+
+fn finds(timed: &TimedSimulation, steps: u64, generation: u64, entry: Option<Entry>) -> bool {
+    let matched = match entry {
+        Some(entry) => Some((ten(), entry)),
+        None => None,
+    };
+    let simulation = timed.simulation();
+    match simulation.lookup(1, ADDR) {
+        Some(answer) => {
+            (simulation.steps(), answer.generation, answer.matched) == (steps, generation, matched)
+        }
+        None => false,
+    }
+}
+
+// Does it. Whether this comes of it.
+fn goes(timed: &mut TimedSimulation, act: &Act) -> bool {
+    match *act {
+        Act::At(moment, step, wanted) => is_change(&step) && timed.at(moment, step) == wanted,
+        Act::Next(moment, step) => does_next(timed, moment, step),
+        Act::Until(moment, done, fault) => {
+            timed.run_until(moment, usize::MAX) == TimedRan { done, fault }
+        }
+        Act::ToRest(done, fault) => timed.run_to_rest(usize::MAX) == TimedRan { done, fault },
+        Act::Withdraw(wanted) => withdraws(timed, wanted),
+        Act::Is(now, changes, rests) => {
+            (timed.now(), timed.changes().len()) == (now, changes)
+                && (timed.is_at_rest(), timed.next_event() == None) == (rests, rests)
+        }
+        Act::Finds(steps, generation, entry) => finds(timed, steps, generation, entry),
+    }
+}
+
+// The two routers and their link, counted.
+pub fn counted(alloc: Global) -> Option<Network>
+    ensures links { IfSome result (λ n. length n.links ≡ 1) }
+    ensures routers { IfSome result (λ n. n.routers ≡ 2) }
+{
+    let network = two_routers(alloc)?;
+    if network.links().len() == 1 && network.routers() == 2 {
+        Some(network)
+    } else {
+        None
+    }
+}
+
+// The two routers, opened with these delays of their link.
+fn opened<A: SmallAllocator>(
+    alloc: Global,
+    memory: A,
+    delays: LinkDelays,
+) -> Option<TimedSimulation<A>> {
+    TimedSimulation::open(memory, counted(alloc)?, &[delays], &PUBLICATIONS).ok()
+}
+
+// The place of the first act of which something else comes.
+fn first_wrong(timed: &mut TimedSimulation, acts: &[Act]) -> Option<usize> {
+    for (place, act) in acts.iter().enumerate() {
+        if !goes(timed, act) {
+            return Some(place);
+        }
+    }
+    timed.holds();
+    None
+}
+
+// In a network with these delays; 0 too, where memory is lacking.
+fn first_wrong_in(alloc: Global, delays: LinkDelays, acts: &[Act]) -> Option<usize> {
+    match opened(alloc, alloc, delays) {
+        Some(mut timed) => first_wrong(&mut timed, acts),
+        None => Some(0),
+    }
+}
+
 pub const UP: Step = Step::LinkUp { link: 0 };
 
 const DOWN: Step = Step::LinkDown { link: 0 };
 
-// The two routers and their link, counted.
-pub fn counted(rt: &impl Abort, alloc: Global) -> Network
-    ensures links { length result.links ≡ 1 }
-    ensures routers { result.routers ≡ 2 }
-{
-    let network = two_routers(alloc).expect(rt, "network");
-    assert!(rt; network.links().len() == 1);
-    assert!(rt; network.routers() == 2);
-    network
-}
+const VIA: Entry = Entry::Via {
+    port: 0,
+    session: 1,
+};
 
-// The two routers. An item is 5 microseconds on its way to router 0 and 7 to router 1, and the routers publish
-// 10 and 20 microseconds after they have something to publish.
-fn opened<A: SmallAllocator>(rt: &impl Abort, alloc: Global, memory: A) -> TimedSimulation<A> {
-    let delays = [LinkDelays { to_a: 5, to_b: 7 }];
-    TimedSimulation::open(memory, counted(rt, alloc), &delays, &[10, 20]).expect(rt, "memory")
-}
+const TO_0: Step = Step::Deliver { router: 0, port: 0 };
 
-// The next events, each done by itself: when it is done, and its step.
-fn are_done<A: SmallAllocator>(
-    rt: &impl Abort,
-    timed: &mut TimedSimulation<A>,
-    events: &[(u64, Step)],
-) {
-    for &(moment, step) in events {
-        let next = Event {
-            moment,
-            step,
-            given: is_change(&step),
-        };
-        equal(rt, timed.next_event(), Some(next));
-        let one = TimedRan {
-            done: 1,
-            fault: None,
-        };
-        equal(rt, timed.run_until(moment, 1), one);
-        equal(rt, timed.now(), moment);
-    }
-}
-
-fn deliver(router: u16) -> Step {
-    Step::Deliver { router, port: 0 }
-}
+const TO_1: Step = Step::Deliver { router: 1, port: 0 };
 
 // Router 0 hears of the link at 8 and publishes at 18. Its message is at router 1 at 25, which publishes at 45
 // and answers. All is done when router 0 has the answer, at 50.
+const COME_TO_REST: [Act; 12] = [
+    Act::Is(0, 0, true),
+    Act::At(3, UP, Ok(())),
+    Act::Is(0, 1, false),
+    Act::Next(3, UP),
+    Act::Next(8, TO_0),
+    Act::Next(10, TO_1),
+    Act::Next(18, Step::Publish { router: 0 }),
+    Act::Next(18, Step::Release { router: 0 }),
+    Act::Next(25, TO_1),
+    Act::ToRest(3, None),
+    Act::Is(50, 0, true),
+    Act::Finds(9, 1, Some(VIA)),
+];
+
 #[test]
 fn two_routers_come_to_rest(rt: HostRuntime) {
-    let alloc = rt.alloc();
-    let mut timed = opened(&rt, alloc, alloc);
-    assert!(rt; timed.is_at_rest());
-    timed.at(3, UP).expect(&rt, "memory");
-    assert!(rt; !timed.is_at_rest() && timed.changes().len() == 1);
-    are_done(
-        &rt,
-        &mut timed,
-        &[
-            (3, UP),
-            (8, deliver(0)),
-            (10, deliver(1)),
-            (18, Step::Publish { router: 0 }),
-            (18, Step::Release { router: 0 }),
-            (25, deliver(1)),
-        ],
-    );
-    let ran = timed.run_to_rest(usize::MAX);
-    equal(&rt, (ran.done, ran.fault), (3, None));
-    assert!(rt; timed.is_at_rest() && timed.now() == 50 && timed.next_event() == None);
-    equal(&rt, timed.simulation().steps(), 9);
-    let answer = timed.simulation().lookup(1, ADDR).expect(&rt, "router");
-    equal(&rt, answer.generation, 1);
-    assert!(rt; matches!(answer.matched, Some((prefix, _)) if prefix == ten()));
-    timed.holds();
+    equal(&rt, first_wrong_in(rt.alloc(), DELAYS, &COME_TO_REST), None);
 }
 
 // The link goes down at 20, while the message of router 0 is on its way. The message is lost, and each router
 // hears of the loss its own delay later.
+const IS_LOST: [Act; 9] = [
+    Act::At(20, DOWN, Ok(())),
+    Act::At(3, UP, Ok(())),
+    Act::Until(19, 5, None),
+    Act::Is(18, 1, false),
+    Act::Next(20, DOWN),
+    Act::Next(25, TO_0),
+    Act::Next(27, TO_1),
+    Act::Is(27, 0, true),
+    Act::Finds(8, 0, None),
+];
+
 #[test]
 fn what_is_on_its_way_is_lost(rt: HostRuntime) {
-    let alloc = rt.alloc();
-    let mut timed = opened(&rt, alloc, alloc);
-    timed.at(20, DOWN).expect(&rt, "memory");
-    timed.at(3, UP).expect(&rt, "memory");
-    let ran = timed.run_until(19, usize::MAX);
-    equal(&rt, (ran.done, ran.fault, timed.now()), (5, None, 18));
-    are_done(
-        &rt,
-        &mut timed,
-        &[(20, DOWN), (25, deliver(0)), (27, deliver(1))],
-    );
-    assert!(rt; timed.is_at_rest());
-    equal(
-        &rt,
-        timed
-            .simulation()
-            .lookup(1, ADDR)
-            .expect(&rt, "router")
-            .matched,
-        None,
-    );
+    equal(&rt, first_wrong_in(rt.alloc(), DELAYS, &IS_LOST), None);
 }
 
 // A change for a past moment is not taken. One whose step is refused stays the first, until it is withdrawn.
+const ARE_REFUSED: [Act; 10] = [
+    Act::At(3, UP, Ok(())),
+    Act::At(4, UP, Ok(())),
+    Act::At(4, DOWN, Ok(())),
+    Act::ToRest(1, Some(TimeFault::Refused(Refusal::AlreadyUp))),
+    Act::At(2, DOWN, Err(TimeFault::PastMoment)),
+    Act::Is(3, 2, false),
+    Act::Withdraw(Some((4, UP))),
+    Act::ToRest(7, None),
+    Act::Is(18, 0, true),
+    Act::Withdraw(None),
+];
+
 #[test]
 fn refused_changes(rt: HostRuntime) {
-    let alloc = rt.alloc();
-    let mut timed = opened(&rt, alloc, alloc);
-    timed.at(3, UP).expect(&rt, "memory");
-    timed.at(4, UP).expect(&rt, "memory");
-    timed.at(4, DOWN).expect(&rt, "memory");
-    let ran = timed.run_to_rest(usize::MAX);
-    equal(
-        &rt,
-        (ran.done, ran.fault),
-        (1, Some(TimeFault::Refused(Refusal::AlreadyUp))),
-    );
-    equal(&rt, timed.at(2, DOWN), Err(TimeFault::PastMoment));
-    assert_eq!(rt; timed.changes().len(), 2);
-    let withdrawn = timed.withdraw().expect(&rt, "a change");
-    assert!(rt; withdrawn.moment == 4 && withdrawn.step == UP);
-    equal(&rt, timed.run_to_rest(usize::MAX).fault, None);
-    assert!(rt; timed.is_at_rest() && timed.withdraw() == None);
-    assert!(rt; !is_change(&deliver(0)) && is_change(&DOWN));
+    equal(&rt, first_wrong_in(rt.alloc(), DELAYS, &ARE_REFUSED), None);
+    assert!(rt; !is_change(&TO_0) && is_change(&DOWN));
 }
+
+const TIME_IS_SPENT: [Act; 3] = [
+    Act::At(7, UP, Ok(())),
+    Act::ToRest(2, Some(TimeFault::TimeSpent)),
+    Act::Is(8, 0, false),
+];
 
 // An item that is on its way for ever does not come.
 #[test]
 fn time_is_spent(rt: HostRuntime) {
-    let alloc = rt.alloc();
-    let delays = [LinkDelays {
+    let delays = LinkDelays {
         to_a: u64::MAX,
         to_b: 1,
-    }];
-    let mut timed = TimedSimulation::open(alloc, counted(&rt, alloc), &delays, &[0, 0]).expect(
-        &rt, "memory",
+    };
+    equal(
+        &rt,
+        first_wrong_in(rt.alloc(), delays, &TIME_IS_SPENT),
+        None,
     );
-    timed.at(7, UP).expect(&rt, "memory");
-    let ran = timed.run_to_rest(usize::MAX);
-    equal(&rt, ran.fault, Some(TimeFault::TimeSpent));
-    equal(&rt, (ran.done, timed.now()), (2, 8));
-    let told = format!(in alloc; "{} {}", TimeFault::PastMoment, TimeFault::TimeSpent).expect(
+    let told = format!(in rt.alloc(); "{} {}", TimeFault::PastMoment, TimeFault::TimeSpent).expect(
         &rt, "memory",
     );
     assert!(rt; told.as_str() == "51 PastMoment 52 TimeSpent");
@@ -183,92 +241,125 @@ fn print_timed<A: SmallAllocator>(out: &mut String, timed: &TimedSimulation<A>) 
     Ok(())
 }
 
-fn report_of<A: SmallAllocator>(
-    rt: &impl Abort,
-    alloc: Global,
-    timed: &TimedSimulation<A>,
-) -> String {
+fn report_of<A: SmallAllocator>(alloc: Global, timed: &TimedSimulation<A>) -> Option<String> {
     let mut report = String::new(alloc);
-    print_timed(&mut report, timed).expect(rt, "memory");
-    report
+    print_timed(&mut report, timed).ok()?;
+    Some(report)
 }
 
-// Does the next event, of which one allocation after another is refused before.
-fn do_refused(
-    rt: &impl Abort,
+// The changes that are given before any event is done.
+const CHANGES: [(u64, Step); 2] = [(3, UP), (60, DOWN)];
+
+// Gives a change; without one it does the next event.
+fn attempt<A: SmallAllocator>(
+    timed: &mut TimedSimulation<A>,
+    change: Option<&(u64, Step)>,
+) -> TimedRan {
+    if let Some((moment, step)) = change
+        && is_change(step)
+    {
+        let fault = timed.at(*moment, *step).err();
+        return TimedRan { done: 0, fault };
+    }
+    timed.run_until(u64::MAX, 1)
+}
+
+// Whether that is refused, where an allocation is, with all behind it; none where a refusal changes something.
+fn is_refused(
     alloc: Global,
     memory: &Refusing<Global>,
     timed: &mut TimedSimulation<&Refusing<Global>>,
-) {
-    let before = report_of(rt, alloc, timed);
-    for nth in 1..MOST {
-        memory.refuse(Refused::From(nth));
-        let ran = timed.run_until(u64::MAX, 1);
-        let _was_met = memory.was_met(ran.fault.is_some()).expect(rt, "refusal");
-        if ran.fault == None {
-            return;
-        }
-        equal(
-            rt,
-            (ran.done, ran.fault),
-            (0, Some(TimeFault::Refused(Refusal::NoMemory))),
-        );
-        assert!(rt; report_of(rt, alloc, timed) == before);
+    change: Option<&(u64, Step)>,
+    nth: u64,
+    before: &Option<String>,
+) -> Option<bool> {
+    memory.refuse(Refused::From(nth));
+    let ran = attempt(timed, change);
+    memory.was_met(ran.fault != None)?;
+    if ran.fault == None {
+        return Some(false);
     }
-    panic!(rt; "refused for ever");
+    let no_memory = (0, Some(TimeFault::Refused(Refusal::NoMemory)));
+    let is_as_before = report_of(alloc, timed) == *before;
+    (is_as_before && (ran.done, ran.fault) == no_memory).then_some(true)
 }
 
-// Gives a change, of which one allocation after another is refused before.
-fn give_refused(
-    rt: &impl Abort,
+// Does that, of which one allocation after another is refused before. Whether a refused call changes nothing.
+fn is_done_at_last(
     alloc: Global,
     memory: &Refusing<Global>,
     timed: &mut TimedSimulation<&Refusing<Global>>,
-    moment: u64,
-    change: &Step,
-)
-    requires { is_own change.now ≡ false }
-{
-    let before = report_of(rt, alloc, timed);
+    change: Option<&(u64, Step)>,
+    before: &Option<String>,
+) -> bool {
     for nth in 1..MOST {
-        memory.refuse(Refused::From(nth));
-        let end = timed.at(moment, *change);
-        let _was_met = memory.was_met(end.is_err()).expect(rt, "refusal");
-        if end.is_ok() {
-            return;
+        match is_refused(alloc, memory, timed, change, nth, before) {
+            Some(true) => {}
+            end => return end == Some(false),
         }
-        equal(rt, end, Err(TimeFault::Refused(Refusal::NoMemory)));
-        assert!(rt; report_of(rt, alloc, timed) == before);
     }
-    panic!(rt; "refused for ever");
+    false
+}
+
+// Whether an opening is refused, where this allocation is, with all behind it; none where that does not fit.
+fn is_opening_refused(alloc: Global, memory: &Refusing<Global>, nth: u64) -> Option<bool> {
+    memory.refuse(Refused::From(nth));
+    let has_failed = opened(alloc, memory, DELAYS).is_none();
+    let was_met = memory.was_met(has_failed)?;
+    (was_met == has_failed).then_some(was_met)
+}
+
+// Whether more than three openings are refused, before one is done.
+fn is_opened_at_last(alloc: Global) -> Option<bool> {
+    let memory = Refusing::new(alloc);
+    for nth in 1..MOST {
+        if !is_opening_refused(alloc, &memory, nth)? {
+            return Some(memory.met() > 3);
+        }
+    }
+    None
+}
+
+// Gives both changes and does twelve events; of each allocations are refused, if this is asked for. What is shown then,
+// at 67.
+fn go_on(
+    alloc: Global,
+    memory: &Refusing<Global>,
+    timed: &mut TimedSimulation<&Refusing<Global>>,
+    is_refused: bool,
+) -> Option<String> {
+    for place in 0..14 {
+        let change = CHANGES.get(place);
+        let is_done = if is_refused {
+            let before = report_of(alloc, timed);
+            is_done_at_last(alloc, memory, timed, change, &before)
+        } else {
+            attempt(timed, change).fault == None
+        };
+        if !is_done {
+            return None;
+        }
+    }
+    if timed.now() == 67 {
+        report_of(alloc, timed)
+    } else {
+        None
+    }
+}
+
+fn end_of(alloc: Global, is_refused: bool) -> Option<String> {
+    let memory = Refusing::new(alloc);
+    match opened(alloc, &memory, DELAYS) {
+        Some(mut timed) => go_on(alloc, &memory, &mut timed, is_refused),
+        None => None,
+    }
 }
 
 // Each allocation of each call is refused once, with all behind it. A refused call changes nothing, and the
 // end is that of a run without refusals.
 #[test]
 fn refused_allocations(rt: HostRuntime) {
-    let alloc = rt.alloc();
-    let memory = Refusing::new(alloc);
-    let delays = [LinkDelays { to_a: 5, to_b: 7 }];
-    for nth in 1..MOST {
-        memory.refuse(Refused::From(nth));
-        let end = TimedSimulation::open(&memory, counted(&rt, alloc), &delays, &[10, 20]);
-        if !memory.was_met(end.is_err()).expect(&rt, "refusal") {
-            break;
-        }
-        assert!(rt; end.is_err());
-    }
-    assert!(rt; memory.met() > 3);
-    let mut timed = opened(&rt, alloc, &memory);
-    give_refused(&rt, alloc, &memory, &mut timed, 3, &UP);
-    give_refused(&rt, alloc, &memory, &mut timed, 60, &DOWN);
-    for _event in 0..12 {
-        do_refused(&rt, alloc, &memory, &mut timed);
-    }
-    let mut other = opened(&rt, alloc, alloc);
-    other.at(3, UP).expect(&rt, "memory");
-    other.at(60, DOWN).expect(&rt, "memory");
-    let _ran = other.run_until(u64::MAX, 12);
-    assert!(rt; report_of(&rt, alloc, &timed) == report_of(&rt, alloc, &other));
-    assert!(rt; timed.now() == 67);
+    equal(&rt, is_opened_at_last(rt.alloc()), Some(true));
+    let end = end_of(rt.alloc(), false).expect(&rt, "end");
+    equal(&rt, end_of(rt.alloc(), true), Some(end));
 }
