@@ -69,37 +69,46 @@ fn run_given<H: Host>(rt: &HostRuntime, wait: &H, given: &[String]) -> io::Resul
     }
 }
 
-// Prints line by line where somebody reads along, and else a block at a time.
+// Prints line by line where somebody reads along, and else a block at a time. Writers are of one type from here on,
+// so that all that prints is compiled once.
 fn print_by<H: Host>(rt: &HostRuntime, wait: &H, words: &Words<'_>) -> io::Result<u8> {
     let out = rt.stdout();
+    let mut err = rt.stderr();
     if out.is_terminal() {
         let mut lines = LineWriter::new(rt.alloc(), out)?;
-        Ok(run_words(rt, wait, words, &mut lines))
+        Ok(run_words(rt, wait, words, &mut lines, &mut err))
     } else {
         let mut blocks = BufWriter::new(rt.alloc(), out)?;
-        Ok(run_words(rt, wait, words, &mut blocks))
+        Ok(run_words(rt, wait, words, &mut blocks, &mut err))
     }
 }
 
 // Does what the words ask for, over the files that they name.
-fn run_words<H: Host, W: Write>(rt: &HostRuntime, wait: &H, words: &Words<'_>, out: &mut W) -> u8 {
+fn run_words<H: Host>(
+    rt: &HostRuntime,
+    wait: &H,
+    words: &Words<'_>,
+    out: &mut dyn Write,
+    err: &mut dyn Write,
+) -> u8 {
     if let Some(path) = unwritable_path(rt, words) {
         return refuse_journal(rt, words, path, "it is read, or is the standard output");
     }
     let keeps = file_to_explain(words).is_some();
     let mut scenario = Kept::of(rt, first_input(rt, words), keeps);
     let mut second = Kept::of(rt, second_input(rt, words), keeps);
-    run_over(rt, wait, words, &mut scenario, &mut second, out)
+    run_over(rt, wait, words, &mut scenario, &mut second, out, err)
 }
 
 // Does what the words ask for, over these files.
-fn run_over<H: Host, W: Write>(
+fn run_over<H: Host>(
     rt: &HostRuntime,
     wait: &H,
     words: &Words<'_>,
     scenario: &mut Kept,
     second: &mut Kept,
-    out: &mut W,
+    mut out: &mut dyn Write,
+    mut err: &mut dyn Write,
 ) -> u8 {
     let mut journal = Vec::new(rt.alloc());
     let mut fault = None;
@@ -111,8 +120,8 @@ fn run_over<H: Host, W: Write>(
         words,
         &mut *scenario,
         &mut *second,
-        out,
-        &mut rt.stderr(),
+        &mut out,
+        &mut err,
         kept_path(words).is_some(),
         &mut journal,
         &mut fault,

@@ -40,23 +40,10 @@ pub fn show_given<H: Host>(rt: &HostRuntime, wait: &H, words: &[&str]) -> io::Re
 // Writes what the words ask for, to where they say.
 fn show_to<H: Host>(rt: &HostRuntime, wait: &H, words: &ViewWords<'_>) -> io::Result<u8> {
     match words.output {
-        Some(path) if path != "-" => {
-            if is_read(rt, words, path) || (reads_input(words) && is_input(rt, path)) {
-                return Ok(unwritable(rt));
-            }
-            let mut page = Vec::new(rt.alloc());
-            let status = write_to(rt, wait, words, &mut page);
-            if page.is_empty() {
-                return Ok(status);
-            }
-            Ok(match fs::write(rt, path, &page) {
-                Ok(()) => status,
-                Err(_) => unwritable(rt),
-            })
-        }
+        Some(path) if path != "-" => Ok(show_in_file(rt, wait, words, path)),
         _ => {
             let mut out = BufWriter::new(rt.alloc(), rt.stdout())?;
-            let status = write_to(rt, wait, words, &mut out);
+            let status = write_to(rt, wait, words, &mut out, &mut rt.stderr());
             Ok(match out.flush() {
                 Ok(()) => status,
                 Err(_) => unwritable(rt),
@@ -65,12 +52,34 @@ fn show_to<H: Host>(rt: &HostRuntime, wait: &H, words: &ViewWords<'_>) -> io::Re
     }
 }
 
-// Writes what the words ask for.
-fn write_to<H: Host, W: Write>(
+// Makes all of it in memory, and then writes the file, which is none that is read.
+fn show_in_file<H: Host>(rt: &HostRuntime, wait: &H, words: &ViewWords<'_>, path: &str) -> u8 {
+    if is_read(rt, words, path) || (reads_input(words) && is_input(rt, path)) {
+        return unwritable(rt);
+    }
+    let mut page = Vec::new(rt.alloc());
+    let status = write_to(rt, wait, words, &mut page, &mut rt.stderr());
+    write_page(rt, path, &page, status)
+}
+
+// Writes a page, if there is any of it, and answers the exit status.
+fn write_page(rt: &HostRuntime, path: &str, page: &[u8], status: u8) -> u8 {
+    if page.is_empty() {
+        return status;
+    }
+    match fs::write(rt, path, page) {
+        Ok(()) => status,
+        Err(_) => unwritable(rt),
+    }
+}
+
+// Writes what the words ask for. Writers are of one type here, as in `print_by`.
+fn write_to<H: Host>(
     rt: &HostRuntime,
     wait: &H,
     words: &ViewWords<'_>,
-    out: &mut W,
+    mut out: &mut dyn Write,
+    mut err: &mut dyn Write,
 ) -> u8 {
     let scenario = open_file(rt, words.file);
     let other = match second_path(words) {
@@ -83,8 +92,8 @@ fn write_to<H: Host, W: Write>(
         words,
         scenario,
         other,
-        out,
-        &mut rt.stderr(),
+        &mut out,
+        &mut err,
     )
 }
 
