@@ -324,6 +324,9 @@ where
     };
     let mut out = io::sink();
     let mut err = io::sink();
+    // Of the type that the program's own writers have, so that no command is compiled once more.
+    let mut out: &mut dyn Write = &mut out;
+    let mut err: &mut dyn Write = &mut err;
     with_fabric(
         rt,
         alloc,
