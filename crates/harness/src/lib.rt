@@ -40,9 +40,8 @@ ghost use Rattle.texts.specs.Words.{Text};
 ghost use Rattle.harness.specs.Outcomes.{Gave};
 
 use command_line::Words;
-use play::{Fault, Host, NoGate, Source, THRESHOLDS, Thresholds, TurnGate, play_by};
+use play::{Fault, Host, NoGate, THRESHOLDS, Thresholds, TurnGate, play_by};
 use std::alloc::Global;
-use std::io;
 use std::io::Read;
 
 /// What the program gave.
@@ -123,6 +122,5 @@ pub fn run_in_memory<H: Host, R: Read + Drop>(
     ensures { (journal : Option Text)
         × Gave words.now (R.remaining scenario) journal result.status result.kept.items }
 {
-    let missing: Source<io::Empty> = Source::Missing;
-    play_in_memory(rt, alloc, words, scenario, missing)
+    play_in_memory(rt, alloc, words, scenario, b"".as_slice())
 }

@@ -9,9 +9,9 @@ use crate::traces::{PART, are_straight, step_lines, trace_all};
 use command_line::{Format, Words};
 use harness::soak::is_good;
 use harness::{play_in_memory, play_in_memory_by, run_in_memory};
-use play::{Host, NO_THRESHOLDS, Source, TurnGate};
+use play::{Host, NO_THRESHOLDS, TurnGate};
 use std::alloc::{AllocError, Global};
-use std::io::{self, Write};
+use std::io::Write;
 use std::sync::atomic::{AtomicU64, Ordering};
 use std::thread;
 use std::time::{Clock, Duration};
@@ -135,8 +135,8 @@ fn try_scenario<H: Host + Clock>(
     scenario: &Scenario,
 ) -> Result<bool, AllocError> {
     let (words, text) = (&RUN_BY_THREADS, scenario.text.as_bytes());
-    let missing: Source<io::Empty> = Source::Missing;
-    let ran = play_in_memory_by(rt, alloc, NO_THRESHOLDS, turnout, words, text, missing);
+    let none = b"".as_slice();
+    let ran = play_in_memory_by(rt, alloc, NO_THRESHOLDS, turnout, words, text, none);
     let replayed = play_in_memory(rt, alloc, &REPLAY, text, ran.kept.as_slice()).status;
     let straight = is_straight(rt, alloc, scenario, &ran.kept)?;
     Ok(is_good(ran.status, replayed, straight))
