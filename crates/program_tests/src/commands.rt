@@ -2,8 +2,8 @@
 
 use crate::equal_to::equal;
 use command_line::{Format, Words};
-use harness::play_in_memory;
-use play::{Host, Source};
+use harness::{Outcome, play_in_memory};
+use play::Host;
 use std::alloc::Global;
 use std::io::{self, Read};
 use std::process::Abort;
@@ -48,31 +48,69 @@ pub const SHELL: Words<'static> = Words::Shell {
     format: Format::Text,
 };
 
-// No file is there.
-pub const MISSING: Source<io::Empty> = Source::Missing;
+// A file that is read. It is one type, so that what does a command is compiled once for all tests.
+#[derive(Drop)]
+pub enum File<'a> {
+    Holds(&'a [u8]),
+    // It gives one byte, and then fails; and whether it has given it.
+    Broken(bool),
+    Missing,
+}
 
-// This is printed, and the status is 0.
-pub fn prints<H: Host + Abort, R: Read + Drop, J: Read + Drop>(
+impl Read for File<'_> {
+    fn read(&mut self, buf: &mut [u8]) -> io::Result<usize> {
+        match self {
+            File::Holds(bytes) => bytes.read(buf),
+            File::Broken(given) => {
+                if *given || buf.is_empty() {
+                    return Err(io::Error::from(io::ErrorKind::NotFound));
+                }
+                *given = true;
+                buf[0] = b'#';
+                Ok(1)
+            }
+            File::Missing => Err(io::Error::from(io::ErrorKind::NotFound)),
+        }
+    }
+}
+
+pub const BROKEN: File<'static> = File::Broken(false);
+
+pub const MISSING: File<'static> = File::Missing;
+
+// What the program gave, with these bytes as both files.
+pub fn given<H: Host>(
     rt: &H,
     alloc: Global,
     words: &Words<'_>,
-    scenario: R,
-    other: J,
+    scenario: &[u8],
+    other: &[u8],
+) -> Outcome {
+    play_in_memory(rt, alloc, words, File::Holds(scenario), File::Holds(other))
+}
+
+// This is printed, and the status is 0.
+pub fn prints<H: Host + Abort>(
+    rt: &H,
+    alloc: Global,
+    words: &Words<'_>,
+    scenario: &[u8],
+    other: File<'_>,
     out: &str,
 ) {
-    let got = play_in_memory(rt, alloc, words, scenario, other);
+    let got = play_in_memory(rt, alloc, words, File::Holds(scenario), other);
     equal(rt, got.err.as_slice(), b"".as_slice());
     equal(rt, got.out.as_slice(), out.as_bytes());
     equal(rt, got.status, 0);
 }
 
 // The fault is told, and nothing else is printed or kept.
-pub fn tells<H: Host + Abort, R: Read + Drop, J: Read + Drop>(
+pub fn tells<H: Host + Abort>(
     rt: &H,
     alloc: Global,
     words: &Words<'_>,
-    scenario: R,
-    other: J,
+    scenario: File<'_>,
+    other: File<'_>,
     fault: &str,
 ) {
     let got = play_in_memory(rt, alloc, words, scenario, other);

@@ -1,10 +1,9 @@
 //! A network in which there is enough to publish for several control threads.
 
-use crate::commands::{MISSING, REPLAY};
+use crate::commands::{REPLAY, given};
 use crate::equal_to::equal;
 use crate::limits::push_attachments;
 use command_line::{Format, Words};
-use harness::play_in_memory;
 use play::Host;
 use std::alloc::{AllocError, Global};
 use std::process::Abort;
@@ -42,12 +41,12 @@ fn is_settled_by<H: Host + Abort>(rt: &H, alloc: Global, threads: u8) {
         format: Format::Text,
         progress: false,
     };
-    let ran = play_in_memory(rt, alloc, &run, text.as_bytes(), MISSING);
+    let ran = given(rt, alloc, &run, text.as_bytes(), b"");
     equal(rt, ran.err.as_slice(), b"".as_slice());
     equal(rt, ran.status, 0);
     let out = b"lookup a 10.0.0.1: 10.0.0.0/24 unreachable\n";
     equal(rt, ran.out.starts_with(out), true);
-    let again = play_in_memory(rt, alloc, &REPLAY, text.as_bytes(), ran.kept.as_slice());
+    let again = given(rt, alloc, &REPLAY, text.as_bytes(), &ran.kept);
     equal(rt, again.err.as_slice(), b"".as_slice());
     equal(rt, again.status, 0);
 }

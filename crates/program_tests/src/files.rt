@@ -1,61 +1,46 @@
 //! Files that cannot be read or written, and texts that are not UTF-8.
 
-use crate::commands::{CHECK, MISSING, REPLAY, RUN, SHELL, TIME, tells};
+use crate::commands::{BROKEN, CHECK, File, MISSING, REPLAY, RUN, SHELL, TIME, tells};
 use crate::equal_to::equal;
 use command_line::{exit_status, not_utf8};
 use play::{Host, play};
 use program_files::is_one_file;
 use std::alloc::Global;
-use std::io::{self, Read, Write};
+use std::io::{self, Write};
 use std::process::Abort;
 
 const SCENARIO: &[u8] = b"routers = [\"a\"]\nlinks = []\nprefixes = [\"0.0.0.0/0 a\"]\n\
     script = [\"table a\", \"lookup a 0.0.0.0\", \"state a 0.0.0.0/0\", \"report\"]\n";
 
+const HOLDS: File<'static> = File::Holds(SCENARIO);
+
+const NO_TEXT: &[u8] = b"\xff";
+
+const NO_JOURNAL: &[u8] = b"dualnet journal 2\nend\n\xff\n";
+
 const UNREADABLE: &str = "dualnet: 47 Unreadable\n";
-
-// A reader that gives one byte and then fails.
-#[derive(Drop)]
-struct Broken {
-    given: bool,
-}
-
-impl Read for Broken {
-    fn read(&mut self, buf: &mut [u8]) -> io::Result<usize> {
-        if self.given || buf.is_empty() {
-            return Err(io::Error::from(io::ErrorKind::NotFound));
-        }
-        self.given = true;
-        buf[0] = b'#';
-        Ok(1)
-    }
-}
-
-const BROKEN: Broken = Broken { given: false };
 
 #[test]
 fn what_cannot_be_read(rt: HostRuntime) {
     let alloc = rt.alloc();
     tells(&rt, alloc, &CHECK, MISSING, MISSING, UNREADABLE);
     tells(&rt, alloc, &RUN, BROKEN, MISSING, UNREADABLE);
-    tells(&rt, alloc, &REPLAY, SCENARIO, MISSING, UNREADABLE);
-    tells(&rt, alloc, &REPLAY, SCENARIO, BROKEN, UNREADABLE);
-    tells(&rt, alloc, &TIME, SCENARIO, MISSING, UNREADABLE);
-    tells(&rt, alloc, &TIME, SCENARIO, BROKEN, UNREADABLE);
-    tells(&rt, alloc, &SHELL, SCENARIO, BROKEN, UNREADABLE);
+    tells(&rt, alloc, &REPLAY, HOLDS, MISSING, UNREADABLE);
+    tells(&rt, alloc, &REPLAY, HOLDS, BROKEN, UNREADABLE);
+    tells(&rt, alloc, &TIME, HOLDS, MISSING, UNREADABLE);
+    tells(&rt, alloc, &TIME, HOLDS, BROKEN, UNREADABLE);
+    tells(&rt, alloc, &SHELL, HOLDS, BROKEN, UNREADABLE);
 }
 
 #[test]
 fn what_is_no_text(rt: HostRuntime) {
     let alloc = rt.alloc();
-    let no_text = b"\xff".as_slice();
     let fault = "dualnet: 40 BadToml\n";
-    tells(&rt, alloc, &RUN, no_text, MISSING, fault);
+    tells(&rt, alloc, &RUN, File::Holds(NO_TEXT), MISSING, fault);
     let fault = "dualnet: 40 BadToml in the times\n";
-    tells(&rt, alloc, &TIME, SCENARIO, no_text, fault);
-    let journal = b"dualnet journal 2\nend\n\xff\n".as_slice();
+    tells(&rt, alloc, &TIME, HOLDS, File::Holds(NO_TEXT), fault);
     let fault = "dualnet: 48 BadJournal\n";
-    tells(&rt, alloc, &REPLAY, SCENARIO, journal, fault);
+    tells(&rt, alloc, &REPLAY, HOLDS, File::Holds(NO_JOURNAL), fault);
 }
 
 // A path of a file, and whether it leads to `/dev/null`.
@@ -102,7 +87,7 @@ fn loses<H: Host + Abort>(rt: &H, alloc: Global, scenario: &[u8], status: u8, wa
         rt,
         alloc,
         &RUN,
-        scenario,
+        File::Holds(scenario),
         MISSING,
         &mut Closed,
         &mut Closed,

@@ -1,8 +1,8 @@
 //! Lines of JSON, read by another reader.
 
+use crate::commands::given;
 use crate::equal_to::equal;
 use command_line::{Format, Words};
-use harness::play_in_memory;
 use play::Host;
 use serde_json::Value;
 use std::alloc::Global;
@@ -53,7 +53,7 @@ pub fn prints_objects<H: Host + Abort>(
     other: &[u8],
     count: usize,
 ) -> Vec<u8> {
-    let got = play_in_memory(rt, alloc, words, scenario, other);
+    let got = given(rt, alloc, words, scenario, other);
     equal(rt, got.err.as_slice(), b"".as_slice());
     equal(rt, objects(rt, alloc, &got.out), count);
     equal(rt, got.status, 0);

@@ -1,12 +1,11 @@
 //! Scenarios at the limits, and one past each.
 
-use crate::commands::{CHECK, MISSING, RUN, TIME, prints, tells};
+use crate::commands::{CHECK, File, MISSING, RUN, TIME, prints, tells};
 use std::alloc::{AllocError, Global};
-use std::io::{self, Read};
 use std::process::Abort;
 
-const SHORT: &[u8] =
-    b"routers = [\"a\"]\nlinks = []\nprefixes = []\nscript = [\"lookup a 0.0.0.0\"]\n";
+const SHORT: &str =
+    "routers = [\"a\"]\nlinks = []\nprefixes = []\nscript = [\"lookup a 0.0.0.0\"]\n";
 
 const TOO_LARGE: &str = "dualnet: 46 TooLarge\n";
 
@@ -14,12 +13,12 @@ const TOO_LARGE: &str = "dualnet: 46 TooLarge\n";
 #[test]
 fn the_largest_file_is_read(rt: HostRuntime) {
     let alloc = rt.alloc();
-    let more = 4_194_304u64.saturating_sub(SHORT.len() as u64);
-    let file = SHORT.chain(io::repeat(b'\n').take(more));
+    let more = 4_194_304_usize.saturating_sub(SHORT.len());
+    let text = repeated(&rt, alloc, (SHORT, ""), "\n", more);
     let out = "lookup a 0.0.0.0: none\ndone: 0 steps\n";
-    prints(&rt, alloc, &RUN, file, MISSING, out);
-    let file = SHORT.chain(io::repeat(b'\n').take(more.saturating_add(1)));
-    tells(&rt, alloc, &CHECK, file, MISSING, TOO_LARGE);
+    prints(&rt, alloc, &RUN, text.as_bytes(), MISSING, out);
+    let text = repeated(&rt, alloc, (SHORT, "\n"), "\n", more);
+    tells(&rt, alloc, &CHECK, File::Holds(text.as_bytes()), MISSING, TOO_LARGE);
 }
 
 // A command for each of so many routers, or, without a command, their names.
@@ -165,7 +164,8 @@ fn networks_that_are_too_large_are_refused(rt: HostRuntime) {
     let alloc = rt.alloc();
     for (counts, fault) in &TOO_MANY {
         let text = network(&rt, alloc, *counts, "");
-        tells(&rt, alloc, &CHECK, text.as_bytes(), MISSING, fault);
+        let file = File::Holds(text.as_bytes());
+        tells(&rt, alloc, &CHECK, file, MISSING, fault);
     }
 }
 
@@ -193,7 +193,8 @@ fn as_many_commands_as_there_may_be(rt: HostRuntime) {
     let out = "done: 0 steps\n";
     prints(&rt, alloc, &RUN, text.as_bytes(), MISSING, out);
     let text = repeated(&rt, alloc, ROUTER, "\"table a\",", 10_001);
-    tells(&rt, alloc, &RUN, text.as_bytes(), MISSING, TOO_LARGE);
+    let file = File::Holds(text.as_bytes());
+    tells(&rt, alloc, &RUN, file, MISSING, TOO_LARGE);
 }
 
 const PAIR: &[u8] =
@@ -210,8 +211,10 @@ fn as_many_changes_as_there_may_be(rt: HostRuntime) {
     let refused = "0 down a b: refused 14 IsDown\n";
     let out = repeated(&rt, alloc, AT_REST, refused, 10_000);
     let times = repeated(&rt, alloc, CHANGES, "\"0 down a b\",", 10_000);
-    prints(&rt, alloc, &TIME, PAIR, times.as_bytes(), out.as_str());
+    let file = File::Holds(times.as_bytes());
+    prints(&rt, alloc, &TIME, PAIR, file, out.as_str());
     let times = repeated(&rt, alloc, CHANGES, "\"0 down a b\",", 10_001);
     let fault = "dualnet: 46 TooLarge in the times\n";
-    tells(&rt, alloc, &TIME, PAIR, times.as_bytes(), fault);
+    let file = File::Holds(times.as_bytes());
+    tells(&rt, alloc, &TIME, File::Holds(PAIR), file, fault);
 }

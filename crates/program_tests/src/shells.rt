@@ -1,10 +1,9 @@
 //! Lines that are typed into a shell and that no file of cases can hold.
 
-use crate::commands::SHELL;
+use crate::commands::{SHELL, given};
 use crate::equal_to::equal;
 use crate::json::prints_objects;
 use command_line::{Format, Words};
-use harness::play_in_memory;
 
 const OBJECTS: Words<'static> = Words::Shell {
     file: "scenario.toml",
@@ -23,7 +22,7 @@ const TYPED: &[u8] =
 
 #[test]
 fn a_line_that_is_no_text_ends_nothing(rt: HostRuntime) {
-    let got = play_in_memory(&rt, rt.alloc(), &SHELL, SCENARIO, TYPED);
+    let got = given(&rt, rt.alloc(), &SHELL, SCENARIO, TYPED);
     let out = b"\"\\\x01\nb 10.0.0.0/8 via a 1\ndone: 9 steps\n".as_slice();
     let err =
         b"dualnet: 45 BadCommand\ndualnet: 45 BadCommand\ndualnet: 45 BadCommand\n".as_slice();

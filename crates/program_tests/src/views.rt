@@ -1,7 +1,6 @@
 //! The states of a run, as lines of JSON and in a page. What is expected was reckoned by the plain model of `model`,
 //! and is of two routers at the costs 1 and 2.
 
-use crate::commands::MISSING;
 use crate::equal_to::equal;
 use crate::files::Closed;
 use command_line::ViewWords;
@@ -238,7 +237,8 @@ fn output_is_lost(rt: HostRuntime) {
     let alloc = rt.alloc();
     for words in [LINES, PAGE] {
         let mut err = Vec::new(alloc);
-        let status = show(&rt, alloc, &words, SCENARIO, MISSING, &mut Closed, &mut err);
+        let none = b"".as_slice();
+        let status = show(&rt, alloc, &words, SCENARIO, none, &mut Closed, &mut err);
         is(&rt, &err, "dualnet: 49 Unwritable\n");
         equal(&rt, status, 2);
     }
