@@ -86,15 +86,7 @@ fn write_to<H: Host>(
         Some(path) if path != "-" || words.file != "-" => open_file(rt, path),
         _ => Source::Missing,
     };
-    show(
-        wait,
-        rt.alloc(),
-        words,
-        scenario,
-        other,
-        &mut out,
-        &mut err,
-    )
+    show(wait, rt.alloc(), words, scenario, other, &mut out, &mut err)
 }
 
 // The file that is read beside the scenario. The standard input is read once, so both cannot be that (47).

@@ -18,7 +18,14 @@ fn the_largest_file_is_read(rt: HostRuntime) {
     let out = "lookup a 0.0.0.0: none\ndone: 0 steps\n";
     prints(&rt, alloc, &RUN, text.as_bytes(), MISSING, out);
     let text = repeated(&rt, alloc, (SHORT, "\n"), "\n", more);
-    tells(&rt, alloc, &CHECK, File::Holds(text.as_bytes()), MISSING, TOO_LARGE);
+    tells(
+        &rt,
+        alloc,
+        &CHECK,
+        File::Holds(text.as_bytes()),
+        MISSING,
+        TOO_LARGE,
+    );
 }
 
 // A command for each of so many routers, or, without a command, their names.
