@@ -1,4 +1,3 @@
-pub mod Handles
 pub mod Headline
 pub mod Failures
 pub mod Parts

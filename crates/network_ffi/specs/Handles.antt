@@ -1,11 +1,13 @@
 -- What a handle holds.
-use Rattle.std.specs.Prelude.{Option, option_and_then, option_map}
+use Rattle.std.specs.Prelude.{[], Option, option_and_then, option_map}
 use Rattle.c_interface.specs.Handles.{held}
-use Rattle.simulation.specs.Simulation.{Simulation}
+use Rattle.course.specs.Counts.{none_sent}
+use Rattle.simulation.specs.Simulation.{Simulation, simulation_of}
 use Rattle.timed_simulation.specs.Timed.{Timed}
 use Rattle.timed_reports.specs.Reports.{Reported}
 use Rattle.network_calls.specs.Running.{clocked_in, network_in, reported_in}
 use Rattle.network_calls.specs.declared.running.Going.{Going}
+use Rattle.network_calls.specs.declared.running.Going.TheVariants.{BySteps}
 use Rattle.network_ffi.specs.declared.handle.NetworkHandle.{NetworkHandle}
 
 -- what a handle holds, if anything: a network that goes by steps, or one in simulated time
@@ -23,3 +25,7 @@ handle_timed h = option_and_then clocked_in (handle_going h)
 -- the same with its record, if it keeps one
 abbrev pub handle_report : NetworkHandle → Option Reported
 handle_report h = option_and_then reported_in (handle_going h)
+
+-- what stands in a handle that holds none: a network of no routers, which goes by steps
+abbrev pub nothing_held : Going
+nothing_held = BySteps (simulation_of (record { routers = 0; links = []; attachments = [] }) (record { places = []; links = []; prefixes = []; attachments = []; routers = [] }) [] 0 none_sent)

@@ -98,99 +98,75 @@ pub(crate) fn look_up(alloc: Global, network: &mut NetworkHandle, router: u16) -
     answers[0]
 }
 
+fn step(alloc: Global, network: &mut NetworkHandle, kind: u8, subject: u16) -> u32 {
+    tuhvondi_network_step(alloc, network, &plain(kind, subject))
+}
+
+// Runs steps: the status, and how many were done.
+fn run(alloc: Global, network: &mut NetworkHandle, steps: &[StepParts]) -> (u32, usize) {
+    let mut done = 9;
+    let status = tuhvondi_network_run(alloc, network, steps, &mut done);
+    (status, done)
+}
+
+fn settle(alloc: Global, network: &mut NetworkHandle, seed: u64, most: usize) -> (u32, usize) {
+    let mut done = 9;
+    let status = tuhvondi_network_settle(alloc, network, seed, most, &mut done);
+    (status, done)
+}
+
+// Follows a packet: the status, the routers that it passes, how many these are, and its end.
+fn trace(alloc: Global, network: &mut NetworkHandle, router: u16) -> (u32, [u16; 4], usize, u8) {
+    let (mut hops, mut count, mut end) = ([9; 4], 9, 9);
+    let to = 0x0a01_0203;
+    let status =
+        tuhvondi_network_trace(alloc, network, router, to, &mut hops, &mut count, &mut end);
+    (status, hops, count, end)
+}
+
+// Brings both links of the line up.
+fn joined(alloc: Global) -> NetworkHandle {
+    let mut network = line(alloc);
+    let _ = run(alloc, &mut network, &[plain(0, 0), plain(0, 1)]);
+    network
+}
+
 #[test]
 fn line_settles_and_a_cut_is_heard(rt: HostRuntime) {
     let alloc = rt.alloc();
-    let mut network = line(alloc);
-    let mut done = 0;
-    equal(
-        &rt,
-        tuhvondi_network_run(alloc, &mut network, &[plain(0, 0), plain(0, 1)], &mut done),
-        0,
-    );
-    equal(&rt, done, 2);
+    let mut net = line(alloc);
+    let ups = [plain(0, 0), plain(0, 1)];
+    equal(&rt, run(alloc, &mut net, &ups), (0, 2));
     for seed in [0, 1, 7] {
-        equal(
-            &rt,
-            tuhvondi_network_settle(alloc, &mut network, seed, 10_000, &mut done),
-            0,
-        );
+        equal(&rt, settle(alloc, &mut net, seed, 10_000).0, 0);
     }
     let mut settled = 9;
-    equal(
-        &rt,
-        tuhvondi_network_is_settled(alloc, &mut network, &mut settled),
-        0,
-    );
-    equal(&rt, settled, 1);
-    equal(&rt, look_up(alloc, &mut network, 0), row(0, 0, 0));
-    equal(&rt, look_up(alloc, &mut network, 1), row(1, 0, 1));
-    equal(&rt, look_up(alloc, &mut network, 2), row(1, 0, 1));
-    let (mut hops, mut count, mut end) = ([9, 9, 9, 9], 0, 9);
-    equal(
-        &rt,
-        tuhvondi_network_trace(
-            alloc,
-            &mut network,
-            2,
-            0x0a01_0203,
-            &mut hops,
-            &mut count,
-            &mut end,
-        ),
-        0,
-    );
-    equal(&rt, (count, end), (3, 0));
-    equal(&rt, hops, [2, 1, 0, 9]);
-    let (mut rows, mut more) = ([NO_ROW; 2], 9);
-    equal(
-        &rt,
-        tuhvondi_network_rows(alloc, &mut network, 2, &mut rows, &mut count, &mut more),
-        0,
-    );
-    equal(&rt, (count, more), (1, 0));
+    let status = tuhvondi_network_is_settled(alloc, &mut net, &mut settled);
+    equal(&rt, (status, settled), (0, 1));
+    equal(&rt, look_up(alloc, &mut net, 0), row(0, 0, 0));
+    equal(&rt, look_up(alloc, &mut net, 1), row(1, 0, 1));
+    equal(&rt, look_up(alloc, &mut net, 2), row(1, 0, 1));
+    equal(&rt, trace(alloc, &mut net, 2), (0, [2, 1, 0, 9], 3, 0));
+    let (mut rows, mut count, mut more) = ([NO_ROW; 2], 9, 9);
+    let status = tuhvondi_network_rows(alloc, &mut net, 2, &mut rows, &mut count, &mut more);
+    equal(&rt, (status, count, more), (0, 1, 0));
     equal(&rt, rows, [row(1, 0, 1), NO_ROW]);
     // The link of routers 0 and 1 goes down: until router 1 hears of that, its row leads over a dead link.
-    equal(
-        &rt,
-        tuhvondi_network_step(alloc, &mut network, &plain(1, 0)),
-        0,
-    );
-    equal(
-        &rt,
-        tuhvondi_network_trace(
-            alloc,
-            &mut network,
-            2,
-            0x0a01_0203,
-            &mut hops,
-            &mut count,
-            &mut end,
-        ),
-        0,
-    );
-    equal(&rt, (count, end), (2, 3));
-    equal(
-        &rt,
-        tuhvondi_network_settle(alloc, &mut network, 0, 10_000, &mut done),
-        0,
-    );
-    equal(&rt, look_up(alloc, &mut network, 1), row(2, 0, 0));
-    equal(&rt, look_up(alloc, &mut network, 2), row(2, 0, 0));
+    equal(&rt, step(alloc, &mut net, 1, 0), 0);
+    equal(&rt, trace(alloc, &mut net, 2), (0, [2, 1, 9, 9], 2, 3));
+    equal(&rt, settle(alloc, &mut net, 0, 10_000).0, 0);
+    equal(&rt, look_up(alloc, &mut net, 1), row(2, 0, 0));
+    equal(&rt, look_up(alloc, &mut net, 2), row(2, 0, 0));
     let mut counts = Counts {
         steps: 0,
         updates: 0,
         queries: 0,
         replies: 0,
     };
-    equal(
-        &rt,
-        tuhvondi_network_counts(alloc, &mut network, &mut counts),
-        0,
-    );
+    let status = tuhvondi_network_counts(alloc, &mut net, &mut counts);
     // Each query is answered once.
-    equal(&rt, counts.queries, counts.replies);
-    tuhvondi_network_free(alloc, &mut network);
+    equal(&rt, (status, counts.queries), (0, counts.replies));
+    tuhvondi_network_free(alloc, &mut net);
 }
 
 // What router 1 is shown of its machine, or the number of a fault.
@@ -296,35 +272,24 @@ fn item(
 #[test]
 fn a_query_is_shown_on_its_way(rt: HostRuntime) {
     let alloc = rt.alloc();
-    let mut network = line(alloc);
-    let mut done = 0;
-    equal(&rt, machine(alloc, &mut network), Err(28));
-    equal(
-        &rt,
-        tuhvondi_network_run(alloc, &mut network, &[plain(0, 0), plain(0, 1)], &mut done),
-        0,
-    );
+    let mut net = line(alloc);
+    equal(&rt, machine(alloc, &mut net), Err(28));
+    let ups = [plain(0, 0), plain(0, 1)];
+    equal(&rt, run(alloc, &mut net, &ups), (0, 2));
     let came_up = ItemShown {
         value: 1,
         session: 1,
         kind: 3,
         ..NO_ITEM
     };
-    equal(&rt, item(alloc, &mut network, 1, 0, 2), Ok((came_up, 1, 0)));
-    equal(&rt, item(alloc, &mut network, 1, 0, 0), Ok((NO_ITEM, 0, 1)));
-    equal(
-        &rt,
-        tuhvondi_network_settle(alloc, &mut network, 0, 10_000, &mut done),
-        0,
-    );
+    equal(&rt, item(alloc, &mut net, 1, 0, 2), Ok((came_up, 1, 0)));
+    equal(&rt, item(alloc, &mut net, 1, 0, 0), Ok((NO_ITEM, 0, 1)));
+    equal(&rt, settle(alloc, &mut net, 0, 10_000).0, 0);
     // Router 1 loses its successor, and router 2 is no feasible one. So router 1 asks it, and waits until its
     // row is in force.
-    equal(
-        &rt,
-        tuhvondi_network_run(alloc, &mut network, &[plain(1, 0), plain(3, 1)], &mut done),
-        0,
-    );
-    let shown = machine(alloc, &mut network);
+    let cut = [plain(1, 0), plain(3, 1)];
+    equal(&rt, run(alloc, &mut net, &cut), (0, 2));
+    let shown = machine(alloc, &mut net);
     equal(
         &rt,
         shown.is_ok_and(|m| m.successor == 255
@@ -346,7 +311,7 @@ fn a_query_is_shown_on_its_way(rt: HostRuntime) {
             && m.state.published == row(1, 0, 1)),
         true,
     );
-    let cut = LinkShown {
+    let down = LinkShown {
         to_a: 1,
         to_b: 0,
         from_a: 1,
@@ -356,7 +321,7 @@ fn a_query_is_shown_on_its_way(rt: HostRuntime) {
         session: 1,
         up: 0,
     };
-    equal(&rt, link(alloc, &mut network, 0), Ok(cut));
+    equal(&rt, link(alloc, &mut net, 0), Ok(down));
     let mut waits = GateShown {
         held: 1,
         ripe: 0,
@@ -365,13 +330,9 @@ fn a_query_is_shown_on_its_way(rt: HostRuntime) {
         front: NO_MESSAGE,
         due: 1,
     };
-    equal(&rt, gate(alloc, &mut network, 1), Ok(waits));
+    equal(&rt, gate(alloc, &mut net, 1), Ok(waits));
     // Router 1 publishes, and then its query leaves: it has no distance any more.
-    equal(
-        &rt,
-        tuhvondi_network_step(alloc, &mut network, &plain(4, 1)),
-        0,
-    );
+    equal(&rt, step(alloc, &mut net, 4, 1), 0);
     waits.ripe = 1;
     waits.generation = 2;
     waits.due = 0;
@@ -383,12 +344,8 @@ fn a_query_is_shown_on_its_way(rt: HostRuntime) {
         kind: 1,
         port: 1,
     };
-    equal(&rt, gate(alloc, &mut network, 1), Ok(waits));
-    equal(
-        &rt,
-        tuhvondi_network_step(alloc, &mut network, &plain(5, 1)),
-        0,
-    );
+    equal(&rt, gate(alloc, &mut net, 1), Ok(waits));
+    equal(&rt, step(alloc, &mut net, 5, 1), 0);
     let query = ItemShown {
         addr: 0x0a00_0000,
         value: u32::MAX,
@@ -396,361 +353,203 @@ fn a_query_is_shown_on_its_way(rt: HostRuntime) {
         kind: 1,
         len: 8,
     };
-    equal(&rt, item(alloc, &mut network, 2, 0, 2), Ok((query, 1, 0)));
+    equal(&rt, item(alloc, &mut net, 2, 0, 2), Ok((query, 1, 0)));
     // Hostile arguments.
-    equal(&rt, item(alloc, &mut network, 3, 0, 2), Err(10));
-    equal(&rt, item(alloc, &mut network, 2, 1, 2), Err(11));
-    equal(&rt, link(alloc, &mut network, 2), Err(11));
-    equal(&rt, gate(alloc, &mut network, 3), Err(10));
-    tuhvondi_network_free(alloc, &mut network);
-    equal(&rt, machine(alloc, &mut network), Err(7));
-    equal(&rt, gate(alloc, &mut network, 0), Err(7));
+    equal(&rt, item(alloc, &mut net, 3, 0, 2), Err(10));
+    equal(&rt, item(alloc, &mut net, 2, 1, 2), Err(11));
+    equal(&rt, link(alloc, &mut net, 2), Err(11));
+    equal(&rt, gate(alloc, &mut net, 3), Err(10));
+    tuhvondi_network_free(alloc, &mut net);
+    equal(&rt, machine(alloc, &mut net), Err(7));
+    equal(&rt, gate(alloc, &mut net, 0), Err(7));
+}
+
+// Opens a network: the status, and where a fault stands.
+fn open(
+    alloc: Global,
+    routers: u16,
+    links: &[LinkParts],
+    owners: &[AttachmentParts],
+    network: &mut NetworkHandle,
+) -> (u32, FaultPlace) {
+    let mut place = NOWHERE;
+    let status = tuhvondi_network_new(alloc, routers, links, owners, &mut place, network);
+    (status, place)
+}
+
+fn fault(status: u32, position: usize, list: u8) -> (u32, FaultPlace) {
+    (status, FaultPlace { position, list })
 }
 
 #[test]
 fn faults_are_told_with_their_place(rt: HostRuntime) {
     let alloc = rt.alloc();
-    let mut network = NetworkHandle::none(alloc);
-    let mut place = NOWHERE;
-    // No router; the second link joins the same two; the first link has no cost from its second end.
-    equal(
-        &rt,
-        tuhvondi_network_new(alloc, 0, &[], &[], &mut place, &mut network),
-        24,
-    );
-    equal(
-        &rt,
-        place,
-        FaultPlace {
-            position: 0,
-            list: 0,
-        },
-    );
-    equal(
-        &rt,
-        tuhvondi_network_new(
-            alloc,
-            3,
-            &[LINE[0], LINE[0]],
-            &OWNER,
-            &mut place,
-            &mut network,
-        ),
-        25,
-    );
-    equal(
-        &rt,
-        place,
-        FaultPlace {
-            position: 1,
-            list: 1,
-        },
-    );
+    let mut net = NetworkHandle::none(alloc);
+    // No router; the second link joins the same two; it has no cost from its second end.
+    let found = open(alloc, 0, &[], &[], &mut net);
+    equal(&rt, found, fault(24, 0, 0));
+    let twice = [LINE[0], LINE[0]];
+    let found = open(alloc, 3, &twice, &OWNER, &mut net);
+    equal(&rt, found, fault(25, 1, 1));
     let costless = LinkParts {
         from_b: 0,
         ..LINE[1]
     };
-    equal(
-        &rt,
-        tuhvondi_network_new(
-            alloc,
-            3,
-            &[LINE[0], costless],
-            &OWNER,
-            &mut place,
-            &mut network,
-        ),
-        5,
-    );
-    equal(
-        &rt,
-        place,
-        FaultPlace {
-            position: 1,
-            list: 1,
-        },
-    );
+    let found = open(alloc, 3, &[LINE[0], costless], &OWNER, &mut net);
+    equal(&rt, found, fault(5, 1, 1));
     let long = AttachmentParts {
         len: 33,
         ..OWNER[0]
     };
-    equal(
-        &rt,
-        tuhvondi_network_new(alloc, 3, &LINE, &[OWNER[0], long], &mut place, &mut network),
-        3,
-    );
-    equal(
-        &rt,
-        place,
-        FaultPlace {
-            position: 1,
-            list: 2,
-        },
-    );
+    let found = open(alloc, 3, &LINE, &[OWNER[0], long], &mut net);
+    equal(&rt, found, fault(3, 1, 2));
     let nobody = AttachmentParts {
         router: 3,
         ..OWNER[0]
     };
-    equal(
-        &rt,
-        tuhvondi_network_new(alloc, 3, &LINE, &[nobody], &mut place, &mut network),
-        27,
-    );
-    equal(
-        &rt,
-        place,
-        FaultPlace {
-            position: 0,
-            list: 2,
-        },
-    );
+    let found = open(alloc, 3, &LINE, &[nobody], &mut net);
+    equal(&rt, found, fault(27, 0, 2));
     // The handle is empty still.
-    equal(
-        &rt,
-        tuhvondi_network_step(alloc, &mut network, &plain(0, 0)),
-        7,
-    );
-    tuhvondi_network_free(alloc, &mut network);
+    equal(&rt, step(alloc, &mut net, 0, 0), 7);
+    tuhvondi_network_free(alloc, &mut net);
 }
 
 #[test]
 fn refused_steps_are_told(rt: HostRuntime) {
     let alloc = rt.alloc();
-    let mut network = line(alloc);
-    equal(
-        &rt,
-        tuhvondi_network_step(alloc, &mut network, &plain(8, 0)),
-        6,
-    );
-    equal(
-        &rt,
-        tuhvondi_network_step(alloc, &mut network, &plain(0, 2)),
-        11,
-    );
-    equal(
-        &rt,
-        tuhvondi_network_step(alloc, &mut network, &plain(1, 0)),
-        14,
-    );
-    equal(
-        &rt,
-        tuhvondi_network_step(alloc, &mut network, &plain(4, 3)),
-        10,
-    );
-    equal(
-        &rt,
-        tuhvondi_network_step(alloc, &mut network, &plain(4, 0)),
-        17,
-    );
-    equal(
-        &rt,
-        tuhvondi_network_step(alloc, &mut network, &plain(5, 0)),
-        18,
-    );
-    let mut done = 9;
-    equal(
-        &rt,
-        tuhvondi_network_run(alloc, &mut network, &[plain(0, 0), plain(0, 0)], &mut done),
-        13,
-    );
-    equal(&rt, done, 1);
+    let mut net = line(alloc);
+    let rows = [
+        (8, 0, 6),
+        (0, 2, 11),
+        (1, 0, 14),
+        (4, 3, 10),
+        (4, 0, 17),
+        (5, 0, 18),
+    ];
+    for (kind, subject, status) in rows {
+        equal(&rt, step(alloc, &mut net, kind, subject), status);
+    }
+    let ups = [plain(0, 0), plain(0, 0)];
+    equal(&rt, run(alloc, &mut net, &ups), (13, 1));
     let mut next = plain(9, 9);
-    equal(
-        &rt,
-        tuhvondi_network_next_step(alloc, &mut network, 0, &mut next),
-        0,
-    );
-    equal(&rt, next, plain(3, 0));
-    equal(
-        &rt,
-        tuhvondi_network_next_step(alloc, &mut network, 2, &mut next),
-        0,
-    );
-    equal(&rt, next, plain(255, 0));
-    equal(
-        &rt,
-        tuhvondi_network_next_step(alloc, &mut network, 3, &mut next),
-        10,
-    );
-    tuhvondi_network_free(alloc, &mut network);
+    for (router, status, kind) in [(0, 0, 3), (2, 0, 255), (3, 10, 255)] {
+        let found = tuhvondi_network_next_step(alloc, &mut net, router, &mut next);
+        equal(&rt, (found, next), (status, plain(kind, 0)));
+    }
+    tuhvondi_network_free(alloc, &mut net);
 }
 
-fn settle(alloc: Global, network: &mut NetworkHandle) -> usize {
-    let mut done = 0;
-    let _ = tuhvondi_network_settle(alloc, network, 0, 1_000_000, &mut done);
-    done
+// Lets a network come to rest: how many steps that takes.
+fn rest(alloc: Global, network: &mut NetworkHandle) -> usize {
+    settle(alloc, network, 0, 1_000_000).1
 }
 
 #[test]
 fn a_copy_goes_its_own_way(rt: HostRuntime) {
     let alloc = rt.alloc();
-    let mut network = line(alloc);
+    let mut net = joined(alloc);
     let mut other = NetworkHandle::none(alloc);
-    let mut done = 0;
-    let _ = tuhvondi_network_run(alloc, &mut network, &[plain(0, 0), plain(0, 1)], &mut done);
-    let _ = tuhvondi_network_settle(alloc, &mut network, 0, 3, &mut done);
-    equal(
-        &rt,
-        tuhvondi_network_copy(alloc, &mut network, &mut other),
-        0,
-    );
+    let _ = settle(alloc, &mut net, 0, 3);
+    let status = tuhvondi_network_copy(alloc, &mut net, &mut other);
+    equal(&rt, status, 0);
     // Both have as much left to do, and come to rest alike.
-    equal(&rt, settle(alloc, &mut other), settle(alloc, &mut network));
+    equal(&rt, rest(alloc, &mut other), rest(alloc, &mut net));
     equal(&rt, look_up(alloc, &mut other, 2), row(1, 0, 1));
     // A link of the copy goes down. Then a copy of that copy replaces it.
-    equal(
-        &rt,
-        tuhvondi_network_step(alloc, &mut other, &plain(1, 0)),
-        0,
-    );
+    equal(&rt, step(alloc, &mut other, 1, 0), 0);
     let mut third = line(alloc);
-    equal(&rt, tuhvondi_network_copy(alloc, &mut other, &mut third), 0);
+    let status = tuhvondi_network_copy(alloc, &mut other, &mut third);
+    equal(&rt, status, 0);
     tuhvondi_network_free(alloc, &mut other);
-    equal(&rt, settle(alloc, &mut third) > 0, true);
+    equal(&rt, rest(alloc, &mut third) > 0, true);
     equal(&rt, look_up(alloc, &mut third, 2), row(2, 0, 0));
-    equal(&rt, look_up(alloc, &mut network, 2), row(1, 0, 1));
-    equal(&rt, settle(alloc, &mut network), 0);
+    equal(&rt, look_up(alloc, &mut net, 2), row(1, 0, 1));
+    equal(&rt, rest(alloc, &mut net), 0);
     // An empty handle has nothing to copy, and the other keeps what it holds.
-    equal(&rt, tuhvondi_network_copy(alloc, &mut other, &mut third), 7);
+    let status = tuhvondi_network_copy(alloc, &mut other, &mut third);
+    equal(&rt, status, 7);
     equal(&rt, look_up(alloc, &mut third, 2), row(2, 0, 0));
-    tuhvondi_network_free(alloc, &mut network);
+    tuhvondi_network_free(alloc, &mut net);
     tuhvondi_network_free(alloc, &mut third);
 }
 
-// What the line needs, and not more.
-const TIGHT: LimitsParts = LimitsParts {
-    routers: 3,
-    links: 2,
-    ports: 2,
-    prefixes: 1,
-    attachments: 1,
-};
+fn limits(
+    routers: usize,
+    links: usize,
+    ports: usize,
+    prefixes: usize,
+    attachments: usize,
+) -> LimitsParts {
+    LimitsParts {
+        routers,
+        links,
+        ports,
+        prefixes,
+        attachments,
+    }
+}
 
-const WIDEST: LimitsParts = LimitsParts {
-    routers: 65_536,
-    links: 65_536,
-    ports: 32,
-    prefixes: 4_294_967_295,
-    attachments: 4_294_967_295,
-};
+// Opens a network within limits: the status, and where a fault stands.
+fn within(
+    alloc: Global,
+    limits: LimitsParts,
+    routers: usize,
+    links: &[LinkParts],
+    owners: &[AttachmentParts],
+    network: &mut NetworkHandle,
+) -> (u32, FaultPlace) {
+    let mut place = NOWHERE;
+    let status =
+        tuhvondi_network_within(alloc, &limits, routers, links, owners, &mut place, network);
+    (status, place)
+}
+
+const MANY: usize = 4_294_967_295;
 
 #[test]
 fn limits_are_those_of_the_caller(rt: HostRuntime) {
     let alloc = rt.alloc();
-    let mut network = NetworkHandle::none(alloc);
+    let mut net = NetworkHandle::none(alloc);
+    // What the line needs, and not more; and then less, or more than there may be.
     let rows = [
-        (TIGHT, 0, 9, 9),
-        (WIDEST, 0, 9, 9),
-        (
-            LimitsParts {
-                routers: 2,
-                ..TIGHT
-            },
-            24,
-            0,
-            0,
-        ),
-        (
-            LimitsParts {
-                routers: 0,
-                ..TIGHT
-            },
-            24,
-            0,
-            0,
-        ),
-        (LimitsParts { links: 1, ..TIGHT }, 26, 1, 1),
-        (LimitsParts { links: 0, ..TIGHT }, 26, 0, 1),
-        (LimitsParts { ports: 1, ..TIGHT }, 26, 1, 1),
-        (LimitsParts { ports: 0, ..TIGHT }, 26, 0, 1),
-        (
-            LimitsParts {
-                prefixes: 0,
-                ..TIGHT
-            },
-            27,
-            0,
-            2,
-        ),
-        (
-            LimitsParts {
-                attachments: 0,
-                ..TIGHT
-            },
-            27,
-            0,
-            2,
-        ),
-        (
-            LimitsParts {
-                routers: 65_537,
-                ..WIDEST
-            },
-            50,
-            0,
-            0,
-        ),
-        (
-            LimitsParts {
-                links: 65_537,
-                ..WIDEST
-            },
-            50,
-            0,
-            0,
-        ),
-        (LimitsParts { ports: 33, ..TIGHT }, 50, 0, 0),
-        (
-            LimitsParts {
-                prefixes: 4_294_967_296,
-                ..TIGHT
-            },
-            50,
-            0,
-            0,
-        ),
-        (
-            LimitsParts {
-                attachments: usize::MAX,
-                ..TIGHT
-            },
-            50,
-            0,
-            0,
-        ),
+        (limits(3, 2, 2, 1, 1), fault(0, 9, 9)),
+        (limits(65_536, 65_536, 32, MANY, MANY), fault(0, 9, 9)),
+        (limits(2, 2, 2, 1, 1), fault(24, 0, 0)),
+        (limits(0, 2, 2, 1, 1), fault(24, 0, 0)),
+        (limits(3, 1, 2, 1, 1), fault(26, 1, 1)),
+        (limits(3, 0, 2, 1, 1), fault(26, 0, 1)),
+        (limits(3, 2, 1, 1, 1), fault(26, 1, 1)),
+        (limits(3, 2, 0, 1, 1), fault(26, 0, 1)),
+        (limits(3, 2, 2, 0, 1), fault(27, 0, 2)),
+        (limits(3, 2, 2, 1, 0), fault(27, 0, 2)),
+        (limits(65_537, 65_536, 32, MANY, MANY), fault(50, 0, 0)),
+        (limits(65_536, 65_537, 32, MANY, MANY), fault(50, 0, 0)),
+        (limits(3, 2, 33, 1, 1), fault(50, 0, 0)),
+        (limits(3, 2, 2, MANY + 1, 1), fault(50, 0, 0)),
+        (limits(3, 2, 2, 1, usize::MAX), fault(50, 0, 0)),
     ];
-    for (limits, status, position, list) in rows {
-        let mut place = NOWHERE;
-        equal(
-            &rt,
-            tuhvondi_network_within(alloc, &limits, 3, &LINE, &OWNER, &mut place, &mut network),
-            status,
-        );
-        equal(&rt, place, FaultPlace { position, list });
+    for (own, wanted) in rows {
+        let found = within(alloc, own, 3, &LINE, &OWNER, &mut net);
+        equal(&rt, found, wanted);
     }
     // The network of the widest limits is held still. A fault of the limits comes before those of the lists.
-    equal(&rt, look_up(alloc, &mut network, 0), row(0, 0, 0));
-    let mut place = NOWHERE;
+    equal(&rt, look_up(alloc, &mut net, 0), row(0, 0, 0));
     let costless = [LinkParts {
         from_a: 0,
         ..LINE[0]
     }];
-    let over = LimitsParts { ports: 33, ..TIGHT };
-    for (limits, status) in [(over, 50), (TIGHT, 5)] {
-        equal(
-            &rt,
-            tuhvondi_network_within(alloc, &limits, 0, &costless, &[], &mut place, &mut network),
-            status,
-        );
+    for (ports, status) in [(33, 50), (2, 5)] {
+        let own = limits(3, 2, ports, 1, 1);
+        let found = within(alloc, own, 0, &costless, &[], &mut net);
+        equal(&rt, found.0, status);
     }
-    tuhvondi_network_free(alloc, &mut network);
+    tuhvondi_network_free(alloc, &mut net);
 }
 
 #[test]
 fn the_last_of_all_routers_is_reached(rt: HostRuntime) {
     let alloc = rt.alloc();
-    let mut network = NetworkHandle::none(alloc);
-    let mut place = NOWHERE;
+    let mut net = NetworkHandle::none(alloc);
     let links = [LinkParts {
         from_a: 65_535,
         from_b: 65_535,
@@ -761,55 +560,16 @@ fn the_last_of_all_routers_is_reached(rt: HostRuntime) {
         router: 65_535,
         ..OWNER[0]
     }];
-    equal(
-        &rt,
-        tuhvondi_network_within(
-            alloc,
-            &WIDEST,
-            65_537,
-            &links,
-            &owner,
-            &mut place,
-            &mut network,
-        ),
-        24,
-    );
-    equal(
-        &rt,
-        tuhvondi_network_within(
-            alloc,
-            &WIDEST,
-            65_536,
-            &links,
-            &owner,
-            &mut place,
-            &mut network,
-        ),
-        0,
-    );
-    equal(
-        &rt,
-        tuhvondi_network_step(alloc, &mut network, &plain(0, 0)),
-        0,
-    );
-    equal(&rt, settle(alloc, &mut network) > 0, true);
-    let (mut hops, mut count, mut end) = ([9, 9, 9], 0, 9);
-    equal(
-        &rt,
-        tuhvondi_network_trace(
-            alloc,
-            &mut network,
-            0,
-            0x0a01_0203,
-            &mut hops,
-            &mut count,
-            &mut end,
-        ),
-        0,
-    );
-    equal(&rt, (count, end), (2, 0));
-    equal(&rt, hops, [0, 65_535, 9]);
-    tuhvondi_network_free(alloc, &mut network);
+    let widest = limits(65_536, 65_536, 32, MANY, MANY);
+    for (routers, status) in [(65_537, 24), (65_536, 0)] {
+        let found = within(alloc, widest, routers, &links, &owner, &mut net);
+        equal(&rt, found.0, status);
+    }
+    equal(&rt, step(alloc, &mut net, 0, 0), 0);
+    equal(&rt, rest(alloc, &mut net) > 0, true);
+    let wanted = (0, [0, 65_535, 9, 9], 2, 0);
+    equal(&rt, trace(alloc, &mut net, 0), wanted);
+    tuhvondi_network_free(alloc, &mut net);
 }
 
 // A step of router 1 that attaches it at this cost, or detaches it.
@@ -822,98 +582,60 @@ fn attachment(kind: u8, cost: u32) -> StepParts {
     }
 }
 
+const NO_NOTICE: NoticeShown = NoticeShown {
+    addr: 9,
+    cost: 9,
+    len: 9,
+};
+
+// Shows notices, so many at the most: the status, the notices, how many these are, and whether there are more.
+fn notices(
+    alloc: Global,
+    network: &mut NetworkHandle,
+    router: u16,
+    room: usize,
+) -> (u32, [NoticeShown; 3], usize, u8) {
+    let (mut shown, mut count, mut more) = ([NO_NOTICE; 3], 9, 9);
+    let list = &mut shown[..room.min(3)];
+    let status = tuhvondi_network_notices(alloc, network, router, list, &mut count, &mut more);
+    (status, shown, count, more)
+}
+
+// Shows held messages in the same way.
+fn held(
+    alloc: Global,
+    network: &mut NetworkHandle,
+    router: u16,
+    room: usize,
+) -> (u32, [Frame; 3], usize, u8) {
+    let (mut shown, mut count, mut more) = ([NO_MESSAGE; 3], 9, 9);
+    let list = &mut shown[..room.min(3)];
+    let status = tuhvondi_network_held(alloc, network, router, list, &mut count, &mut more);
+    (status, shown, count, more)
+}
+
 #[test]
 fn notices_and_held_messages_are_shown(rt: HostRuntime) {
     let alloc = rt.alloc();
-    let mut network = line(alloc);
-    let none = NoticeShown {
-        addr: 9,
-        cost: 9,
-        len: 9,
-    };
-    let (mut notices, mut written, mut more) = ([none; 3], 9, 9);
+    let mut net = line(alloc);
     let steps = [attachment(6, 3), attachment(7, 0), attachment(6, 2)];
-    equal(
-        &rt,
-        tuhvondi_network_run(alloc, &mut network, &steps, &mut written),
-        0,
-    );
+    equal(&rt, run(alloc, &mut net, &steps), (0, 3));
     let told = |cost| NoticeShown {
         addr: 0x0a00_0000,
         cost,
         len: 8,
     };
-    equal(
-        &rt,
-        tuhvondi_network_notices(
-            alloc,
-            &mut network,
-            1,
-            &mut notices[..2],
-            &mut written,
-            &mut more,
-        ),
-        0,
-    );
-    equal(
-        &rt,
-        (notices, written, more),
-        ([told(3), told(0), none], 2, 1),
-    );
-    equal(
-        &rt,
-        tuhvondi_network_notices(
-            alloc,
-            &mut network,
-            1,
-            &mut notices,
-            &mut written,
-            &mut more,
-        ),
-        0,
-    );
-    equal(
-        &rt,
-        (notices, written, more),
-        ([told(3), told(0), told(2)], 3, 0),
-    );
+    let two = [told(3), told(0), NO_NOTICE];
+    equal(&rt, notices(alloc, &mut net, 1, 2), (0, two, 2, 1));
+    let three = [told(3), told(0), told(2)];
+    equal(&rt, notices(alloc, &mut net, 1, 3), (0, three, 3, 0));
     // Router 1 hears of both its links, and then of its attachment: it holds an update for each neighbour.
     let taken = |port| StepParts {
         port,
         ..plain(3, 1)
     };
     let steps = [plain(0, 0), plain(0, 1), taken(0), taken(1), taken(2)];
-    equal(
-        &rt,
-        tuhvondi_network_run(alloc, &mut network, &steps, &mut written),
-        0,
-    );
-    let mut messages = [NO_MESSAGE; 3];
-    equal(
-        &rt,
-        tuhvondi_network_held(
-            alloc,
-            &mut network,
-            1,
-            &mut messages[..1],
-            &mut written,
-            &mut more,
-        ),
-        0,
-    );
-    equal(&rt, (written, more), (1, 1));
-    equal(
-        &rt,
-        tuhvondi_network_held(
-            alloc,
-            &mut network,
-            1,
-            &mut messages,
-            &mut written,
-            &mut more,
-        ),
-        0,
-    );
+    equal(&rt, run(alloc, &mut net, &steps), (0, 5));
     let update = |port| Frame {
         addr: 0x0a00_0000,
         value: 3,
@@ -922,38 +644,16 @@ fn notices_and_held_messages_are_shown(rt: HostRuntime) {
         kind: 0,
         port,
     };
-    equal(
-        &rt,
-        (messages, written, more),
-        ([update(0), update(1), NO_MESSAGE], 2, 0),
-    );
+    let one = [update(0), NO_MESSAGE, NO_MESSAGE];
+    equal(&rt, held(alloc, &mut net, 1, 1), (0, one, 1, 1));
+    let both = [update(0), update(1), NO_MESSAGE];
+    equal(&rt, held(alloc, &mut net, 1, 3), (0, both, 2, 0));
     // Hostile arguments write nothing.
-    for (router, status) in [(3, 10), (65_535, 10)] {
-        equal(
-            &rt,
-            tuhvondi_network_held(
-                alloc,
-                &mut network,
-                router,
-                &mut messages,
-                &mut written,
-                &mut more,
-            ),
-            status,
-        );
-        equal(
-            &rt,
-            tuhvondi_network_notices(
-                alloc,
-                &mut network,
-                router,
-                &mut notices,
-                &mut written,
-                &mut more,
-            ),
-            status,
-        );
+    for router in [3, 65_535] {
+        let none = [NO_MESSAGE; 3];
+        equal(&rt, held(alloc, &mut net, router, 3), (10, none, 9, 9));
+        let none = [NO_NOTICE; 3];
+        equal(&rt, notices(alloc, &mut net, router, 3), (10, none, 9, 9));
     }
-    equal(&rt, (written, more), (2, 0));
-    tuhvondi_network_free(alloc, &mut network);
+    tuhvondi_network_free(alloc, &mut net);
 }
