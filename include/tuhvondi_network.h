@@ -553,14 +553,15 @@ uint32_t tuhvondi_network_counts(struct tuhvondi_network *network,
 
 /* Opens a network as tuhvondi_network_within does, at moment 0. `delays` has the delays of each link, and
  * `publications` for each router how long it takes to publish, in microseconds. It keeps a record from then on,
- * unless `record` is 0.
+ * unless `keeps_record` is 0.
  * Refused first if there are not as many delays as links, or publications as routers: TUHVONDI_BAD_COUNT, in no
  * list. Then it is refused as tuhvondi_network_within is. */
 uint32_t tuhvondi_network_with_delays(const struct tuhvondi_limits *limits, size_t routers,
                                       const struct tuhvondi_link *links, size_t link_count,
                                       const struct tuhvondi_owner *owners, size_t owner_count,
                                       const struct tuhvondi_delays *delays, size_t delay_count,
-                                      const uint64_t *publications, size_t publication_count, uint8_t record,
+                                      const uint64_t *publications, size_t publication_count,
+                                      uint8_t keeps_record,
                                       struct tuhvondi_fault_place *place, struct tuhvondi_network *network);
 
 /* Gives a change that is to be done at a moment, after those that you gave before for the same one. It is a step

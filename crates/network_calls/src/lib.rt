@@ -14,7 +14,8 @@
 //!
 //! What always holds: numbers are tested in a fixed order, and the first fault is answered. Each refusal has a
 //! number of its own (`failure_number` in `specs/Failures.antt`), which is never 0. What C is shown is what the
-//! definitions say (`specs/Calls.antt`, `specs/Shown.antt`). No call here changes a network but by its steps.
+//! definitions say (`specs/Calls.antt`, `specs/Shown.antt`). Nothing here changes a network but its steps and, with
+//! a clock, the list of changes that are to be done.
 //!
 //! What is tricky: lists that are written for C have a length that C chose. So a call writes over the first
 //! elements, as many as fit, says how many these are and whether there are more, and leaves the rest as it was.
