@@ -77,11 +77,11 @@ from .network import (Counts, End, Entry, Held, HeldMessage, Item, ItemKind, Lin
 from .router import Message, MessageKind, PrefixState, Publication, Router, RouterCounts
 from .rows import Address, Distance, Kind, Prefix, Row
 from .status import (AlreadyUp, AskedTwice, BadCost, BadCount, BadKind, BadLength, BadLimits,
-                     BadLink, BadOwner, BadRouters, EmptyHandle, GenerationsSpent, HostBits, IsDown,
-                     NoMemory, NoRecord, NotAttached, NothingDue, NothingRipe, NothingToDeliver,
-                     OtherSession, PastMoment, Refused, SessionsSpent, Shared, StepsSpent, StillUsed,
-                     TimeSpent, TooManyLinks, TooManyPorts, TooManyPrefixes, Unasked, UnknownLink,
-                     UnknownPort, UnknownPrefix, UnknownRouter)
+                     BadLink, BadOwner, BadRouters, EmptyHandle, GenerationsSpent, HasClock, HostBits,
+                     IsDown, NoClock, NoMemory, NoRecord, NotAttached, NothingDue, NothingRipe,
+                     NothingToDeliver, OtherSession, PastMoment, Refused, SessionsSpent, Shared,
+                     StepsSpent, StillUsed, TimeSpent, TooManyLinks, TooManyPorts, TooManyPrefixes, Unasked,
+                     UnknownLink, UnknownPort, UnknownPrefix, UnknownRouter)
 from .timed import Event, Spell, TimedNetwork
 
 __version__ = "0.2.0"
@@ -96,7 +96,7 @@ __all__ = [
     "Address", "Distance", "Prefix",
     "Refused", "LibraryNotFound", "AlreadyUp", "AskedTwice", "BadCost", "BadCount", "BadKind",
     "BadLength", "BadLimits", "BadLink", "BadOwner", "BadRouters", "EmptyHandle", "GenerationsSpent",
-    "HostBits", "IsDown", "NoMemory", "NoRecord", "NotAttached", "NothingDue", "NothingRipe",
+    "HasClock", "HostBits", "IsDown", "NoClock", "NoMemory", "NoRecord", "NotAttached", "NothingDue", "NothingRipe",
     "NothingToDeliver", "OtherSession", "PastMoment", "SessionsSpent", "Shared", "StepsSpent", "StillUsed",
     "TimeSpent", "TooManyLinks", "TooManyPorts", "TooManyPrefixes", "Unasked", "UnknownLink", "UnknownPort",
     "UnknownPrefix", "UnknownRouter",
