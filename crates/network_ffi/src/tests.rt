@@ -119,8 +119,9 @@ fn settle(alloc: Global, network: &mut NetworkHandle, seed: u64, most: usize) ->
 fn trace(alloc: Global, network: &mut NetworkHandle, router: u16) -> (u32, [u16; 4], usize, u8) {
     let (mut hops, mut count, mut end) = ([9; 4], 9, 9);
     let to = 0x0a01_0203;
-    let status =
-        tuhvondi_network_trace(alloc, network, router, to, &mut hops, &mut count, &mut end);
+    let status = tuhvondi_network_trace(
+        alloc, network, router, to, &mut hops, &mut count, &mut end,
+    );
     (status, hops, count, end)
 }
 
@@ -499,8 +500,9 @@ fn within(
     network: &mut NetworkHandle,
 ) -> (u32, FaultPlace) {
     let mut place = NOWHERE;
-    let status =
-        tuhvondi_network_within(alloc, &limits, routers, links, owners, &mut place, network);
+    let status = tuhvondi_network_within(
+        alloc, &limits, routers, links, owners, &mut place, network,
+    );
     (status, place)
 }
 
