@@ -58,7 +58,7 @@ pub invariant_of-self : goal.invariant_of-self
 invariant_of-self g c =
     let readers = c.self.inside.readers.items in
     let asked = c.ask.new.reader in
-    let number : asked.router ≡ c.from.result = c.ask.ensures.router ∙ sym (reader_number g c.before.before.before) ∙ sym c.from.ensures in (
+    let number : asked.router ≡ c.from.result = c.ask.ensures.router ∙ sym (reader_number g c.before.before.before.before) ∙ sym c.from.ensures in (
       (
         c.self.invariant.0.0,
         c.self.invariant.0.1,
