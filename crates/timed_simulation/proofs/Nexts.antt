@@ -55,7 +55,8 @@ takes_second m (Some a) (Some b) is later = ap (λ (t : Bool). if t then Some b 
 -- the soonest of several is the first of the least moments
 pub soonest_is : (f : ℕ → Option Event) (m k n : ℕ) → k < n → moment_of (f k) ≡ Some m → ((i j : ℕ) → i < n → moment_of (f i) ≡ Some j → m ≤ j) → ((i : ℕ) → i < n → moment_of (f i) ≡ Some m → k ≤ i) → soonest f n ≡ f k
 soonest_is f m k zero below is least lowest = absurd (omega (arith, below))
-soonest_is f m k (suc n) below is least lowest = by_place (cases_lt k n)
+soonest_is f m k (suc n) below is least lowest =
+    by_place (cases_lt k n) (λ inner. soonest_is f m k n inner is (λ i j less. least i j (omega (arith, less))) (λ i less. lowest i (omega (arith, less))))
   where
     beyond : k ≡ n → (i : ℕ) → i < n → (j : ℕ) → moment_of (f i) ≡ Some j → suc m ≤ j
     beyond last i before j at = by_order (cases_eq j m)
@@ -68,11 +69,9 @@ soonest_is f m k (suc n) below is least lowest = by_place (cases_lt k n)
             by_size (inl less) = omega (arith, less)
             by_size (inr more) = absurd (other (let no_less = least i j (omega (arith, before)) at in omega (arith, no_less, more)))
 
-    by_place : (k < n) ⊎ (n ≤ k) → sooner (soonest f n) (f n) ≡ f k
-    by_place (inl inner) =
-        let before : soonest f n ≡ f k = soonest_is f m k n inner is (λ i j less. least i j (omega (arith, less))) (λ i less. lowest i (omega (arith, less))) in
-        ap (λ o. sooner o (f n)) before ∙ keeps_first m (f k) (f n) is (not_before m (f n) (λ j at. least n j (omega arith) at))
-    by_place (inr over) =
+    by_place : (k < n) ⊎ (n ≤ k) → (k < n → soonest f n ≡ f k) → sooner (soonest f n) (f n) ≡ f k
+    by_place (inl inner) before = ap (λ o. sooner o (f n)) (before inner) ∙ keeps_first m (f k) (f n) is (not_before m (f n) (λ j at. least n j (omega arith) at))
+    by_place (inr over) before =
         let last : k ≡ n = omega (arith, over, below) in
         takes_second m (soonest f n) (f n) (ap (λ i. moment_of (f i)) (sym last) ∙ is) (later_many (suc m) f n (λ i less. not_before (suc m) (f i) (beyond last i less)))
         ∙ ap f (sym last)
