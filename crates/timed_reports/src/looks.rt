@@ -204,7 +204,7 @@ fn look_at_router<A: SmallAllocator>(
     prefixes: &[Prefix],
     routers: usize,
     router: u16,
-    told: Option<Prefix>,
+    told: &Option<Prefix>,
     now: u64,
     all: &mut Vec<Watched, A>,
     ended: &mut Vec<Spell, A>,
@@ -212,12 +212,12 @@ fn look_at_router<A: SmallAllocator>(
     requires order { AreInOrder routers prefixes.now all.old.items }
     requires known { router < routers }
     requires room { vec_len ended.old + length all.old.items ≤ vec_capacity ended.old }
-    ensures { AreLooked IsComputing world.now now (IsUnmet router told) (length all.old.items)
+    ensures { AreLooked IsComputing world.now now (IsUnmet router told.now) (length all.old.items)
         all.old.items all.new.items ended.old.items ended.new.items }
 {
     for number in 0..prefixes.len() {
         let place = place_of(number, routers, usize::from(router));
-        look_for_computation(world, told, prefixes[number], now, all, ended, place);
+        look_for_computation(world, *told, prefixes[number], now, all, ended, place);
     }
 }
 
@@ -244,7 +244,7 @@ pub fn look_for_computations<A: SmallAllocator>(
             world.prefixes(),
             routers,
             router,
-            told,
+            &told,
             now,
             all,
             ended,

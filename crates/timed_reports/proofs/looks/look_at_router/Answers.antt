@@ -13,8 +13,8 @@ loop-number-init g c =
     let none : 0 ≡ 0 * c.args.routers = omega arith in
     let room = c.requires.room in
     record {
-      looked = subst (λ (m : ℕ). AreLooked IsComputing c.args.world.now c.args.now (IsUnmet c.args.router c.args.told) m c.args.all.now.items c.args.all.now.items c.args.ended.now.items c.args.ended.now.items) none
-          (looked_none IsComputing c.args.world.now c.args.now (IsUnmet c.args.router c.args.told) c.args.all.now.items c.args.ended.now.items);
+      looked = subst (λ (m : ℕ). AreLooked IsComputing c.args.world.now c.args.now (IsUnmet c.args.router c.args.told.now) m c.args.all.now.items c.args.all.now.items c.args.ended.now.items c.args.ended.now.items) none
+          (looked_none IsComputing c.args.world.now c.args.now (IsUnmet c.args.router c.args.told.now) c.args.all.now.items c.args.ended.now.items);
       room = omega (arith, room);
     }
 
@@ -71,10 +71,10 @@ loop-number-preserved g c =
     let fits : k * n + n ≤ length old = block_fits n ps old c.requires.order k c.loop-number-test.true in
     let as_many = c.loop-number.invariant.looked.as_many in
     let place : c.place_of-place.result ≡ k * n + i = c.place_of-place.ensures ∙ ap (λ (m : ℕ). k * n + m) c.from.ensures in
-    let one : IsLooked IsComputing c.args.world.now c.args.now (IsUnmet i c.args.told) (k * n + i) cs ds c.loop-number.ended.items c.look_for_computation.new.ended.items
-    = look_beside_more IsComputing c.args.world.now c.args.now (λ (d : Watched). meets c.args.told d.prefix ≡ false) (IsUnmet i c.args.told) (λ d unmet. inr unmet) (k * n + i) cs ds c.loop-number.ended.items c.look_for_computation.new.ended.items
-    (subst (λ (m : ℕ). IsLooked IsComputing c.args.world.now c.args.now (λ (d : Watched). meets c.args.told d.prefix ≡ false) m cs ds c.loop-number.ended.items c.look_for_computation.new.ended.items) place c.look_for_computation.ensures.looked) in
-    let next = looked_among IsComputing c.args.world.now c.args.now (IsUnmet i c.args.told) old c.args.ended.now.items (k * n) n i cs ds c.loop-number.ended.items c.look_for_computation.new.ended.items c.requires.known c.loop-number.invariant.looked (omega (arith, fits, as_many))
+    let one : IsLooked IsComputing c.args.world.now c.args.now (IsUnmet i c.args.told.now) (k * n + i) cs ds c.loop-number.ended.items c.look_for_computation.new.ended.items
+    = look_beside_more IsComputing c.args.world.now c.args.now (λ (d : Watched). meets c.args.told.now d.prefix ≡ false) (IsUnmet i c.args.told.now) (λ d unmet. inr unmet) (k * n + i) cs ds c.loop-number.ended.items c.look_for_computation.new.ended.items
+    (subst (λ (m : ℕ). IsLooked IsComputing c.args.world.now c.args.now (λ (d : Watched). meets c.args.told.now d.prefix ≡ false) m cs ds c.loop-number.ended.items c.look_for_computation.new.ended.items) place c.look_for_computation.ensures.looked) in
+    let next = looked_among IsComputing c.args.world.now c.args.now (IsUnmet i c.args.told.now) old c.args.ended.now.items (k * n) n i cs ds c.loop-number.ended.items c.look_for_computation.new.ended.items c.requires.known c.loop-number.invariant.looked (omega (arith, fits, as_many))
     (λ x d from below apart there. inl (of_other n ps old c.requires.order k c.index-prefixes-number.result at x d from below there i apart)) one in
     let more : k * n + n ≡ (k + 1) * n = omega arith in
     let known = c.requires.known in
@@ -82,7 +82,7 @@ loop-number-preserved g c =
     let room = c.look_for_computation.ensures.room in
     let capacity = c.look_for_computation.ensures.capacity in
     record {
-      looked = subst (λ (m : ℕ). AreLooked IsComputing c.args.world.now c.args.now (IsUnmet i c.args.told) m old ds c.args.ended.now.items c.look_for_computation.new.ended.items) more next;
+      looked = subst (λ (m : ℕ). AreLooked IsComputing c.args.world.now c.args.now (IsUnmet i c.args.told.now) m old ds c.args.ended.now.items c.look_for_computation.new.ended.items) more next;
       room = omega (arith, before, room, capacity, known);
     }
 
@@ -92,4 +92,4 @@ returns g c =
     let up_to = c.loop-number.auto.number-end in
     let last : c.loop-number.number ≡ length c.args.prefixes.now = omega (arith, over, up_to) in
     let all : c.loop-number.number * c.args.routers ≡ length c.args.all.now.items = ap (λ (m : ℕ). m * c.args.routers) last ∙ sym (many_watched c.args.routers c.args.prefixes.now c.args.all.now.items c.requires.order) in
-    subst (λ (m : ℕ). AreLooked IsComputing c.args.world.now c.args.now (IsUnmet c.args.router c.args.told) m c.args.all.now.items c.loop-number.all.items c.args.ended.now.items c.loop-number.ended.items) all c.loop-number.invariant.looked
+    subst (λ (m : ℕ). AreLooked IsComputing c.args.world.now c.args.now (IsUnmet c.args.router c.args.told.now) m c.args.all.now.items c.loop-number.all.items c.args.ended.now.items c.loop-number.ended.items) all c.loop-number.invariant.looked
