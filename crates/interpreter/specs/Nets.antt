@@ -63,6 +63,14 @@ pub record Meaning (S : Type 0) : Type 1 where
   pub restored : S → S → Type 0
   pub not_restored : S → FaultKind → Type 0
 
+-- what commands mean on a network they mean on a part that it lends, where this is the network with a part in place of that one
+pub record MeansAs {S T : Type 0} (k : Meaning S) (l : Meaning T) (lend : T → S) (m : S) (t : T) : Type 0 where
+  pub same : lend t ≡ m
+  pub settled : (u : T) → l.settled t u → k.settled m (lend u)
+  pub unsettled : (u : T) (e : Refusal) → l.unsettled t u e → k.unsettled m (lend u) e
+  pub not_given : (router : ℕ) (kind : FaultKind) → l.not_given t router kind → k.not_given m router kind
+  pub not_answered : (kind : FaultKind) → l.not_answered t kind → k.not_answered m kind
+
 -- where steps are kept. An address is not looked up if there is no such router, or its reader shows a later image, or none. No job is given for want of a worker, and only workers can leave jobs unanswered. Nothing is saved, because a journal is kept
 abbrev pub kept_meaning : Meaning Fabric
 kept_meaning = record {

@@ -10,8 +10,9 @@ ghost use Rattle.interpreter.specs.Settling.{SettlesThere, StopsThere};
 ghost use Rattle.interpreter.specs.Traces.{IsTrace, crossing_on, matched_at, matches_other};
 
 use crate::live::Live;
+use crate::threaded::{Staff, Threaded};
 use crate::totals::{counts_of, counts_since, no_counts};
-use control::{Progress, TurnGate};
+use control::Progress;
 use faults::FaultKind;
 use lines::{Answer, Asked, Counts, Line, Printer};
 use network_model::{Ending, Entry, NoMemory, Prefix, Refusal, Step, Trace};
@@ -202,10 +203,8 @@ impl Live for Counted {
         self.simulation.step(step)
     }
 
-    // One thread takes all turns, and calls no gate.
-    fn settle<G: TurnGate + Sync, P: Progress>(
+    fn settle<P: Progress>(
         &mut self,
-        _gate: &G,
         seed: Option<u32>,
         _progress: &mut P,
     ) -> Result<(), Refusal> {
@@ -284,6 +283,15 @@ impl Live for Counted {
         self.counted = counts_since(counts_of(copy.steps(), copy.sent()), since);
         self.simulation = copy;
         Ok(())
+    }
+}
+
+// One thread does all.
+impl<S: Staff> Threaded<S> for Counted {
+    ghost lend = { λ c s. c };
+
+    fn staff(&mut self) -> Option<&mut S> {
+        None
     }
 }
 

@@ -5,11 +5,15 @@ ghost use Rattle.network_model.specs.Kinds.{refusal_kind};
 ghost use Rattle.interpreter.specs.Commands.{AreDone, IsDone, IsRefused, StopsAtCommand};
 
 use crate::commands::{do_step, look_up, show_count, show_trace, try_step};
+use crate::host::Host;
+use crate::kept::Staffed;
 use crate::live::Live;
 use crate::progress::show_commands_done;
 use crate::putting::put_links;
+use crate::threaded::{Threaded, drain, inject, settle};
 use command_line::Format;
 use control::{Progress, TurnGate};
+use fabric::FabricName;
 use faults::FaultKind;
 use lines::{Printer, print_report, print_state, show_held, show_next, show_queue, show_table};
 use network_model::Refusal;
@@ -54,7 +58,7 @@ impl<'a, G> Interpreter<'a, G> {
 
 /// Does the commands in order, up to the first that is refused. Their steps make a run of lawful steps. After each,
 /// and while one goes on, it is told on `err` how far the run is, where that is asked for.
-pub fn do_commands<N, G, W, E>(
+pub fn do_commands<B, H, N, G, W, E>(
     interpreter: &Interpreter<'_, G>,
     net: &mut N,
     commands: &[Command],
@@ -62,7 +66,9 @@ pub fn do_commands<N, G, W, E>(
     err: &mut E,
 ) -> Result<(), Fault>
 where
-    N: Live,
+    B: FabricName + Send + Sync + 'static,
+    H: Host,
+    N: Threaded<Staffed<B, H>>,
     G: TurnGate + Sync,
     W: Write,
     E: Write,
@@ -110,7 +116,7 @@ impl<'a, E: Write> Progress for ScriptProgress<'a, E> {
 }
 
 /// Does one command, and tells `progress` how far it is. What it prints may be lost.
-pub fn do_command<N, G, W, P>(
+pub fn do_command<B, H, N, G, W, P>(
     interpreter: &Interpreter<'_, G>,
     net: &mut N,
     command: Command,
@@ -118,7 +124,9 @@ pub fn do_command<N, G, W, P>(
     progress: &mut P,
 ) -> Result<(), FaultKind>
 where
-    N: Live,
+    B: FabricName + Send + Sync + 'static,
+    H: Host,
+    N: Threaded<Staffed<B, H>>,
     G: TurnGate + Sync,
     W: Write,
     P: Progress,
@@ -136,9 +144,9 @@ where
             try_step(net, &printer, step, out);
             Ok(())
         }
-        Command::Settle => into_kind(net.settle(interpreter.gate, None, progress)),
+        Command::Settle => into_kind(settle(net, interpreter.gate, None, progress)),
         Command::SettleDrawn { seed } => {
-            into_kind(net.settle(interpreter.gate, Some(seed), progress))
+            into_kind(settle(net, interpreter.gate, Some(seed), progress))
         }
         Command::RouterUp { router } => into_kind(put_links(net, true, router)),
         Command::RouterDown { router } => into_kind(put_links(net, false, router)),
@@ -168,8 +176,8 @@ where
         Command::TraceThrough { router, addr } => {
             into_kind(show_trace(net, &printer, router, addr, true, out))
         }
-        Command::Inject { router, addr } => net.inject(router, addr),
-        Command::Drain => net.drain(&printer, out),
+        Command::Inject { router, addr } => inject(net, router, addr),
+        Command::Drain => drain(net, &printer, out),
         Command::Count => {
             show_count(net, &printer, out);
             Ok(())

@@ -1,13 +1,16 @@
 //! A network whose steps are kept: a fabric, with the workers that look up in its images.
 
-ghost use Rattle.std.specs.Prelude.{◌≡◌, ◌≤◌, All, IfErr, MatchResult, length, vec_len};
+ghost use Rattle.std.specs.Prelude.{◌≡◌, ◌≤◌, All, IfErr, MatchResult, OnOk, length, vec_len};
 ghost use Rattle.network_model.specs.Network.{most_workers};
 ghost use Rattle.fabric.specs.Writers.{IsReaderPort};
-ghost use Rattle.interpreter.specs.Dispatching.{IsUnanswered};
+ghost use Rattle.lines.specs.Report.{unknown_router};
+ghost use Rattle.interpreter.specs.Dispatching.{CannotInject, IsUnanswered};
+ghost use Rattle.interpreter.specs.Settling.{Settles, StopsSettling};
 
 use crate::dispatcher::{Dispatcher, ports_of, print_replies};
 use crate::host::Host;
 use crate::live::Live;
+use crate::threaded::{Staff, Threaded};
 use crate::totals::{counts_of, counts_since, no_counts};
 use control::{Crew, Order, Progress, TurnGate, settle, settle_in_order};
 use fabric::{Fabric, FabricName};
@@ -19,16 +22,13 @@ use std::alloc::Global;
 use std::io::Write;
 use std::marker::Model;
 use tracer::{trace, trace_through};
+use worker_pool::PoolFault;
 use world::{Network, World};
 
-/// A fabric with its workers. Contracts see the fabric. It is not `Drop`: end it by `close`, so that no worker is
-/// left running.
+/// A fabric with its workers, and what was counted of its steps. Contracts see the fabric. It is not `Drop`: end it by
+/// `close`, so that no worker is left running.
 pub struct Kept<B: FabricName, H> {
-    rt: H,
-    alloc: Global,
-    crew: Crew,
-    dispatcher: Dispatcher<B>,
-    fabric: Fabric<B>,
+    staffed: Staffed<B, H>,
     // What was done until they were counted last.
     counted: Counts,
 }
@@ -38,7 +38,30 @@ impl<B: FabricName, H> Model for Kept<B, H> {
 
     ghost Value = { FabricState };
 
-    ghost view = { λ k. k.fabric };
+    ghost view = { λ k. k.staffed };
+}
+
+/// A fabric with its workers, and the crew by which its routers settle. Contracts see the fabric.
+pub struct Staffed<B: FabricName, H> {
+    rt: H,
+    alloc: Global,
+    crew: Crew,
+    dispatcher: Dispatcher<B>,
+    fabric: Fabric<B>,
+}
+
+impl<B: FabricName, H> Model for Staffed<B, H> {
+    ghost use Rattle.fabric.specs.Fabric.{Fabric as FabricState};
+
+    ghost Value = { FabricState };
+
+    ghost view = { λ s. s.fabric };
+}
+
+impl<B: FabricName, H> Staff for Staffed<B, H> {
+    ghost use Rattle.interpreter.specs.Nets.{kept_meaning};
+
+    ghost meaning = { kept_meaning };
 }
 
 impl<B, H> Kept<B, H>
@@ -60,11 +83,13 @@ where
     {
         match ports_of(alloc, readers) {
             Ok(ports) => Ok(Kept {
-                rt,
-                alloc,
-                crew,
-                dispatcher: Dispatcher::new(ports),
-                fabric,
+                staffed: Staffed {
+                    rt,
+                    alloc,
+                    crew,
+                    dispatcher: Dispatcher::new(ports),
+                    fabric,
+                },
                 counted: no_counts(),
             }),
             Err(memory) => Err((fabric, memory)),
@@ -78,13 +103,16 @@ where
         ensures unanswered { IfErr result.1 IsUnanswered }
     {
         let Kept {
+            staffed,
+            counted: _,
+        } = self;
+        let Staffed {
             rt,
             alloc,
             crew: _,
             dispatcher,
             fabric,
-            counted: _,
-        } = self;
+        } = staffed;
         match dispatcher.close(&rt, alloc) {
             Ok(_) => (fabric, Ok(())),
             Err(fault) => (fabric, Err(FaultKind::from(fault))),
@@ -92,38 +120,22 @@ where
     }
 }
 
-impl<B, H> Live for Kept<B, H>
+impl<B, H> Staffed<B, H>
 where
     B: FabricName + Send + Sync + 'static,
     H: Host,
 {
-    ghost use Rattle.interpreter.specs.Nets.{kept_meaning};
-
-    ghost meaning = { kept_meaning };
-
-    fn network(&self) -> &Network {
-        self.fabric.network()
-    }
-
-    fn world(&self) -> &World {
-        self.fabric.world()
-    }
-
-    fn steps(&self) -> u64 {
-        self.fabric.journal().len() as u64
-    }
-
-    fn step(&mut self, step: Step) -> Result<(), Refusal> {
-        self.fabric.step(&self.rt, step)
-    }
-
-    // By the crew, or by one thread in the order that a seed draws.
-    fn settle<G: TurnGate + Sync, P: Progress>(
+    /// Lets routers take turns until nothing is left to do: by the crew, whose threads call the gate, or by one thread in
+    /// the order that a seed draws.
+    pub fn settle<G: TurnGate + Sync, P: Progress>(
         &mut self,
         gate: &G,
         seed: Option<u32>,
         progress: &mut P,
-    ) -> Result<(), Refusal> {
+    ) -> Result<(), Refusal>
+        ensures ok { OnOk result (Settles self.old self.new) }
+        ensures err { IfErr result (StopsSettling self.old self.new) }
+    {
         match seed {
             Some(seed) => {
                 let order = Order::Seeded(u64::from(seed));
@@ -140,34 +152,20 @@ where
         }
     }
 
-    fn lookup(&mut self, router: u16, addr: u32) -> Result<Option<(Prefix, Entry)>, Refusal> {
-        match self.fabric.lookup(router, addr) {
-            Ok(answer) => Ok(answer.matched),
-            Err(refusal) => Err(refusal),
-        }
-    }
-
-    fn trace(&mut self, router: u16, addr: u32, through: bool) -> Result<Trace, Refusal> {
-        if usize::from(router) >= self.fabric.world().routers().len() {
-            return Err(Refusal::UnknownRouter);
-        }
-        let traced = if through {
-            trace_through(&mut self.fabric, self.alloc, router, addr)
-        } else {
-            trace(&mut self.fabric, self.alloc, router, addr)
-        };
-        match traced {
-            Ok(traced) => Ok(traced),
-            Err(fault) => Err(Refusal::from(fault)),
-        }
-    }
-
-    fn inject(&mut self, router: u16, addr: u32) -> Result<(), FaultKind> {
+    /// Gives the workers the next job. They begin with it, if they are at rest.
+    pub fn inject(&mut self, router: u16, addr: u32) -> Result<(), FaultKind>
+        ensures same { self.new ≡ self.old }
+        ensures err { IfErr result (CannotInject (unknown_router (self.old).world router)) }
+    {
         self.dispatcher
             .inject(self.rt, self.alloc, &self.fabric, router, addr)
     }
 
-    fn drain<W: Write>(&mut self, printer: &Printer<'_>, out: &mut W) -> Result<(), FaultKind> {
+    /// Waits until the workers have answered all jobs, and prints their replies.
+    pub fn drain<W: Write>(&mut self, printer: &Printer<'_>, out: &mut W) -> Result<(), FaultKind>
+        ensures same { self.new ≡ self.old }
+        ensures err { IfErr result IsUnanswered }
+    {
         match self.dispatcher.drain(&self.rt, self.alloc) {
             Ok(replies) => {
                 let _ = print_replies(printer, &replies, out);
@@ -176,9 +174,87 @@ where
             Err(fault) => Err(FaultKind::from(fault)),
         }
     }
+}
+
+impl<B, H> Threaded<Staffed<B, H>> for Kept<B, H>
+where
+    B: FabricName + Send + Sync + 'static,
+    H: Host,
+{
+    ghost lend = { λ k s. s };
+
+    fn staff(&mut self) -> Option<&mut Staffed<B, H>> {
+        Some(&mut self.staffed)
+    }
+}
+
+impl<B, H> Live for Kept<B, H>
+where
+    B: FabricName + Send + Sync + 'static,
+    H: Host,
+{
+    ghost use Rattle.interpreter.specs.Nets.{kept_meaning};
+
+    ghost meaning = { kept_meaning };
+
+    fn network(&self) -> &Network {
+        self.staffed.fabric.network()
+    }
+
+    fn world(&self) -> &World {
+        self.staffed.fabric.world()
+    }
+
+    fn steps(&self) -> u64 {
+        self.staffed.fabric.journal().len() as u64
+    }
+
+    fn step(&mut self, step: Step) -> Result<(), Refusal> {
+        self.staffed.fabric.step(&self.staffed.rt, step)
+    }
+
+    fn settle<P: Progress>(&mut self, seed: Option<u32>, progress: &mut P) -> Result<(), Refusal> {
+        let order = match seed {
+            Some(seed) => Order::Seeded(u64::from(seed)),
+            None => Order::Cyclic,
+        };
+        settle_in_order(&self.staffed.rt, &mut self.staffed.fabric, order, progress)
+    }
+
+    fn lookup(&mut self, router: u16, addr: u32) -> Result<Option<(Prefix, Entry)>, Refusal> {
+        match self.staffed.fabric.lookup(router, addr) {
+            Ok(answer) => Ok(answer.matched),
+            Err(refusal) => Err(refusal),
+        }
+    }
+
+    fn trace(&mut self, router: u16, addr: u32, through: bool) -> Result<Trace, Refusal> {
+        if usize::from(router) >= self.staffed.fabric.world().routers().len() {
+            return Err(Refusal::UnknownRouter);
+        }
+        let traced = if through {
+            trace_through(&mut self.staffed.fabric, self.staffed.alloc, router, addr)
+        } else {
+            trace(&mut self.staffed.fabric, self.staffed.alloc, router, addr)
+        };
+        match traced {
+            Ok(traced) => Ok(traced),
+            Err(fault) => Err(Refusal::from(fault)),
+        }
+    }
+
+    // It takes a worker, and this thread alone is none.
+    fn inject(&mut self, _router: u16, _addr: u32) -> Result<(), FaultKind> {
+        Err(FaultKind::from(PoolFault::NoThread))
+    }
+
+    // So this thread was given no job.
+    fn drain<W: Write>(&mut self, _printer: &Printer<'_>, _out: &mut W) -> Result<(), FaultKind> {
+        Ok(())
+    }
 
     fn count(&mut self) -> Counts {
-        let totals = counts_of(self.fabric.journal().len() as u64, self.fabric.sent());
+        let totals = counts_of(self.staffed.fabric.journal().len() as u64, self.staffed.fabric.sent());
         let since = counts_since(totals, self.counted);
         self.counted = totals;
         since

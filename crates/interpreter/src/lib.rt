@@ -53,12 +53,14 @@ mod kept;
 mod live;
 mod progress;
 mod putting;
+mod threaded;
 mod totals;
 
 pub use control::{Crew, NO_THRESHOLDS, NoGate, Progress, THRESHOLDS, Thresholds, TurnGate};
 pub use counted::Counted;
 pub use host::Host;
 pub use interpreter::{Interpreter, PrintStyle, do_command, do_commands};
-pub use kept::Kept;
+pub use kept::{Kept, Staffed};
 pub use live::Live;
 pub use progress::{end_line, show_steps_done};
+pub use threaded::{Staff, Threaded};

@@ -1,6 +1,6 @@
 //! A network that runs, as an interpreter needs it.
 
-use control::{Progress, TurnGate};
+use control::Progress;
 use faults::FaultKind;
 use lines::{Counts, Printer};
 use network_model::{Entry, Prefix, Refusal, Step, Trace};
@@ -35,11 +35,10 @@ pub trait Live {
         ensures err { OnErr result (self.new ≡ self.old) }
         ensures cause { IsDoneOr (meaning.refusal self.old step) result };
 
-    /// Lets routers take turns until nothing is left to do: in ascending cyclic order while one thread does it, or in
-    /// an order that a seed draws. The same seed draws the same order. Threads call the gate.
-    fn settle<G: TurnGate + Sync, P: Progress>(
+    /// Lets routers take turns in this thread until nothing is left to do: in ascending cyclic order, or in an order
+    /// that a seed draws. The same seed draws the same order.
+    fn settle<P: Progress>(
         &mut self,
-        gate: &G,
         seed: Option<u32>,
         progress: &mut P,
     ) -> Result<(), Refusal>
@@ -59,14 +58,13 @@ pub trait Live {
         ensures err { IfErr result (meaning.not_traced self.old router) }
         ensures same { self.new ≡ self.old };
 
-    /// Gives the next job: to look the address up at the router. Jobs are numbered from 1. Refused, it takes no
-    /// number.
+    /// Gives this thread the next job: to look the address up at the router. Jobs are numbered from 1. Refused, it takes
+    /// no number.
     fn inject(&mut self, router: u16, addr: u32) -> Result<(), FaultKind>
         ensures err { IfErr result (meaning.not_given self.old router) }
         ensures same { self.new ≡ self.old };
 
-    /// Waits for the answers of all jobs that were given since the last time, and prints them by number. What it prints
-    /// may be lost.
+    /// Prints the answers of all jobs that it was given since the last time, by number. What it prints may be lost.
     fn drain<W: Write>(&mut self, printer: &Printer<'_>, out: &mut W) -> Result<(), FaultKind>
         ensures err { IfErr result (meaning.not_answered self.old) }
         ensures same { self.new ≡ self.old };

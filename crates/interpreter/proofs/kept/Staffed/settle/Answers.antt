@@ -1,5 +1,5 @@
 use Rattle.interpreter.proofs.Settling.{stops_drawn, stops_here}
-use Rattle.interpreter.proofs.kept.KeptLive.settle.Goals as goal
+use Rattle.interpreter.proofs.kept.Staffed.settle.Goals as goal
 
 pub returns-in-Some-clause-err : goal.returns-in-Some-clause-err
 returns-in-Some-clause-err g c =
