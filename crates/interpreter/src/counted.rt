@@ -203,11 +203,7 @@ impl Live for Counted {
         self.simulation.step(step)
     }
 
-    fn settle<P: Progress>(
-        &mut self,
-        seed: Option<u32>,
-        _progress: &mut P,
-    ) -> Result<(), Refusal> {
+    fn settle<P: Progress>(&mut self, seed: Option<u32>, _progress: &mut P) -> Result<(), Refusal> {
         self.take_turns(seed)
     }
 

@@ -254,7 +254,10 @@ where
     }
 
     fn count(&mut self) -> Counts {
-        let totals = counts_of(self.staffed.fabric.journal().len() as u64, self.staffed.fabric.sent());
+        let totals = counts_of(
+            self.staffed.fabric.journal().len() as u64,
+            self.staffed.fabric.sent(),
+        );
         let since = counts_since(totals, self.counted);
         self.counted = totals;
         since

@@ -37,11 +37,7 @@ pub trait Live {
 
     /// Lets routers take turns in this thread until nothing is left to do: in ascending cyclic order, or in an order
     /// that a seed draws. The same seed draws the same order.
-    fn settle<P: Progress>(
-        &mut self,
-        seed: Option<u32>,
-        progress: &mut P,
-    ) -> Result<(), Refusal>
+    fn settle<P: Progress>(&mut self, seed: Option<u32>, progress: &mut P) -> Result<(), Refusal>
         ensures ok { OnOk result (meaning.settled self.old self.new) }
         ensures err { IfErr result (meaning.unsettled self.old self.new) };
 

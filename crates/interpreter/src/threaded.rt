@@ -78,11 +78,7 @@ where
 
 /// Waits for the answers of all jobs that were given since the last time, and prints them by number. What it prints
 /// may be lost.
-pub fn drain<B, H, N, W>(
-    net: &mut N,
-    printer: &Printer<'_>,
-    out: &mut W,
-) -> Result<(), FaultKind>
+pub fn drain<B, H, N, W>(net: &mut N, printer: &Printer<'_>, out: &mut W) -> Result<(), FaultKind>
 where
     B: FabricName + Send + Sync + 'static,
     H: Host,

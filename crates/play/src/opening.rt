@@ -11,7 +11,8 @@ use crate::keeping::Keeper;
 use crate::shell::do_lines;
 use fabric::{Fabric, FabricName, Unnamed};
 use interpreter::{
-    Counted, Crew, Host, Interpreter, Kept, Live, PrintStyle, TurnGate, do_commands, end_line,
+    Counted, Crew, Host, Interpreter, Kept, Live, PrintStyle, Staffed, Threaded, TurnGate,
+    do_commands, end_line,
 };
 use lines::{Ended, Line};
 use plans::{Fault, Plan};
@@ -171,8 +172,8 @@ fn keep<B: FabricName, K: Keeper, V: Write>(
 }
 
 /// Opens a plan's network as a simulation, and does its script, or the lines that are typed. Nothing is kept of its
-/// steps. The gate is not called.
-pub fn with_simulation<G, J, W, E>(
+/// steps. No thread is started, and the gate is not called.
+pub fn with_simulation<H, G, J, W, E>(
     alloc: Global,
     plan: Plan,
     gate: &G,
@@ -182,6 +183,7 @@ pub fn with_simulation<G, J, W, E>(
     err: &mut E,
 ) -> Result<(), Fault>
 where
+    H: Host,
     G: TurnGate + Sync,
     J: Read + Drop,
     W: Write,
@@ -202,11 +204,12 @@ where
         directory: &directory,
         style,
     };
-    do_all(&interpreter, &mut net, typed, &commands, out, err)
+    // It lends no part with such a name.
+    do_all::<Brand, H, Counted, G, J, W, E>(&interpreter, &mut net, typed, &commands, out, err)
 }
 
 // Does the script, or the lines that are typed, and says how many steps were done.
-fn do_all<N, G, J, W, E>(
+fn do_all<B, H, N, G, J, W, E>(
     interpreter: &Interpreter<'_, G>,
     net: &mut N,
     typed: Option<J>,
@@ -215,7 +218,9 @@ fn do_all<N, G, J, W, E>(
     err: &mut E,
 ) -> Result<(), Fault>
 where
-    N: Live,
+    B: FabricName + Send + Sync + 'static,
+    H: Host,
+    N: Threaded<Staffed<B, H>>,
     G: TurnGate + Sync,
     J: Read + Drop,
     W: Write,

@@ -138,7 +138,7 @@ where
                 progress,
             };
             if no_journal {
-                return count(alloc, gate, scenario, style, None::<J>, out, err);
+                return count(by, scenario, style, None::<J>, out, err);
             }
             let crew = Crew {
                 threads,
@@ -192,7 +192,7 @@ where
                 progress: false,
             };
             if no_journal {
-                return count(alloc, gate, scenario, style, Some(journal), out, err);
+                return count(by, scenario, style, Some(journal), out, err);
             }
             let crew = Crew {
                 threads: 1,
@@ -268,9 +268,8 @@ fn add(kept: &mut Vec<u8>, mut made: Vec<u8>) -> Result<(), NoMemory>
 }
 
 // The same on a network whose steps are counted. Nothing is kept.
-fn count<G, R, J, W, E>(
-    alloc: Global,
-    gate: &G,
+fn count<H, G, R, J, W, E>(
+    by: (&H, Global, &G),
     scenario: R,
     style: PrintStyle,
     typed: Option<J>,
@@ -278,6 +277,7 @@ fn count<G, R, J, W, E>(
     err: &mut E,
 ) -> Result<Outcome, Fault>
 where
+    H: Host,
     G: TurnGate + Sync,
     R: Read + Drop,
     J: Read + Drop,
@@ -288,9 +288,10 @@ where
     ensures fault { IfErr result (λ e. OfBytes (R.remaining scenario) (λ bytes.
         StopsOn opening_counted IsOfNothing (Stops counted_meaning (is_some typed)) bytes e)) }
 {
+    let (_, alloc, gate) = by;
     let text = read_text(alloc, scenario)?;
     let plan = read_plan(alloc, text.as_str())?;
-    with_simulation(alloc, plan, gate, style, typed, out, err)?;
+    with_simulation::<H, G, J, W, E>(alloc, plan, gate, style, typed, out, err)?;
     Ok(Outcome::Done)
 }
 

@@ -5,8 +5,9 @@ ghost use Rattle.play.specs.Works.{CannotReadOn, WereTried};
 
 use crate::answers::{Listed, TypedLine, begin_answer, end_answer, print_fault, print_text};
 use command_line::{Format, SHELL_COMMANDS};
+use fabric::FabricName;
 use faults::FaultKind;
-use interpreter::{Interpreter, Live, TurnGate, do_command};
+use interpreter::{Host, Interpreter, Live, Staffed, Threaded, TurnGate, do_command};
 use plans::{Fault, read_failure};
 use script::read_command;
 use std::io::{BufRead, BufReader, ErrorKind, Read, Write};
@@ -14,7 +15,7 @@ use std::io::{BufRead, BufReader, ErrorKind, Read, Write};
 /// Does the commands that the lines of an input say, each answered at once, to the end of the input or to `quit`, or
 /// to the first answer that nobody reads any more. A line that cannot be read or whose command is refused ends nothing: it
 /// is told on `err`, and as JSON in its answer.
-pub fn do_lines<N, G, J, W, E>(
+pub fn do_lines<B, H, N, G, J, W, E>(
     interpreter: &Interpreter<'_, G>,
     net: &mut N,
     input: J,
@@ -22,7 +23,9 @@ pub fn do_lines<N, G, J, W, E>(
     err: &mut E,
 ) -> Result<(), Fault>
 where
-    N: Live,
+    B: FabricName + Send + Sync + 'static,
+    H: Host,
+    N: Threaded<Staffed<B, H>>,
     G: TurnGate + Sync,
     J: Read + Drop,
     W: Write,
@@ -52,7 +55,7 @@ where
 
 // Does what the line of this number says, tells of it where it cannot be read or is refused, and answers
 // whether the shell goes on.
-fn do_line<N, G, W, E>(
+fn do_line<B, H, N, G, W, E>(
     interpreter: &Interpreter<'_, G>,
     net: &mut N,
     number: usize,
@@ -61,7 +64,9 @@ fn do_line<N, G, W, E>(
     err: &mut E,
 ) -> bool
 where
-    N: Live,
+    B: FabricName + Send + Sync + 'static,
+    H: Host,
+    N: Threaded<Staffed<B, H>>,
     G: TurnGate + Sync,
     W: Write,
     E: Write,
@@ -96,7 +101,7 @@ where
 
 // Does what the line of this number says, and answers whether the shell goes on. As JSON, what it prints
 // is the list of an answer that has begun.
-fn answer_line<N, G, W>(
+fn answer_line<B, H, N, G, W>(
     interpreter: &Interpreter<'_, G>,
     net: &mut N,
     number: usize,
@@ -104,7 +109,9 @@ fn answer_line<N, G, W>(
     out: &mut W,
 ) -> Result<bool, FaultKind>
 where
-    N: Live,
+    B: FabricName + Send + Sync + 'static,
+    H: Host,
+    N: Threaded<Staffed<B, H>>,
     G: TurnGate + Sync,
     W: Write,
     ensures { WereTried N.meaning net.old net.new }
@@ -119,14 +126,16 @@ where
 }
 
 // Does what a line says, and answers whether the shell goes on. An empty line says nothing.
-fn answer<N, G, W>(
+fn answer<B, H, N, G, W>(
     interpreter: &Interpreter<'_, G>,
     net: &mut N,
     line: &[u8],
     out: &mut W,
 ) -> Result<bool, FaultKind>
 where
-    N: Live,
+    B: FabricName + Send + Sync + 'static,
+    H: Host,
+    N: Threaded<Staffed<B, H>>,
     G: TurnGate + Sync,
     W: Write,
     ensures { WereTried N.meaning net.old net.new }
@@ -152,14 +161,16 @@ where
 }
 
 // Does the command that a line says; the shell goes on.
-fn do_typed<N, G, W>(
+fn do_typed<B, H, N, G, W>(
     interpreter: &Interpreter<'_, G>,
     net: &mut N,
     line: &str,
     out: &mut W,
 ) -> Result<bool, FaultKind>
 where
-    N: Live,
+    B: FabricName + Send + Sync + 'static,
+    H: Host,
+    N: Threaded<Staffed<B, H>>,
     G: TurnGate + Sync,
     W: Write,
     ensures { WereTried N.meaning net.old net.new }
