@@ -204,7 +204,7 @@ where
         directory: &directory,
         style,
     };
-    // It lends no part with such a name.
+    // A simulation lends no part, so any name will do.
     do_all::<Brand, H, Counted, G, J, W, E>(&interpreter, &mut net, typed, &commands, out, err)
 }
 
