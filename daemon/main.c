@@ -12,7 +12,7 @@
 /* Of which there is one, or none. */
 enum single { LINKS, ROUTES, TABLES, MARKS, CONTROL, METRICS, LISTENER, SINGLES };
 
-enum { BLOCKED_MS = 50, MOST_POLLS = SINGLES + TUHVONDI_PORTS + PLACES * (2 + CANDIDATES) + CLIENTS };
+enum { BLOCKED_MS = 50, MOST_POLLS = SINGLES + TUHVONDI_PORTS + PLACES * (3 + CANDIDATES) + CLIENTS };
 
 static volatile sig_atomic_t stopping, reloading;
 
@@ -70,6 +70,8 @@ static void gather(struct daemon *daemon, struct polled *polled)
             add(polled, peer->fd, (short)((daemon->blocked ? 0 : POLLIN) | (writes ? POLLOUT : 0)), peer, NULL);
         if (peer->asking >= 0 && !daemon->blocked)
             add(polled, peer->asking, POLLOUT, NULL, NULL);
+        if (peer->late >= 0 && !daemon->blocked)
+            add(polled, peer->late, POLLOUT, NULL, NULL);
         for (size_t i = 0; i < CANDIDATES && !daemon->blocked; i++)
             if (peer->candidates[i].fd >= 0 && !peer->candidates[i].answered)
                 add(polled, peer->candidates[i].fd, POLLIN, NULL, NULL);
