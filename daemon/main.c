@@ -7,6 +7,7 @@
 #include <stdlib.h>
 #include <string.h>
 #include <sys/select.h>
+#include <sysexits.h>
 #include <unistd.h>
 
 /* Of which there is one, or none. */
@@ -337,7 +338,8 @@ int main(int count, char **words)
     daemon->listener = daemon->control = daemon->metrics = daemon->marks.done = -1;
     for (size_t i = 0; i < CLIENTS; i++)
         daemon->clients[i].fd = -1;
-    int status = 1;
+    /* A service manager need not try a configuration again that was refused: it has a status of its own. */
+    int status = checks ? 1 : EX_CONFIG;
     if (reload_read(path, &daemon->config, NULL)) {
         daemon->install_asked = installs;
         daemon->config.installs |= installs;
