@@ -42,7 +42,8 @@ bool control_open(struct daemon *daemon)
         }
         unlink(path);
     }
-    mode_t mask = umask(077);
+    /* Members of the daemon's group may ask, and command: its folder may keep them out. */
+    mode_t mask = umask(0117);
     daemon->control = socket(AF_UNIX, SOCK_STREAM | SOCK_NONBLOCK | SOCK_CLOEXEC, 0);
     bool bound = bind(daemon->control, (struct sockaddr *)&address, sizeof address) == 0;
     umask(mask);

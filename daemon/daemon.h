@@ -76,20 +76,22 @@ struct peer_counters {
  * was answered. `waits_until`: after faults, no session before. `alive_ms`: between signs of life, which may be less than
  * ours for its sake. `crowded`: there was a line of prefixes that were left. `former`: the secret before the one of the
  * configuration, as long as the other end may have no other. `signs_as_before`: `fd` signs by it; then the end that connects finds
- * out by the connection `asking`, begun at `asked`, whether the other end has the new one. Of one that is sought: `announced`, when
- * it said last that it is there; `over`, since when there is no session. */
+ * out by the connection `asking`, begun at `asked`, whether the other end has the new one. `late`: an attempt to connect that goes
+ * on beside later ones while there is no hello, begun at `late_since` and signed as before if `late_signs_as_before`. Of one that is
+ * sought: `announced`, when it said last that it is there; `over`, since when there is no session. */
 struct peer {
     struct neighbour config;
     char name[INET_ADDRSTRLEN], interface[IF_NAMESIZE], former[SECRET_SIZE];
-    bool used, shut, removed, marked, told, leaving, stale, filtered, lost, lets_in, crowded, greeted, parted, signs_as_before;
+    bool used, shut, removed, marked, told, leaving, stale, filtered, lost, lets_in, crowded, greeted, parted, signs_as_before,
+        late_signs_as_before;
     enum peer_state state;
-    int fd, asking;
+    int fd, asking, late;
     uint16_t last;
     unsigned char link_address[LINK_ADDRESS];
     unsigned index, attempts, faults, shorts, complaints;
     uint32_t reported; /* prefixes of which it told a finite distance last */
     uint32_t alive_ms;
-    int64_t heard, said, drained, begun, next_try, waits_until, complained, announced, over, cleared, asked;
+    int64_t heard, said, drained, begun, next_try, waits_until, complained, announced, over, cleared, asked, late_since;
     int64_t carrier_losses; /* of its interface, before this end said hello over `fd`; -1: they are not counted */
     struct greeting greeting;
     const char *why, *tried; /* the last session ended; the last attempt did */

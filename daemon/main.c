@@ -7,12 +7,13 @@
 #include <stdlib.h>
 #include <string.h>
 #include <sys/select.h>
+#include <sysexits.h>
 #include <unistd.h>
 
 /* Of which there is one, or none. */
 enum single { LINKS, ROUTES, TABLES, MARKS, CONTROL, METRICS, LISTENER, SINGLES };
 
-enum { BLOCKED_MS = 50, MOST_POLLS = SINGLES + TUHVONDI_PORTS + PLACES * (2 + CANDIDATES) + CLIENTS };
+enum { BLOCKED_MS = 50, MOST_POLLS = SINGLES + TUHVONDI_PORTS + PLACES * (3 + CANDIDATES) + CLIENTS };
 
 static volatile sig_atomic_t stopping, reloading;
 
@@ -70,6 +71,8 @@ static void gather(struct daemon *daemon, struct polled *polled)
             add(polled, peer->fd, (short)((daemon->blocked ? 0 : POLLIN) | (writes ? POLLOUT : 0)), peer, NULL);
         if (peer->asking >= 0 && !daemon->blocked)
             add(polled, peer->asking, POLLOUT, NULL, NULL);
+        if (peer->late >= 0 && !daemon->blocked)
+            add(polled, peer->late, POLLOUT, NULL, NULL);
         for (size_t i = 0; i < CANDIDATES && !daemon->blocked; i++)
             if (peer->candidates[i].fd >= 0 && !peer->candidates[i].answered)
                 add(polled, peer->candidates[i].fd, POLLIN, NULL, NULL);
@@ -335,7 +338,8 @@ int main(int count, char **words)
     daemon->listener = daemon->control = daemon->metrics = daemon->marks.done = -1;
     for (size_t i = 0; i < CLIENTS; i++)
         daemon->clients[i].fd = -1;
-    int status = 1;
+    /* A service manager need not try a configuration again that was refused: it has a status of its own. */
+    int status = checks ? 1 : EX_CONFIG;
     if (reload_read(path, &daemon->config, NULL)) {
         daemon->install_asked = installs;
         daemon->config.installs |= installs;

@@ -48,11 +48,11 @@ static void leave_interfaces(struct daemon *daemon)
     }
 }
 
-/* What the kernel refuses may be done the next time. */
+/* What the kernel refuses may be done the next time. Nobody would lift a filter of one that is cleared. */
 void kernel_find_interfaces(struct daemon *daemon)
 {
     for (struct peer *peer = daemon->peers; peer < peers_end(daemon); peer++) {
-        if (!peer->used || peer->index)
+        if (!peer->used || peer->index || peer->cleared)
             continue;
         const char *wrong = kernel_find_interface(daemon, peer);
         if (!wrong)

@@ -17,7 +17,8 @@ enum {
     MISSED_MS = 30000,   /* without a session, after which a line says so; then each hour */
     HOUR_MS = 3600000,
     GREETING_MS = 3500,  /* that hellos may take, and that one of the first version may be silent, if not longer */
-    CONNECT_MS = 500,    /* that an attempt takes at most: a link that works again is not found by an old one */
+    CONNECT_MS = 500,    /* that the next attempt waits for one: TCP repeats it later and later, so a new one finds first
+                          * a link that works again */
     FAULT_MS = 250,      /* without a session after a neighbour's fault, at first; it doubles */
     DEBT_MS = 2000,      /* after it owed a reply for too long */
     FAULT_DOUBLINGS = 8, /* so up to 64 seconds, or 512 */
@@ -128,17 +129,26 @@ static void forget_former(struct peer *peer)
     explicit_bzero(peer->former, sizeof peer->former);
 }
 
-static void stop_asking(struct peer *peer)
+static void stop(int *fd)
 {
-    if (peer->asking >= 0)
-        close(peer->asking);
-    peer->asking = -1;
+    if (*fd >= 0)
+        close(*fd);
+    *fd = -1;
+}
+
+static void be_idle(struct peer *peer)
+{
+    peer->fd = -1;
+    peer->state = PEER_IDLE;
+    peer->lost = peer->lets_in = peer->crowded = peer->greeted = peer->parted = false;
+    peer->in_count = peer->in_from = peer->out_count = peer->out_from = 0;
 }
 
 void peer_hang_up(struct daemon *daemon, struct peer *peer, enum ending ending, const char *why)
 {
     bool was_up = peer->state == PEER_UP;
-    stop_asking(peer);
+    stop(&peer->asking);
+    stop(&peer->late);
     /* What comes here is signed by the new secret, as the listening socket has it. */
     if (peer->config.passive)
         forget_former(peer);
@@ -156,10 +166,7 @@ void peer_hang_up(struct daemon *daemon, struct peer *peer, enum ending ending, 
         close(peer->fd);
         back_off(peer, ending);
     }
-    peer->fd = -1;
-    peer->state = PEER_IDLE;
-    peer->lost = peer->lets_in = peer->crowded = peer->greeted = peer->parted = false;
-    peer->in_count = peer->in_from = peer->out_count = peer->out_from = 0;
+    be_idle(peer);
     if (was_up)
         control_tell_peer(daemon, peer, "down");
 }
@@ -466,6 +473,12 @@ static void begin_session(struct daemon *daemon, struct peer *peer)
         peer_put(daemon, peer, &alive);
 }
 
+/* Hellos go there and back over links that may be long, whatever is agreed on for the session. */
+static int64_t greeting_patience(const struct daemon *daemon)
+{
+    return daemon->config.dead_ms > GREETING_MS ? (int64_t)daemon->config.dead_ms : GREETING_MS;
+}
+
 /* ---- connections that go from here */
 
 /* A socket has one secret for an address, also while it is connected: another one takes its place. */
@@ -545,6 +558,7 @@ static void connected(struct daemon *daemon, struct peer *peer)
         peer_hang_up(daemon, peer, BY_LINK, "another that was there has yet to be heard");
         return;
     }
+    stop(&peer->late);
     peer->state = PEER_GREETING;
     peer->heard = now_ms();
     peer->greeting = (struct greeting){.version = FIRST_VERSION};
@@ -553,6 +567,43 @@ static void connected(struct daemon *daemon, struct peer *peer)
         return;
     write_greeting(daemon, peer, peer->out);
     peer->out_count = (size_t)2 * FRAME_SIZE;
+}
+
+/* An answer may take longer than CONNECT_MS. So one attempt goes on, as long as hellos may take, and later ones begin beside
+ * it as if it were over. Where there are two secrets, each has its turn. */
+static void set_aside(struct peer *peer)
+{
+    bool has_turn = !peer->former[0] || peer->signs_as_before != peer->late_signs_as_before;
+    if (peer->late < 0 && has_turn) {
+        peer->late = peer->fd;
+        peer->late_since = peer->heard;
+        peer->late_signs_as_before = peer->signs_as_before;
+    } else {
+        close(peer->fd);
+    }
+    peer->tried = "it is silent";
+    back_off(peer, BY_LINK);
+    be_idle(peer);
+}
+
+/* Since it began there was no session, so what a hello says holds as it did then. */
+static void look_at_late(struct daemon *daemon, struct peer *peer, int64_t now)
+{
+    struct sockaddr_in to;
+    int error = 0;
+    socklen_t size = sizeof to, error_size = sizeof error;
+    if (peer->late < 0 || daemon->blocked)
+        return;
+    if (getpeername(peer->late, (struct sockaddr *)&to, &size) == 0) {
+        stop(&peer->fd);
+        peer->fd = peer->late;
+        peer->late = -1;
+        peer->signs_as_before = peer->late_signs_as_before;
+        connected(daemon, peer);
+    } else if (getsockopt(peer->late, SOL_SOCKET, SO_ERROR, &error, &error_size) || error
+               || now - peer->late_since > greeting_patience(daemon)) {
+        stop(&peer->late);
+    }
 }
 
 /* ---- secrets that change */
@@ -579,13 +630,21 @@ void peer_sign_anew(struct daemon *daemon, struct peer *peer, const char *secret
  * sends before the other has done so is dropped there, and TCP sends it again. */
 static void renew(struct daemon *daemon, struct peer *peer)
 {
-    stop_asking(peer);
+    stop(&peer->asking);
     forget_former(peer);
     peer->signs_as_before = false;
     if (sessions_set_secret(peer->fd, &peer->config))
         say(LOG_NOTICE, "%s: session %u goes on by the new secret", peer->name, peer->last);
     else
         peer_hang_up(daemon, peer, BY_OPERATOR, "its secret is another now");
+}
+
+/* How long an answer takes over a connection that goes on, as TCP has measured it. */
+static int64_t round_trip(int fd)
+{
+    struct tcp_info info = {0};
+    socklen_t size = sizeof info;
+    return getsockopt(fd, IPPROTO_TCP, TCP_INFO, &info, &size) ? 0 : info.tcpi_rtt / 1000;
 }
 
 /* The end that connects asks by a connection that says nothing. One that has another secret does not answer it. */
@@ -602,8 +661,9 @@ static void ask_for_secret(struct daemon *daemon, struct peer *peer, int64_t now
         return;
     if (getpeername(peer->asking, (struct sockaddr *)&to, &size) == 0)
         renew(daemon, peer);
-    else if (getsockopt(peer->asking, SOL_SOCKET, SO_ERROR, &error, &error_size) || error || now - peer->asked > CONNECT_MS)
-        stop_asking(peer);
+    else if (getsockopt(peer->asking, SOL_SOCKET, SO_ERROR, &error, &error_size) || error
+             || now - peer->asked > CONNECT_MS + 2 * round_trip(peer->fd))
+        stop(&peer->asking);
 }
 
 /* ---- what neighbours send */
@@ -899,17 +959,12 @@ static void adopt(struct daemon *daemon, struct peer *peer, struct candidate *ca
     candidate->fd = -1;
     for (struct candidate *other = peer->candidates; other < peer->candidates + CANDIDATES; other++)
         drop(other);
+    stop(&peer->late);
     peer->state = PEER_GREETING;
     peer->heard = now_ms();
     peer->greeted = true;
     peer->signs_as_before = false;
     take_frames(daemon, peer);
-}
-
-/* Hellos go there and back over links that may be long, whatever is agreed on for the session. */
-static int64_t greeting_patience(const struct daemon *daemon)
-{
-    return daemon->config.dead_ms > GREETING_MS ? (int64_t)daemon->config.dead_ms : GREETING_MS;
 }
 
 /* Looks whether a connection may take the place of the session that goes on: not while that one is heard. */
@@ -1001,6 +1056,9 @@ static void tick_peer(struct daemon *daemon, struct peer *peer, int64_t now)
         tell_down(daemon, peer);
     if (peer->state == PEER_UP && peer->lost)
         peer_hang_up(daemon, peer, BY_LINK, "the kernel takes no route by it");
+    if (peer->state == PEER_CONNECTING && !daemon->blocked && now - peer->heard > CONNECT_MS)
+        set_aside(peer);
+    look_at_late(daemon, peer, now);
     if (peer->state != PEER_IDLE && !daemon->blocked && now - peer->heard > patience(daemon, peer))
         peer_hang_up(daemon, peer, BY_LINK, "it is silent");
     if (is_crowded(peer) && now - peer->drained > (int64_t)daemon->config.dead_ms)
@@ -1125,7 +1183,7 @@ static struct peer *take_port(struct daemon *daemon, const struct neighbour *nei
     memset(peer, 0, offsetof(struct peer, in));
     peer->config = *neighbour;
     peer->last = last;
-    peer->fd = peer->asking = -1;
+    peer->fd = peer->asking = peer->late = -1;
     name_peer(peer);
     for (size_t i = 0; i < CANDIDATES; i++)
         peer->candidates[i].fd = -1;
