@@ -1,11 +1,17 @@
-use Rattle.std.proofs.Common.{string_bytes, refl, is_some}
+use Rattle.std.proofs.Common.{string_bytes, refl, is_some, inl}
 use Rattle.script.proofs.Exits.{at_err}
-use Rattle.plans.specs.Faults.{OfBytes}
+use Rattle.plans.specs.Faults.{OfBytes, unplaced}
 use Rattle.plans.proofs.Planned.{IsPlanned}
 use Rattle.interpreter.specs.Nets.{counted_meaning, opening_counted}
 use Rattle.play.specs.Works.{Comes, IsOfNothing, Stops, StopsOn, none_kept}
 use Rattle.play.proofs.Working.{stopped, worked}
 use Rattle.play.proofs.program.count.Goals as goal
+
+pub returns-in_err-text-clause-fault : goal.returns-in_err-text-clause-fault
+returns-in_err-text-clause-fault g c =
+    let unread = c.in_err-text.ensures.fault in
+    at_err c.from_residual.result (λ e. OfBytes (g.R.Read.remaining c.args.scenario) (λ bytes. StopsOn opening_counted IsOfNothing (Stops counted_meaning (is_some c.args.typed)) bytes e)) (unplaced c.in_err-text.field-0.0)
+    c.from_residual.ensures.1 (unread.0, unread.1, inl (inl (refl, unread.2)))
 
 pub returns-clause-ok : goal.returns-clause-ok
 returns-clause-ok g c =

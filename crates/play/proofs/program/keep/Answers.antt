@@ -10,6 +10,12 @@ use Rattle.play.specs.Works.{Comes, IsOfWorkers, Stops, StopsOn}
 use Rattle.play.proofs.Working.{stopped, worked, works_added}
 use Rattle.play.proofs.program.keep.Goals as goal
 
+pub returns-in_err-text-clause-fault : goal.returns-in_err-text-clause-fault
+returns-in_err-text-clause-fault g c =
+    let unread = c.in_err-text.ensures.fault in
+    at_err c.from_residual.result (λ e. OfBytes (g.R.Read.remaining c.args.scenario) (λ bytes. StopsOn opening_fabric IsOfWorkers (Stops kept_meaning (is_some c.args.typed)) bytes e)) (unplaced c.in_err-text.field-0.0)
+    c.from_residual.ensures.1 (unread.0, unread.1, inl (inl (refl, unread.2)))
+
 pub returns-clause-ok : goal.returns-clause-ok
 returns-clause-ok g c =
     let text = string_bytes c.in_ok-text.text in

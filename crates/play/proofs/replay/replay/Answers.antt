@@ -1,4 +1,4 @@
-use Rattle.std.proofs.Common.{string_bytes, refl, ap}
+use Rattle.std.proofs.Common.{string_bytes, refl, ap, inl}
 use Rattle.script.proofs.Exits.{at_err}
 use Rattle.plans.specs.Faults.{OfBytes, journal_fault, unplaced}
 use Rattle.plans.proofs.Planned.{IsPlanned}
@@ -6,6 +6,12 @@ use Rattle.interpreter.specs.Nets.{Counted}
 use Rattle.play.specs.Replays.{StopsReplay}
 use Rattle.play.proofs.Replays.{journal_of, replay_ends, stops_journal, stops_memory, stops_unread}
 use Rattle.play.proofs.replay.replay.Goals as goal
+
+pub returns-in_err-text-clause-fault : goal.returns-in_err-text-clause-fault
+returns-in_err-text-clause-fault g c =
+    let unread = c.in_err-text.ensures.fault in
+    at_err c.from_residual.result (λ e. OfBytes (g.R.Read.remaining c.args.scenario) (λ bytes. StopsReplay bytes (g.J.Read.remaining c.args.journal) e)) (unplaced c.in_err-text.field-0.0)
+    c.from_residual.ensures.1 (unread.0, unread.1, inl (inl (refl, unread.2)))
 
 pub returns-in_err-lines-clause-fault : goal.returns-in_err-lines-clause-fault
 returns-in_err-lines-clause-fault g c =
