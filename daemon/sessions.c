@@ -1184,6 +1184,7 @@ static struct peer *take_port(struct daemon *daemon, const struct neighbour *nei
     peer->config = *neighbour;
     peer->last = last;
     peer->fd = peer->asking = peer->late = -1;
+    peer->next_try = now_ms();
     name_peer(peer);
     for (size_t i = 0; i < CANDIDATES; i++)
         peer->candidates[i].fd = -1;
