@@ -8,8 +8,8 @@
  * For example, these lines make two routers with a link and let them learn routes, without testing a status:
  *
  *   struct tuhvondi_link link = {.from_a = 5, .from_b = 5, .a = 0, .b = 1};
- *   struct tuhvondi_owner owner = {.addr = 0x0a000000, .len = 8, .cost = 1, .router = 0};
- *   struct tuhvondi_step up = {.kind = TUHVONDI_LINK_UP, .subject = 0};
+ *   struct tuhvondi_owner owner = {.addr = 0x0a000000, .cost = 1, .router = 0, .len = 8};
+ *   struct tuhvondi_step up = {.subject = 0, .kind = TUHVONDI_LINK_UP};
  *   struct tuhvondi_network network = TUHVONDI_NO_NETWORK;
  *   struct tuhvondi_fault_place place;
  *   size_t done;
@@ -44,7 +44,8 @@
  *   - Once links, costs and attachments stay as they are, finitely many steps are left, in any order.
  *
  * A network takes no lock and starts no thread. It takes memory by its routers, links, rows and messages, but
- * not by its steps, so their number is limited by 2^64 - 1 alone.
+ * not by its steps, so their number is limited by 2^64 - 1 alone. Calls that open or copy a network, do steps
+ * or events, or give a change ask for memory, and no others do.
  *
  * Simulated time says how long a network takes to come to rest, and for how long packets are lost.
  * Messages are on their way for a time, and a router takes a time to publish its rows. What is due first is
@@ -83,10 +84,10 @@
  *   - its outages: from when until when a router was cut off from a prefix, which means that links that were up
  *     led from it to a router that was attached to the prefix, although the published rows did not
  *
- * The record costs time with each event, and memory by the routers times the prefixes, neither of which a
- * network takes without it. It is proved that nothing is done before it is due, and that nothing that is due
- * is left out. A record is exact: a spell stands in it if and only if there was one, and those that ended stand
- * there once each, in the order in which they did (docs/network.md).
+ * The record costs time with each event, and memory by the routers times the prefixes and by the spells that
+ * ended, neither of which a network takes without it. It is proved that nothing is done before it is due, and
+ * that nothing that is due is left out. A record is exact: a spell stands in it if and only if there was one, and
+ * those that ended stand there once each, in the order in which they did (docs/network.md).
  */
 #ifndef TUHVONDI_NETWORK_H
 #define TUHVONDI_NETWORK_H
@@ -99,9 +100,9 @@ extern "C" {
 #endif
 
 /* Why a call on a network is refused. Other causes are in `tuhvondi_status`: TUHVONDI_BAD_LENGTH,
- * TUHVONDI_HOST_BITS, TUHVONDI_BAD_COST, TUHVONDI_BAD_KIND (of a step it is above 7), TUHVONDI_BAD_COUNT,
- * TUHVONDI_ALREADY_UP, TUHVONDI_IS_DOWN, TUHVONDI_NOTHING_DUE, TUHVONDI_NOTHING_RIPE, TUHVONDI_NO_MEMORY,
- * TUHVONDI_UNKNOWN_PREFIX, TUHVONDI_NOT_ATTACHED. */
+ * TUHVONDI_HOST_BITS, TUHVONDI_BAD_COST, TUHVONDI_BAD_KIND (a step's is above 7, or cannot be given),
+ * TUHVONDI_BAD_COUNT, TUHVONDI_ALREADY_UP, TUHVONDI_IS_DOWN, TUHVONDI_NOTHING_DUE, TUHVONDI_NOTHING_RIPE,
+ * TUHVONDI_NO_MEMORY, TUHVONDI_UNKNOWN_PREFIX, TUHVONDI_NOT_ATTACHED. */
 enum tuhvondi_network_status {
     /* The handle is empty: it holds no network. */
     TUHVONDI_NO_NETWORK_HELD = 7,
@@ -130,7 +131,7 @@ enum tuhvondi_network_status {
     TUHVONDI_PAST_MOMENT = 51,
     /* The next event is due at 2^64 - 1 microseconds, the last moment that the clock can show, or later. */
     TUHVONDI_TIME_SPENT = 52,
-    /* The network keeps no record. */
+    /* The network keeps no record, nor does one without a clock. */
     TUHVONDI_NO_RECORD = 53,
     /* The network was opened with delays, so its steps are done by its clock. */
     TUHVONDI_HAS_CLOCK = 56,
@@ -144,8 +145,6 @@ static inline const char *tuhvondi_network_status_text(uint32_t status)
     switch (status) {
     case TUHVONDI_BAD_KIND:
         return "a step's kind is above 7, or it is no change that can be given";
-    case TUHVONDI_BAD_COUNT:
-        return "two lists that belong together are not as long";
     case TUHVONDI_UNKNOWN_ROUTER:
         return "there is no such router";
     case TUHVONDI_UNKNOWN_LINK:
@@ -364,6 +363,15 @@ struct tuhvondi_gate {
     uint8_t due;
 };
 
+/* A notice that a router is attached to a prefix at this cost, or no more if the cost is 0. */
+struct tuhvondi_notice {
+    uint32_t addr;
+    uint32_t cost;
+    uint8_t len;
+};
+
+TUHVONDI_ASSERT(sizeof(struct tuhvondi_notice) == 12, "a notice takes 12 bytes");
+
 /* How long an item is on its way over a link, in microseconds, towards the router `a` of the link and towards
  * its router `b`. */
 struct tuhvondi_delays {
@@ -404,15 +412,6 @@ struct tuhvondi_network {
 };
 
 TUHVONDI_ASSERT(sizeof(struct tuhvondi_network) == 16, "a handle takes 16 bytes");
-
-/* A notice that a router is attached to a prefix at this cost, or no more if the cost is 0. */
-struct tuhvondi_notice {
-    uint32_t addr;
-    uint32_t cost;
-    uint8_t len;
-};
-
-TUHVONDI_ASSERT(sizeof(struct tuhvondi_notice) == 12, "a notice takes 12 bytes");
 
 /* What a handle begins with: it holds no network. */
 #define TUHVONDI_NO_NETWORK {NULL, false}
@@ -464,7 +463,8 @@ uint32_t tuhvondi_network_run(struct tuhvondi_network *network, const struct tuh
                               size_t step_count, size_t *done);
 
 /* Writes what a router has to do next: a release; if it has none, a publication; else a delivery from the
- * lowest port that has an item. If there is nothing to do, the kind is TUHVONDI_NO_STEP.
+ * lowest port that has an item. If there is nothing to do, the kind is TUHVONDI_NO_STEP. With a clock that
+ * step may not be due yet (tuhvondi_network_next_event).
  * Refused, and then nothing is written: TUHVONDI_NO_NETWORK_HELD, TUHVONDI_UNKNOWN_ROUTER. */
 uint32_t tuhvondi_network_next_step(struct tuhvondi_network *network, uint16_t router,
                                     struct tuhvondi_step *step);
@@ -478,13 +478,14 @@ uint32_t tuhvondi_network_next_step(struct tuhvondi_network *network, uint16_t r
 uint32_t tuhvondi_network_settle(struct tuhvondi_network *network, uint64_t seed, size_t most,
                                  size_t *done);
 
-/* Writes 1 if nothing is left to do, else 0. It does not go through the network.
+/* Writes 1 if routers have nothing left to do, else 0. It does not go through the network, and changes that wait
+ * for their moment do not count (tuhvondi_network_is_at_rest).
  * Refused, and then nothing is written: TUHVONDI_NO_NETWORK_HELD. */
 uint32_t tuhvondi_network_is_settled(struct tuhvondi_network *network, uint8_t *settled);
 
 /* Writes into answers[i] the row with the longest prefix that covers addrs[i], of the image in force at the
- * router. If no row does, its kind is TUHVONDI_NO_ROW. It takes no memory.
- * Refused, and then nothing is written: TUHVONDI_NO_NETWORK_HELD, TUHVONDI_UNKNOWN_ROUTER,
+ * router. If no row does, its kind is TUHVONDI_NO_ROW.
+ * Refused, in this order, and then nothing is written: TUHVONDI_NO_NETWORK_HELD, TUHVONDI_UNKNOWN_ROUTER,
  * TUHVONDI_BAD_COUNT if the two numbers differ. */
 uint32_t tuhvondi_network_lookup(struct tuhvondi_network *network, uint16_t router,
                                  const uint32_t *addrs, size_t addr_count,
@@ -493,52 +494,52 @@ uint32_t tuhvondi_network_lookup(struct tuhvondi_network *network, uint16_t rout
 /* Follows a packet for an address from a router on, along the images in force. Writes the routers that it
  * passes, as many as there is room for, and how many these are. Also writes why it goes no further than the
  * last (enum tuhvondi_end). No router is written twice. If there is room for all routers, the packet is
- * followed to its end. It takes no memory.
+ * followed to its end.
  * Refused, and then nothing is written: TUHVONDI_NO_NETWORK_HELD, TUHVONDI_UNKNOWN_ROUTER. */
 uint32_t tuhvondi_network_trace(struct tuhvondi_network *network, uint16_t router, uint32_t addr,
                                 uint16_t *hops, size_t hop_count, size_t *count, uint8_t *end);
 
 /* Writes the rows that a router has in force, in the order of their prefixes, as many as there is room for.
- * Writes how many these are, and 1 to `more` if there are more, else 0. It takes no memory.
+ * Writes how many these are, and 1 to `more` if there are more, else 0.
  * Refused, and then nothing is written: TUHVONDI_NO_NETWORK_HELD, TUHVONDI_UNKNOWN_ROUTER. */
 uint32_t tuhvondi_network_rows(struct tuhvondi_network *network, uint16_t router,
                                struct tuhvondi_row *rows, size_t row_count, size_t *written,
                                uint8_t *more);
 
-/* Writes what a router has of a prefix. It takes no memory.
+/* Writes what a router has of a prefix.
  * Refused, and then nothing is written: TUHVONDI_BAD_LENGTH, TUHVONDI_HOST_BITS, TUHVONDI_NO_NETWORK_HELD,
  * TUHVONDI_UNKNOWN_ROUTER, TUHVONDI_UNKNOWN_PREFIX if the router has not heard of the prefix. */
 uint32_t tuhvondi_network_machine(struct tuhvondi_network *network, uint16_t router, uint32_t addr,
                                   uint8_t len, struct tuhvondi_machine *machine);
 
-/* Writes what a link is now. It takes no memory.
+/* Writes what a link is now.
  * Refused, and then nothing is written: TUHVONDI_NO_NETWORK_HELD, TUHVONDI_UNKNOWN_LINK. */
 uint32_t tuhvondi_network_link(struct tuhvondi_network *network, uint16_t link,
                                struct tuhvondi_link_state *state);
 
 /* Writes the items that a router has yet to take from its port, oldest first, as many as there is room for.
- * Writes how many these are, and 1 to `more` if there are more, else 0. It takes no memory.
+ * Writes how many these are, and 1 to `more` if there are more, else 0.
  * Refused, and then nothing is written: TUHVONDI_NO_NETWORK_HELD, TUHVONDI_UNKNOWN_ROUTER,
  * TUHVONDI_UNKNOWN_LINK if the router has no such port. */
 uint32_t tuhvondi_network_queue(struct tuhvondi_network *network, uint16_t router, uint8_t port,
                                 struct tuhvondi_item *items, size_t item_count, size_t *written,
                                 uint8_t *more);
 
-/* Writes what a router holds back. It takes no memory.
+/* Writes what a router holds back.
  * Refused, and then nothing is written: TUHVONDI_NO_NETWORK_HELD, TUHVONDI_UNKNOWN_ROUTER. */
 uint32_t tuhvondi_network_gate(struct tuhvondi_network *network, uint16_t router,
                                struct tuhvondi_gate *gate);
 
 /* Writes the messages that a router holds back, oldest first, as many as there is room for. The first of them
  * may leave: tuhvondi_network_gate says how many (`ripe`). Writes how many were written, and 1 to `more` if
- * there are more, else 0. It takes no memory.
+ * there are more, else 0.
  * Refused, and then nothing is written: TUHVONDI_NO_NETWORK_HELD, TUHVONDI_UNKNOWN_ROUTER. */
 uint32_t tuhvondi_network_held(struct tuhvondi_network *network, uint16_t router,
                                struct tuhvondi_message *messages, size_t message_count,
                                size_t *written, uint8_t *more);
 
 /* Writes the notices of its own attachments that a router has yet to take, oldest first, as many as there is
- * room for. Writes how many these are, and 1 to `more` if there are more, else 0. It takes no memory.
+ * room for. Writes how many these are, and 1 to `more` if there are more, else 0.
  * Refused, and then nothing is written: TUHVONDI_NO_NETWORK_HELD, TUHVONDI_UNKNOWN_ROUTER. */
 uint32_t tuhvondi_network_notices(struct tuhvondi_network *network, uint16_t router,
                                   struct tuhvondi_notice *notices, size_t notice_count,

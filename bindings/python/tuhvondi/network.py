@@ -811,8 +811,8 @@ class Whole(Owner):
         """Another network in the same state, for what-if questions.
 
         The library copies what is in the network, its clock and record too: that takes time and memory by its
-        routers, links and rows, and not by the steps that were done. A pickle of a `Network` has its steps instead,
-        and does them again.
+        routers, links, rows and spells, and not by the steps that were done. A pickle of a `Network` has its steps
+        instead, and does them again.
 
         >>> net = Network("ab", [("a", "b", 5)])
         >>> _ = net.settle()

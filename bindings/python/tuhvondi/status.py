@@ -55,9 +55,9 @@ class BadCost(Refused, ValueError):
 
 
 class BadKind(Refused, ValueError):
-    """The kind of a row, a message or a step is too large."""
+    """The kind of a row, a message or a step is too large, or the step is no change that can be given."""
 
-    number, text = 6, "a kind is too large"
+    number, text = 6, "a kind is too large, or the step is no change that can be given"
 
 
 class EmptyHandle(Refused):

@@ -71,7 +71,7 @@ class TimedNetwork(Whole):
       all, a dict by name, or a function of the name.
     - up: whether all links come up at moment 0; else all are down.
     - record: whether the network keeps a record of its `computations` and `outages`. It costs time with each
-      event, and memory by the routers times the prefixes.
+      event, and memory by the routers times the prefixes and by the spells that ended.
 
     What is due first is done first, and the clock jumps from one event to the next. Of one moment your changes
     come first, in the order in which you gave them, and then routers in the order in which you named them. So
