@@ -13,6 +13,7 @@
  * of the kernel, secrets, hostile neighbours, prefixes to forget, and what to do without memory, where it ends. The daemon
  * for real networks is daemon/.
  */
+#define _DEFAULT_SOURCE
 #include <tuhvondi_router.h>
 
 #include <arpa/inet.h>
