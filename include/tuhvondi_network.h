@@ -494,7 +494,7 @@ uint32_t tuhvondi_network_lookup(struct tuhvondi_network *network, uint16_t rout
 /* Follows a packet for an address from a router on, along the images in force. Writes the routers that it
  * passes, as many as there is room for, and how many these are. Also writes why it goes no further than the
  * last (enum tuhvondi_end). No router is written twice. If there is room for all routers, the packet is
- * followed to its end.
+ * followed to its end. It takes no simulated time.
  * Refused, and then nothing is written: TUHVONDI_NO_NETWORK_HELD, TUHVONDI_UNKNOWN_ROUTER. */
 uint32_t tuhvondi_network_trace(struct tuhvondi_network *network, uint16_t router, uint32_t addr,
                                 uint16_t *hops, size_t hop_count, size_t *count, uint8_t *end);

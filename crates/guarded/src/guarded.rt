@@ -1,6 +1,6 @@
 //! A fabric with the books of its shares: how it is opened and closed, its steps and its turns.
 
-ghost use Rattle.std.specs.Prelude.{◌≡◌, ◌≤◌, ◌<◌, ◌+◌, ◌↔◌, if◌then◌else◌, true, false, None, Some, Ok, length, slice_get, sum_by, vec_len, IfOk, IfErr, IfSome, IsOk, OnOk, OnErr, MatchOption, MatchResult};
+ghost use Rattle.std.specs.Prelude.{ℕ, ◌≡◌, ◌≤◌, ◌<◌, ◌+◌, ◌↔◌, if◌then◌else◌, true, false, None, Some, Ok, length, slice_get, sum_by, vec_len, IfOk, IfErr, IfSome, IsOk, OnOk, OnErr, MatchOption, MatchResult};
 ghost use Rattle.network_model.specs.declared.step.Refusal.TheVariants.{WrongTicket as WithWrongTicket};
 ghost use Rattle.network_model.specs.Journal.{journal_sum, step_number, steps_in_sum};
 ghost use Rattle.network_model.specs.Step as steps;
@@ -266,10 +266,12 @@ impl<B: FabricName, N: ControlName> Guarded<B, N> {
         }
     }
 
-    /// A router that has something to do, looked for from this one on, and what that is.
+    /// A router that has something to do, looked for from this one on, and what that is. None only if no router
+    /// has.
     pub fn turn_from(&mut self, from: u16) -> Option<(u16, Step)>
         ensures same { self.new ≡ self.old }
         ensures some { IfSome result (λ d. next_turn self.old d.0 ≡ Some d.1) }
+        ensures none { result ≡ None → (i : ℕ) → i < (self.old).network.routers → next_turn self.old i ≡ None }
     {
         self.fabric.turn_from(from)
     }
