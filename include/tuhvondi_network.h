@@ -33,7 +33,6 @@
  *
  *   - A handle begins as TUHVONDI_NO_NETWORK. Give it to these functions alone, and to one call at a time,
  *     also to look something up. It may go to another thread.
- *   - A list is a pointer that is not null, and then the number of its elements.
  *   - No two arguments overlap.
  *
  * Whatever steps are done, and in whatever order, it is proved of the network (docs/theorem.md):

@@ -9,7 +9,6 @@
  * makes of the router. The proof holds for every call that keeps to the rules of "tuhvondi.h":
  *
  *   - A handle begins as TUHVONDI_NO_ROUTER. Give it to these functions alone, and to one call at a time.
- *   - A list is a pointer that is not null, and then the number of its elements.
  *   - No two arguments overlap.
  *
  * A program goes through these steps, again and again:
