@@ -204,6 +204,7 @@ impl<A: SmallAllocator> Course<A> {
         requires { (self.old).steps + 1 < 2 ^ 64 }
         ensures ok { OnOk result (steps.Lawful (self.old).world step
             × ((self.new).world ≡ steps.next (self.old).world step)) }
+        ensures whole { OnOk result (self.new ≡ course_after self.old step) }
         ensures count { OnOk result ((self.new).steps ≡ (self.old).steps + 1) }
         ensures network { (self.new).network ≡ (self.old).network }
         ensures err { OnErr result (self.new ≡ self.old) }

@@ -183,7 +183,8 @@ impl<B: FabricName, A: SmallAllocator> Fabric<B, A> {
         self.course.missed_turns()
     }
 
-    /// How many messages of each kind the steps in the journal put on links.
+    /// How many messages of each kind the steps in the journal put on links, as its course counts them; it stands in
+    /// no clause.
     pub fn sent(&self) -> Sent {
         self.course.sent()
     }

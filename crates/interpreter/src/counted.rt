@@ -284,7 +284,11 @@ impl Live for Counted {
 
 // One thread does all.
 impl<S: Staff> Threaded<S> for Counted {
+    ghost use Rattle.std.specs.Prelude.{false};
+
     ghost lend = { λ c s. c };
+
+    ghost staffed = { false };
 
     fn staff(&mut self) -> Option<&mut S> {
         None

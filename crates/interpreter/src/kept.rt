@@ -181,7 +181,11 @@ where
     B: FabricName + Send + Sync + 'static,
     H: Host,
 {
+    ghost use Rattle.std.specs.Prelude.{true};
+
     ghost lend = { λ k s. s };
+
+    ghost staffed = { true };
 
     fn staff(&mut self) -> Option<&mut Staffed<B, H>> {
         Some(&mut self.staffed)

@@ -25,17 +25,21 @@ pub trait Staff {
 
 /// A network that runs, with such a part or without. What is done on the part is done on the network.
 pub trait Threaded<S: Staff>: Live {
-    ghost use Rattle.std.specs.Prelude.{IfSome};
+    ghost use Rattle.std.specs.Prelude.{◌↔◌, Bool, IfSome, IsSome, IsTrue};
     ghost use Rattle.std.specs.Borrow.{LendsIf, sem};
     ghost use Rattle.interpreter.specs.Nets.{MeansAs};
 
     /// The network, with this in place of the part.
     ghost lend: { Self → S → Self };
 
+    /// Whether it has the part.
+    ghost staffed: { Bool };
+
     /// The part, if it has one.
     fn staff(&mut self) -> Option<&mut S>
         ensures* writes_back { sem 𝓛 (LendsIf Self.row S.row self.entry result (lend self.old) self.old) }
-        ensures means { IfSome result (λ s. MeansAs Self.meaning S.meaning (lend self.old) self.old s.now) };
+        ensures means { IfSome result (λ s. MeansAs Self.meaning S.meaning (lend self.old) self.old s.now) }
+        ensures found { IsSome result ↔ IsTrue staffed };
 }
 
 /// Lets routers take turns until nothing is left to do: in ascending cyclic order while one thread does it, or in
