@@ -29,6 +29,7 @@
 //! [`Machine::event`] takes one event: a message, a notice of a link, or one of the router's own attachment.
 //! It puts what the router sends into a [`Sends`]: a reply first, then queries or updates by ascending port.
 //! An attachment is one more port, numbered by how many ports there are. It reports 0, and is never asked.
+//! [`Machine::entry`] is the entry that the machine chooses for its prefix.
 //!
 //! What always holds (`IsMachine` in `specs/Parts.antt`): there are at most 32 ports, each at a cost. While a
 //! computation is under way, some port is awaited. A reply is owed just in the states 2 and 3, to the
@@ -50,12 +51,14 @@
 #![tactic(auto)]
 
 mod distances;
+mod entry;
 mod events;
 mod machine;
 mod mode;
 mod sends;
 
 pub use diffusing_replies::{Debt, Origin, PortSet};
+pub use entry::session_at;
 pub use machine::Machine;
 pub use mode::Mode;
 pub use network_model::{Cost, Distance, Event, Kind, NoMemory, Outgoing, PortInfo};

@@ -13,10 +13,8 @@ ghost use Rattle.release_gate.specs.GateState.{empty};
 ghost use Rattle.router_core.specs.Room.{kept_room};
 ghost use Rattle.router_core.specs.Parts.{machines_of};
 
-use dual_machine::{Machine, Sends};
-use network_model::{
-    Entry, Event, Held, Message, NoMemory, Outgoing, Port, Prefix, SmallAllocator,
-};
+use dual_machine::{Machine, Sends, session_at};
+use network_model::{Event, Held, Message, NoMemory, Outgoing, Port, Prefix, SmallAllocator};
 use release_gate::Gate;
 use route_table::RouteTable;
 use std::alloc::Allocator;
@@ -34,32 +32,6 @@ pub struct Effects<A: Allocator> {
     pub sends: Sends<A>,
     ghost sends_fit: { kept_room ≤ sends.capacity },
     ghost gate_fits: { kept_room ≤ gate.room + length gate.gate.held },
-}
-
-// The session that the router's notices said last of a port.
-fn session_at(ports: &[Port], port: u8) -> u16
-    ensures { result ≡ step.session_at ports.now port }
-{
-    match ports.get(usize::from(port)) {
-        Some(found) => found.session,
-        None => 0,
-    }
-}
-
-// The entry that a machine chooses: local where its successor is the attachment.
-pub fn entry_of<A: SmallAllocator>(ports: &[Port], machine: &Machine<A>) -> Entry
-    ensures { result ≡ step.entry_of ports.now machine.now.machine }
-{
-    if machine.is_local() {
-        return Entry::Local;
-    }
-    match machine.successor() {
-        Some(port) => Entry::Via {
-            port,
-            session: session_at(ports, port),
-        },
-        None => Entry::Unreachable,
-    }
 }
 
 // What a machine sends, for the session of its port.
@@ -152,7 +124,7 @@ impl<A: SmallAllocator> Effects<A> {
         self.sends.clear();
         machine.event(*event, &mut self.sends).unwrap();
         hold_all(&mut self.gate, ports, prefix, self.sends.as_slice());
-        self.table.set(prefix, entry_of(ports, machine)).unwrap();
+        self.table.set(prefix, machine.entry(ports)).unwrap();
     }
 }
 
