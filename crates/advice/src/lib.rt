@@ -26,6 +26,17 @@
 //!   (`src/times.rt`).
 //! - What is shown of a file is safe for a terminal (`src/shown.rt`): at most 60 characters, and those that
 //!   cannot be seen by their numbers.
+//! - Each kind of fault has a page (`src/page.rt`), because `texts_of` there has no way to give none. Two of its
+//!   lines are the last ones above, and `dualnet explain 4` prints all four:
+//!
+//! ```text
+//! write!(out, "{}", Page(FaultKind::HostBits))?;   // or Brief, for the lines of when and do
+//!
+//!   4 HostBits
+//!   when:    the address of a prefix has a bit set after the prefix's length
+//!   example: `10.0.0.1/8`, which should be `10.0.0.0/8`
+//!   do:      clear the bits after the length, or write the length that you mean: `10.0.0.1/32` is one address
+//! ```
 //!
 //! What always holds: more is told only if it is asked for (the clause of [`file_to_explain`], which names
 //! the scenario). Nothing else of this crate has a contract, so what it prints is tested by files of cases.
@@ -48,6 +59,7 @@ mod line;
 mod name;
 mod number;
 mod others;
+mod page;
 mod position;
 mod shown;
 mod times;
@@ -56,4 +68,5 @@ mod why;
 
 pub use asked::file_to_explain;
 pub use fault::explain;
+pub use page::{Brief, Page};
 pub use typed::{Typed, explain_typed};

@@ -2,9 +2,10 @@
 
 use crate::bytes::explain_bytes;
 use crate::document::explain_document;
+use crate::page::Brief;
 use crate::position::{At, string_at};
 use crate::shown::shown;
-use faults::{Brief, FaultKind};
+use faults::FaultKind;
 use plans::TimesKey;
 use std::alloc::Global;
 use std::io;

@@ -1,8 +1,9 @@
 //! Why a line that was typed into a shell is not done.
 
 use crate::command::{why_no_command, why_not_of_shell};
+use crate::page::Brief;
 use crate::shown::shown;
-use faults::{Brief, FaultKind};
+use faults::FaultKind;
 use network_model::LinkSpec;
 use script::Names;
 use std::alloc::Global;

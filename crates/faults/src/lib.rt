@@ -17,27 +17,18 @@
 //! there that a handle is empty, and is no kind here. The program never prints some kinds, because it does
 //! not let them happen: 51 (`timed_simulation`), for example.
 //!
-//! A few letters are too short if you meet a fault for the first time, so each kind has a page besides, which
-//! says what it means, when it comes and what to do. `dualnet explain 45` prints the page of a number, and
-//! `--explain` prints two of its lines below a fault:
-//!
 //! ```text
 //! let kind = FaultKind::of(45)?;                   // None for a number that no kind has
 //! kind.name()                                      // "BadCommand"
-//! write!(out, "{}", Page(FaultKind::HostBits))?;   // all four lines
-//! write!(out, "{}", Brief(FaultKind::HostBits))?;  // the lines of when and do
-//!
-//!   4 HostBits
-//!   when:    the address of a prefix has a bit set after the prefix's length
-//!   example: `10.0.0.1/8`, which should be `10.0.0.0/8`
-//!   do:      clear the bits after the length, or write the length that you mean: `10.0.0.1/32` is one address
 //! ```
+//!
+//! A few letters are too short if you meet a fault for the first time, so `advice` has a page of each kind.
 //!
 //! What always holds: no two kinds have one number, and `FaultKind::of` finds the kind of each (`only` of it).
 //! The number, the name and the text of a kind are those of one table (`kind_number`, `name_of` in
-//! `specs/Numbers.antt`). Each kind has a page, because `texts_of` has no way to give none.
+//! `specs/Numbers.antt`).
 //!
-//! What is tricky: nearly all crates stand on this one, so a new number or another text has them proved anew.
+//! What is tricky: nearly all crates stand on this one, so a new number has them proved anew.
 //!
 //! Each enum of faults is one of `thiserror`, and displays its kind, for example `4 HostBits`. What the
 //! derive writes has no contract, so that is tested. Which kind each is, is proved, by an `impl From` of
@@ -45,7 +36,5 @@
 #![tactic(auto)]
 
 mod kind;
-mod page;
 
 pub use kind::FaultKind;
-pub use page::{Brief, Page};

@@ -12,7 +12,7 @@
 //!   shell     opens its network, and does the commands of lines as they come
 //!   replay    does the steps of a journal, and compares the reports
 //!   time      runs its network in simulated time, with delays and changes       `timing`
-//!   explain   prints the page of a number                                       `faults`
+//!   explain   prints the page of a number                                       `advice`
 //! ```
 //!
 //! ```text

@@ -9,9 +9,10 @@ ghost use Rattle.network_model.specs.Step.{Lawful};
 ghost use Rattle.interpreter.specs.Nets.{counted_after};
 ghost use Rattle.play.specs.Replays.{Replays, StepsReplay, StopsReplay, replay_refusal};
 
+use advice::Brief;
 use command_line::Format;
 use fabric::MOST_STEPS;
-use faults::{Brief, FaultKind};
+use faults::FaultKind;
 use interpreter::{Counted, Interpreter, Live, NoGate, PrintStyle, end_line, show_steps_done};
 use journal::{Journal, StepText, Version, first_difference, read_journal};
 use lines::{Ended, Line, Printer, print_report};

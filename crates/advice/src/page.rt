@@ -1,6 +1,6 @@
 //! What the program says of each number.
 
-use crate::kind::FaultKind;
+use faults::FaultKind;
 use std::fmt;
 
 /// The explanation of a number: when it comes, an example, and what to do. It is displayed as four lines.
