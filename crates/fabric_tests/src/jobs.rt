@@ -56,7 +56,7 @@ fn by(generation: u64, entry: Entry) -> Answer {
     }
 }
 
-// A port answers the job of this number, at this router, so.
+// The job of this number, at this router, is told of the list in force, and a port answers it so.
 fn answers<B, N, R>(
     rt: &R,
     control: &Control<B, N>,
@@ -73,6 +73,7 @@ where
     let Ok(job) = control.job(rt, number, router, ADDR) else {
         panic!(rt; "job");
     };
+    equal(rt, job.generation(), wanted.generation);
     let Ok(reply) = port.answer(&job) else {
         panic!(rt; "answer");
     };
