@@ -1,6 +1,6 @@
 //! Why a line is no command.
 
-use crate::number::{why_no_cost, why_no_seed};
+use crate::line::{why_no_cost, why_no_seed};
 use crate::shown::odd_space;
 use crate::why::{Why, Word};
 use network_model::LinkSpec;
@@ -9,46 +9,25 @@ use std::alloc::Global;
 use std::io;
 use strsim::levenshtein;
 
-// The forms of all commands but `try STEP`. Of two forms of one verb, the first is that of a step.
-const FORMS: [&str; 24] = [
-    "up A B",
-    "down A B",
-    "cost A B C",
-    "deliver A B",
-    "publish A",
-    "release A",
-    "attach A PREFIX COST",
-    "detach A PREFIX",
-    "up A",
-    "down A",
-    "settle",
-    "settle --seed N",
-    "count",
-    "state A PREFIX",
-    "table A",
-    "next A",
-    "queue A B",
-    "held A",
-    "lookup A ADDR",
-    "trace A ADDR",
-    "trace A ADDR --through",
-    "report",
-    "save",
-    "restore",
-];
-
-// The forms of those that workers answer.
-const JOBS: [&str; 2] = ["inject A ADDR", "drain"];
+// The forms of all commands but `try STEP`, with a bar between two. Of two forms of one verb, the first is that of a step.
+const FORMS: &str = "\
+up A B|down A B|cost A B C|deliver A B|publish A|release A|attach A PREFIX COST|\
+detach A PREFIX|up A|down A|settle|settle --seed N|count|state A PREFIX|table A|next A|\
+queue A B|held A|lookup A ADDR|trace A ADDR|trace A ADDR --through|report|save|restore|\
+inject A ADDR|drain";
 
 // The forms of those that a shell alone has.
 const OF_SHELL: [&str; 3] = ["say TEXT", "help", "quit"];
 
 /// How a command of the shell alone is written, if the line begins as one.
 pub fn why_not_of_shell(line: &str) -> Option<Why<'_>> {
-    let verb = word_at(line, 0);
+    Some(wrong_words(form_of_shell(word_at(line, 0))?))
+}
+
+fn form_of_shell(verb: &str) -> Option<&'static str> {
     for form in OF_SHELL {
         if word_at(form, 0) == verb {
-            return Some(wrong_words(form));
+            return Some(form);
         }
     }
     None
@@ -101,7 +80,7 @@ pub fn why_spaces(line: &str) -> Option<Why<'_>> {
 fn form_of(line: &str, count: Option<usize>) -> Option<&'static str> {
     let (verb, second) = (word_at(line, 0), word_at(line, 1));
     let (mut first, mut near) = (None, None);
-    for form in FORMS {
+    for form in FORMS.split('|') {
         if word_at(form, 0) == verb {
             if count == Some(form.split(' ').count()) {
                 return Some(form);
@@ -110,11 +89,6 @@ fn form_of(line: &str, count: Option<usize>) -> Option<&'static str> {
             if count.is_some() && word_at(form, 1) == second {
                 near = Some(form);
             }
-        }
-    }
-    for form in JOBS {
-        if word_at(form, 0) == verb {
-            return Some(form);
         }
     }
     near.or(first)
@@ -130,16 +104,11 @@ fn why_unknown(alloc: Global, verb: &str) -> io::Result<Why<'_>> {
     if verb.starts_with('#') {
         return Ok(Why::plain("a command cannot be a comment"));
     }
-    for form in OF_SHELL {
-        if word_at(form, 0) == verb {
-            return Ok(Why::of("`", Word::Text(verb), "` is a command of the shell alone"));
-        }
+    if form_of_shell(verb).is_some() {
+        return Ok(Why::of("`", Word::Text(verb), "` is a command of the shell alone"));
     }
     let mut nearest = ("", 3);
-    for form in FORMS {
-        nearest = nearer(alloc, verb, form, nearest)?;
-    }
-    for form in JOBS {
+    for form in FORMS.split('|') {
         nearest = nearer(alloc, verb, form, nearest)?;
     }
     let unknown = Word::Text(verb);

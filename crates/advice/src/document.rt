@@ -1,7 +1,8 @@
-//! Why a text is no scenario.
+//! Why a file is no text, or its text no scenario.
 
-use crate::position::{At, key_at, position_at};
+use crate::position::File;
 use crate::why::{Why, Word};
+use faults::FaultKind;
 use std::alloc::Global;
 use std::io;
 use std::io::Write;
@@ -9,46 +10,70 @@ use toml::{Table, Value};
 
 const KEYS: [&str; 4] = ["routers", "links", "prefixes", "script"];
 
-/// Tells where a text is no TOML document.
-pub fn explain_document<W: Write>(
-    alloc: Global,
-    file: &str,
-    text: &str,
+/// The file of this name and these bytes, for which such a fault was told. It is told which byte is the first that is
+/// not UTF-8, and where it stands, if there is one; then the file counts as empty.
+pub(crate) fn read_file<'a, W: Write>(
+    name: &'a str,
+    bytes: &'a [u8],
+    kind: FaultKind,
     out: &mut W,
-) -> io::Result<()> {
-    if text.contains('\0') {
+) -> io::Result<File<'a>> {
+    // A file that is too large was not read to its end, which may be half a character.
+    if kind != FaultKind::TooLarge {
+        explain_bytes(name, bytes, out)?;
+    }
+    let text = str::from_utf8(bytes).unwrap_or("");
+    Ok(File { name, text })
+}
+
+fn explain_bytes<W: Write>(name: &str, bytes: &[u8], out: &mut W) -> io::Result<()> {
+    let Err(error) = str::from_utf8(bytes) else {
+        return Ok(());
+    };
+    let end = error.valid_up_to();
+    let before = bytes.get(..end).unwrap_or(&[]);
+    let text = str::from_utf8(before).unwrap_or("");
+    let at = File { name, text }.at_byte(end);
+    match bytes.get(end) {
+        Some(0xfe | 0xff) if end == 0 => {
+            writeln!(out, "  {at}: it looks like UTF-16: save it as UTF-8")
+        }
+        Some(byte) => writeln!(out, "  {at}: the byte 0x{byte:x} is not UTF-8"),
+        None => Ok(()),
+    }
+}
+
+/// Tells where a text is no TOML document.
+pub fn explain_document<W: Write>(alloc: Global, file: File<'_>, out: &mut W) -> io::Result<()> {
+    if file.text.contains('\0') {
         return writeln!(
             out,
-            "  {file}: it has zero bytes: is it UTF-16? Save it as UTF-8"
+            "  {}: it has zero bytes: is it UTF-16? Save it as UTF-8",
+            file.name
         );
     }
-    match toml::table_from_str(alloc, text) {
-        Ok(_) => Ok(()),
-        Err(error) => {
-            let at = error.span().map(|span| position_at(text, span.start));
-            writeln!(out, "  {}: {}", At { file, at }, error.message())
-        }
+    let Err(error) = toml::table_from_str(alloc, file.text) else {
+        return Ok(());
+    };
+    match error.span() {
+        Some(span) => writeln!(out, "  {}: {}", file.at_byte(span.start), error.message()),
+        None => writeln!(out, "  {}: {}", file.name, error.message()),
     }
 }
 
 /// Tells which keys of a document are not those of a scenario.
-pub fn explain_keys<W: Write>(
-    alloc: Global,
-    file: &str,
-    text: &str,
-    out: &mut W,
-) -> io::Result<()> {
-    let Ok(table) = toml::table_from_str(alloc, text) else {
+pub fn explain_keys<W: Write>(alloc: Global, file: File<'_>, out: &mut W) -> io::Result<()> {
+    let Ok(table) = toml::table_from_str(alloc, file.text) else {
         return Ok(());
     };
     for key in KEYS {
-        explain_key(&table, key, file, text, out)?;
+        explain_key(&table, key, file, out)?;
     }
     for (key, _) in table.iter() {
         let key = key.as_str();
         if !KEYS.contains(&key) {
             let why = Why::of("unknown key `", Word::Text(key), "`");
-            explain_at_key(file, text, key, why, out)?;
+            writeln!(out, "  {}: {why}", file.at_key(key))?;
         }
     }
     Ok(())
@@ -57,30 +82,17 @@ pub fn explain_keys<W: Write>(
 fn explain_key<W: Write>(
     table: &Table,
     key: &str,
-    file: &str,
-    text: &str,
+    file: File<'_>,
     out: &mut W,
 ) -> io::Result<()> {
     match table.get(key) {
         None => writeln!(out, "  the key `{key}` is missing"),
         Some(value) if !is_list(value) => {
             let why = Why::of("`", Word::Text(key), "` is not an array of strings");
-            explain_at_key(file, text, key, why, out)
+            writeln!(out, "  {}: {why}", file.at_key(key))
         }
         Some(_) => Ok(()),
     }
-}
-
-// Tells a reason, and where the key stands, if it is written without quotes.
-fn explain_at_key<W: Write>(
-    file: &str,
-    text: &str,
-    key: &str,
-    why: Why<'_>,
-    out: &mut W,
-) -> io::Result<()> {
-    let at = key_at(text, key);
-    writeln!(out, "  {}: {why}", At { file, at })
 }
 
 fn is_list(value: &Value) -> bool {

@@ -1,15 +1,12 @@
 //! What is told of one fault.
 
 use crate::asked::file_to_explain;
-use crate::bytes::explain_bytes;
 use crate::command::why_no_command;
-use crate::document::{explain_document, explain_keys};
-use crate::journal_line::explain_journal;
-use crate::line::{why_no_link, why_no_prefix};
-use crate::name::why_no_name;
+use crate::document::{explain_document, explain_keys, read_file};
+use crate::line::{why_no_link, why_no_name, why_no_prefix};
 use crate::others::explain_others;
 use crate::page::Brief;
-use crate::position::{At, string_at};
+use crate::position::File;
 use crate::shown::shown;
 use crate::times::explain_times;
 use crate::why::Why;
@@ -21,17 +18,6 @@ use script::{Key, Place, read_script};
 use std::alloc::Global;
 use std::io;
 use std::io::Write;
-
-/// A fault, and the scenario that it is in.
-#[derive(Clone, Copy)]
-pub(crate) struct Faulty<'a> {
-    /// The file of the scenario, as it was named.
-    pub file: &'a str,
-    /// What it holds.
-    pub text: &'a str,
-    pub kind: FaultKind,
-    pub place: Option<Place>,
-}
 
 /// Tells more of the fault for which the program stops, if these words ask for it: where it stands, what was
 /// expected, when the fault comes, and what to do. If a scenario was to be checked alone, also its other faults, as
@@ -45,16 +31,17 @@ pub fn explain<W: Write>(
     beside: &[u8],
     out: &mut W,
 ) -> io::Result<()> {
-    let Some(file) = file_to_explain(words) else {
+    let Some(name) = file_to_explain(words) else {
         return Ok(());
     };
+    let kind = fault.kind;
     let place = match (*words, fault.place) {
         (Words::Time { times, .. }, Some(Where::Times)) => {
-            return explain_times(alloc, times, beside, fault.kind, None, out);
+            return explain_times(alloc, times, beside, kind, None, out);
         }
         (Words::Time { times, .. }, Some(Where::TimesLine { key, position })) => {
             let line = Some((key, position));
-            return explain_times(alloc, times, beside, fault.kind, line, out);
+            return explain_times(alloc, times, beside, kind, line, out);
         }
         (Words::Replay { journal, .. }, Some(Where::Journal { line })) => {
             let text = str::from_utf8(beside).unwrap_or("");
@@ -64,78 +51,89 @@ pub fn explain<W: Write>(
         (_, Some(Where::Scenario(place))) => Some(place),
         _ => None,
     };
-    // A file that is too large was not read to its end, which may be half a character.
-    if fault.kind != FaultKind::TooLarge {
-        explain_bytes(file, scenario, out)?;
-    }
-    let faulty = Faulty {
-        file,
-        text: str::from_utf8(scenario).unwrap_or(""),
-        kind: fault.kind,
-        place,
-    };
-    match faulty.kind {
-        FaultKind::BadToml => explain_document(alloc, file, faulty.text, out)?,
-        FaultKind::BadKey => explain_keys(alloc, file, faulty.text, out)?,
-        _ => explain_place(alloc, faulty, out)?,
-    }
-    write!(out, "{}", Brief(faulty.kind))?;
-    match (*words, faulty.place, read_scenario(alloc, faulty.text)) {
-        (Words::Check { .. }, Some(place), Ok(lines)) => {
-            explain_others(alloc, faulty, &lines, place, out)
+    let file = read_file(name, scenario, kind, out)?;
+    match (kind, place) {
+        (FaultKind::BadToml, _) => explain_document(alloc, file, out)?,
+        (FaultKind::BadKey, _) => explain_keys(alloc, file, out)?,
+        (_, Some(place)) => {
+            let with_others = matches!(words, Words::Check { .. });
+            return explain_place(alloc, file, kind, place, with_others, out);
         }
-        _ => Ok(()),
+        (_, None) => {}
+    }
+    write!(out, "{}", Brief(kind))
+}
+
+// Tells of a line of a journal's text, counted from 1, that is not what stands there in a journal: its
+// place, its text, and what was expected.
+fn explain_journal<W: Write>(
+    file: &str,
+    text: &str,
+    line: usize,
+    out: &mut W,
+) -> io::Result<()> {
+    match text.split('\n').nth(line.saturating_sub(1)) {
+        Some(found) if !found.is_empty() => writeln!(out, "  {file}:{line}:1: {}", shown(found))?,
+        _ => writeln!(out, "  {file}:{line}:1: there is no such line")?,
+    }
+    if line == 1 {
+        writeln!(out, "  expected `dualnet journal 2`")
+    } else {
+        writeln!(
+            out,
+            "  expected `end`, or a step of this network's routers and links, for example `up A B`"
+        )
     }
 }
 
-// Tells of the line at fault, where there is one.
-fn explain_place<W: Write>(alloc: Global, faulty: Faulty<'_>, out: &mut W) -> io::Result<()> {
-    match (faulty.place, read_scenario(alloc, faulty.text)) {
-        (Some(place), Ok(lines)) => explain_line(alloc, faulty, &lines, faulty.kind, place, out),
-        _ => Ok(()),
+// Tells of the line at fault, when the fault comes, and what to do; then of other lines, if that is asked for.
+fn explain_place<W: Write>(
+    alloc: Global,
+    file: File<'_>,
+    kind: FaultKind,
+    place: Place,
+    with_others: bool,
+    out: &mut W,
+) -> io::Result<()> {
+    let Ok(lines) = read_scenario(alloc, file.text) else {
+        return write!(out, "{}", Brief(kind));
+    };
+    explain_line(alloc, file, &lines, kind, place, out)?;
+    write!(out, "{}", Brief(kind))?;
+    if with_others {
+        return explain_others(alloc, file, &lines, place, out);
     }
+    Ok(())
 }
 
 /// Tells of a line: its place in the file, its text, and what is wrong with it.
 pub fn explain_line<W: Write>(
     alloc: Global,
-    faulty: Faulty<'_>,
+    file: File<'_>,
     lines: &Lines,
     kind: FaultKind,
     place: Place,
     out: &mut W,
 ) -> io::Result<()> {
-    let Some(line) = line_at(lines, place) else {
+    let (key, list) = list_of(lines, place.key);
+    let Some(line) = list.get(place.position) else {
         return Ok(());
     };
-    let at = At {
-        file: faulty.file,
-        at: string_at(faulty.text, key_text(place.key), place.position),
-    };
-    writeln!(out, "  {at}: {}", shown(line))?;
+    let line = line.as_str();
+    writeln!(out, "  {}: {}", file.at_string(key, place.position), shown(line))?;
     match why(alloc, kind, lines, place, line)? {
         Some(why) => writeln!(out, "  {why}"),
         None => Ok(()),
     }
 }
 
-fn line_at<'a>(lines: &'a Lines, place: Place) -> Option<&'a str> {
-    let list = match place.key {
-        Key::Routers => &lines.routers,
-        Key::Links => &lines.links,
-        Key::Prefixes => &lines.prefixes,
-        Key::Script => &lines.script,
-    };
-    let line = list.get(place.position)?;
-    Some(line.as_str())
-}
-
-fn key_text(key: Key) -> &'static str {
+/// A list of a scenario, and its key as it is written.
+pub(crate) fn list_of(lines: &Lines, key: Key) -> (&'static str, &[String]) {
     match key {
-        Key::Routers => "routers",
-        Key::Links => "links",
-        Key::Prefixes => "prefixes",
-        Key::Script => "script",
+        Key::Routers => ("routers", &lines.routers),
+        Key::Links => ("links", &lines.links),
+        Key::Prefixes => ("prefixes", &lines.prefixes),
+        Key::Script => ("script", &lines.script),
     }
 }
 

@@ -19,11 +19,11 @@
 //! - [`explain`] finds the line in the file (`src/position.rt`), and reads it again to see what is wrong
 //!   (`src/command.rt`, `src/line.rt`). For example, a word is too many, a name is not known, or no link
 //!   joins two routers. If a text is not a TOML document, it says at which place, if keys are missing or
-//!   unknown, it names them, and if the text is not UTF-8, it tells the first byte that is not.
+//!   unknown, it names them, and if the text is not UTF-8, it tells the first byte that is not
+//!   (`src/document.rt`).
 //! - If the scenario was only to be checked, other faults are told, too, 20 in all (`src/others.rt`): those that
 //!   need no guess.
-//! - Of a journal the line at fault is shown (`src/journal_line.rt`), and of a document of times the string
-//!   (`src/times.rt`).
+//! - Of a journal the line at fault is shown, and of a document of times the string (`src/times.rt`).
 //! - What is shown of a file is safe for a terminal (`src/shown.rt`): at most 60 characters, and those that
 //!   cannot be seen by their numbers.
 //! - Each kind of fault has a page (`src/page.rt`), because `texts_of` there has no way to give none. Two of its
@@ -50,14 +50,10 @@
 #![tactic(auto)]
 
 mod asked;
-mod bytes;
 mod command;
 mod document;
 mod fault;
-mod journal_line;
 mod line;
-mod name;
-mod number;
 mod others;
 mod page;
 mod position;

@@ -1,12 +1,45 @@
-//! Why a line of links or of prefixes cannot be taken.
+//! Why a line of routers, of links or of prefixes cannot be taken, or a word that is to be a number.
 
 use crate::command::why_spaces;
-use crate::number::why_no_cost;
 use crate::why::{Why, Word};
 use script::Names;
+use texts::read_number;
+
+/// How many characters a name has at most.
+const MOST_CHARACTERS: usize = 16;
 
 /// How many links a router has at most.
 const MOST_LINKS: usize = 32;
+
+/// Why the name of this number is none that a router can have, or that it was given before.
+pub fn why_no_name(names: &[String], position: usize) -> Option<Why<'_>> {
+    let name = names.get(position)?.as_str();
+    for letter in name.chars() {
+        if !matches!(letter, 'a'..='z' | '0'..='9') {
+            let after = "` is not a small letter a to z, and not a digit";
+            return Some(Why::of("`", Word::Letter(letter), after));
+        }
+    }
+    match name.chars().next() {
+        None => return Some(Why::plain("a name has at least one letter")),
+        Some('0'..='9') => return Some(Why::plain("a name begins with a letter")),
+        Some(_) => {}
+    }
+    let count = name.chars().count();
+    if count > MOST_CHARACTERS {
+        let after = " characters: a name has at most 16";
+        return Some(Why::of("it has ", Word::Number(count), after));
+    }
+    let before = names
+        .iter()
+        .take(position)
+        .position(|other| other.as_str() == name)?;
+    Some(Why::of(
+        "an earlier router has this name: routers ",
+        Word::Number(before),
+        "",
+    ))
+}
 
 /// Why the line of this number is no link of these routers.
 pub fn why_no_link<'a>(names: &Names, links: &'a [String], position: usize) -> Option<Why<'a>> {
@@ -99,4 +132,35 @@ pub fn why_no_prefix<'a>(
         }
     }
     Some(Why::plain("there are as many prefixes as there can be"))
+}
+
+/// Why a word is no number, or none that a cost can be. None if it is a cost.
+pub fn why_no_cost(word: &str) -> Option<Why<'_>> {
+    why_outside(word, 1, 65535)
+}
+
+/// Why a word is no number of 32 bits. None if it is one.
+pub fn why_no_seed(word: &str) -> Option<Why<'_>> {
+    why_outside(word, 0, u32::MAX)
+}
+
+// Why a word is no number of `least` to `most`.
+fn why_outside(word: &str, least: u32, most: u32) -> Option<Why<'_>> {
+    if matches!(read_number(word), Some(number) if number >= least && number <= most) {
+        return None;
+    }
+    let digits = word.strip_prefix('+').or(word.strip_prefix('-'));
+    let are_digits = !word.is_empty() && word.bytes().all(|byte| byte.is_ascii_digit());
+    let shown = Word::Text(word);
+    Some(if digits.is_some() {
+        Why::of("`", shown, "` has a sign: write only digits")
+    } else if !are_digits {
+        Why::of("`", shown, "` is not a whole number")
+    } else if word == "0" {
+        Why::of("`0` is below ", Word::Number(least as usize), "")
+    } else if word.starts_with('0') {
+        Why::of("`", shown, "` begins with a zero")
+    } else {
+        Why::of_two("`", shown, "` is above ", Word::Number(most as usize), "")
+    })
 }

@@ -1,6 +1,7 @@
 //! The other faults of a scenario's lines, as far as each can be told by itself.
 
-use crate::fault::{Faulty, explain_line};
+use crate::fault::{explain_line, list_of};
+use crate::position::File;
 use faults::FaultKind;
 use network_model::Step;
 use scenario::Lines;
@@ -16,20 +17,20 @@ const MOST_OTHERS: u8 = 19;
 /// prefixes where one of these is, else of other commands.
 pub fn explain_others<W: Write>(
     alloc: Global,
-    faulty: Faulty<'_>,
+    file: File<'_>,
     lines: &Lines,
     first: Place,
     out: &mut W,
 ) -> io::Result<()> {
     match first.key {
         Key::Routers => {
-            explain_list(alloc, faulty, lines, Key::Routers, first, MOST_OTHERS, out)?;
+            explain_list(alloc, file, lines, Key::Routers, first, MOST_OTHERS, out)?;
         }
         Key::Links | Key::Prefixes => {
-            let left = explain_list(alloc, faulty, lines, Key::Links, first, MOST_OTHERS, out)?;
-            explain_list(alloc, faulty, lines, Key::Prefixes, first, left, out)?;
+            let left = explain_list(alloc, file, lines, Key::Links, first, MOST_OTHERS, out)?;
+            explain_list(alloc, file, lines, Key::Prefixes, first, left, out)?;
         }
-        Key::Script => explain_commands(alloc, faulty, lines, first, out)?,
+        Key::Script => explain_commands(alloc, file, lines, first, out)?,
     }
     Ok(())
 }
@@ -37,18 +38,14 @@ pub fn explain_others<W: Write>(
 // Tells of the faults of a list's lines, and answers how many more may be told.
 fn explain_list<W: Write>(
     alloc: Global,
-    faulty: Faulty<'_>,
+    file: File<'_>,
     lines: &Lines,
     key: Key,
     first: Place,
     most: u8,
     out: &mut W,
 ) -> io::Result<u8> {
-    let list = match key {
-        Key::Routers => &lines.routers,
-        Key::Links => &lines.links,
-        _ => &lines.prefixes,
-    };
+    let (_, list) = list_of(lines, key);
     let mut left = most;
     for (position, one) in list.chunks(1).enumerate() {
         let place = Place { key, position };
@@ -56,7 +53,7 @@ fn explain_list<W: Write>(
             && place != first
             && let Some(fault) = fault_alone(alloc, lines, key, one)
         {
-            explain_other(alloc, faulty, lines, fault, place, out)?;
+            explain_other(alloc, file, lines, fault, place, out)?;
             left = left.saturating_sub(1);
         }
     }
@@ -83,7 +80,7 @@ fn fault_alone(alloc: Global, lines: &Lines, key: Key, one: &[String]) -> Option
 // Tells of the faults of other commands.
 fn explain_commands<W: Write>(
     alloc: Global,
-    faulty: Faulty<'_>,
+    file: File<'_>,
     lines: &Lines,
     first: Place,
     out: &mut W,
@@ -100,7 +97,7 @@ fn explain_commands<W: Write>(
             && place != first
             && let Some(fault) = command_fault(&reading.script, line.as_str())
         {
-            explain_other(alloc, faulty, lines, fault, place, out)?;
+            explain_other(alloc, file, lines, fault, place, out)?;
             left = left.saturating_sub(1);
         }
     }
@@ -118,7 +115,7 @@ fn command_fault(script: &Script, line: &str) -> Option<LineFault> {
 
 fn explain_other<W: Write>(
     alloc: Global,
-    faulty: Faulty<'_>,
+    file: File<'_>,
     lines: &Lines,
     fault: LineFault,
     place: Place,
@@ -129,5 +126,5 @@ fn explain_other<W: Write>(
         place: Some(place),
     };
     writeln!(out, "dualnet: {located}")?;
-    explain_line(alloc, faulty, lines, FaultKind::from(fault), place, out)
+    explain_line(alloc, file, lines, FaultKind::from(fault), place, out)
 }

@@ -1,56 +1,64 @@
-//! Where the lines of a scenario stand in its text.
+//! A file that was read, and where things stand in its text.
 
 use std::fmt;
 
-/// A line and a column of a text, from 1. Columns count characters.
+/// A file, as it was named, and what it holds.
 #[derive(Clone, Copy)]
-pub struct Position {
-    pub line: usize,
-    pub column: usize,
+pub struct File<'a> {
+    pub name: &'a str,
+    pub text: &'a str,
 }
 
-impl fmt::Display for Position {
-    fn fmt<W: fmt::Write>(&self, f: &mut fmt::Formatter<W>) -> fmt::Result {
-        write!(f, "{}:{}", self.line, self.column)
+impl<'a> File<'a> {
+    /// Where a byte stands.
+    pub fn at_byte(&self, byte: usize) -> At<'a> {
+        At(self.name, Some(position_at(self.text, byte)))
+    }
+
+    /// Where a key begins its line. Nowhere if it begins none: if it stands in a table, or in quotes.
+    pub fn at_key(&self, key: &str) -> At<'a> {
+        At(self.name, key_at(self.text, key))
+    }
+
+    /// Where the string of this number, from 0, stands in the array at a key.
+    pub fn at_string(&self, key: &str, number: usize) -> At<'a> {
+        At(self.name, string_at(self.text, key, number))
     }
 }
 
-/// A file, and a place in it if one is known, as `ring.toml:8:5`.
+/// A file, and a line and a column of it, from 1, if they are known, as `ring.toml:8:5`. Columns count characters.
 #[derive(Clone, Copy)]
-pub struct At<'a> {
-    pub file: &'a str,
-    pub at: Option<Position>,
-}
+pub struct At<'a>(&'a str, Option<(usize, usize)>);
 
 impl fmt::Display for At<'_> {
     fn fmt<W: fmt::Write>(&self, f: &mut fmt::Formatter<W>) -> fmt::Result {
-        match self.at {
-            Some(at) => write!(f, "{}:{at}", self.file),
-            None => write!(f, "{}", self.file),
+        match self.1 {
+            Some((line, column)) => write!(f, "{}:{line}:{column}", self.0),
+            None => write!(f, "{}", self.0),
         }
     }
 }
 
-/// The position of a byte of a text.
-pub fn position_at(text: &str, byte: usize) -> Position {
-    let mut at = Position { line: 1, column: 1 };
+// The line and the column of a byte of a text.
+fn position_at(text: &str, byte: usize) -> (usize, usize) {
+    let (mut line, mut column) = (1_usize, 1_usize);
     for (place, letter) in text.char_indices() {
         if place >= byte {
             break;
         }
         if letter == '\n' {
-            at.line = at.line.saturating_add(1);
-            at.column = 1;
+            line = line.saturating_add(1);
+            column = 1;
         } else {
-            at.column = at.column.saturating_add(1);
+            column = column.saturating_add(1);
         }
     }
-    at
+    (line, column)
 }
 
-/// Where the string of this number, from 0, stands in the array at a key. None where the text is
-/// written in a way that is not looked through: by strings of several lines or in quoted keys.
-pub fn string_at(text: &str, key: &str, number: usize) -> Option<Position> {
+// Where the string of this number, from 0, stands in the array at a key. None where the text is
+// written in a way that is not looked through: by strings of several lines or in quoted keys.
+fn string_at(text: &str, key: &str, number: usize) -> Option<(usize, usize)> {
     if text.contains("\"\"\"") || text.contains("'''") {
         return None;
     }
@@ -64,24 +72,18 @@ pub fn string_at(text: &str, key: &str, number: usize) -> Option<Position> {
             scan.is_at_key = is_at_key(line, key);
         }
         if let Some(column) = scan.column(line) {
-            return Some(Position {
-                line: place.saturating_add(1),
-                column,
-            });
+            return Some((place.saturating_add(1), column));
         }
     }
     None
 }
 
-/// Where a key begins its line. None if it begins none: if it stands in a table, or in quotes.
-pub fn key_at(text: &str, key: &str) -> Option<Position> {
+fn key_at(text: &str, key: &str) -> Option<(usize, usize)> {
     for (place, line) in text.lines().enumerate() {
         if is_at_key(line, key) {
             let rest = line.trim_start().chars().count();
-            return Some(Position {
-                line: place.saturating_add(1),
-                column: line.chars().count().saturating_sub(rest).saturating_add(1),
-            });
+            let before = line.chars().count().saturating_sub(rest);
+            return Some((place.saturating_add(1), before.saturating_add(1)));
         }
     }
     None
