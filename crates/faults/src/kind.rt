@@ -55,6 +55,73 @@ pub enum FaultKind {
     NothingSaved,
 }
 
+// The table of faults, once for all that is looked up in it: each has its number, and its name is that of its kind.
+macro_rules! in_table {
+    (@of $value:expr; $($kind:ident = $number:literal),*) => {
+        match $value {
+            $($number => Some(FaultKind::$kind),)*
+            _ => None,
+        }
+    };
+    (@number $value:expr; $($kind:ident = $number:literal),*) => {
+        match $value {
+            $(FaultKind::$kind => $number,)*
+        }
+    };
+    (@name $value:expr; $($kind:ident = $number:literal),*) => {
+        match $value {
+            $(FaultKind::$kind => stringify!($kind),)*
+        }
+    };
+    ($rule:ident $value:expr) => {
+        in_table!(@$rule $value;
+            NoSlash = 1,
+            BadAddress = 2,
+            BadLength = 3,
+            HostBits = 4,
+            BadCost = 5,
+            UnknownRouter = 10,
+            UnknownLink = 11,
+            NoThread = 12,
+            AlreadyUp = 13,
+            IsDown = 14,
+            SessionsSpent = 15,
+            NothingToDeliver = 16,
+            NothingDue = 17,
+            NothingRipe = 18,
+            JournalFull = 19,
+            NoMemory = 20,
+            Busy = 21,
+            Stale = 22,
+            NoReaderPlace = 23,
+            BadRouters = 24,
+            BadLink = 25,
+            TooManyLinks = 26,
+            BadOwner = 27,
+            UnknownPrefix = 28,
+            NotAttached = 29,
+            Stranger = 30,
+            Doubled = 31,
+            Missing = 32,
+            Closed = 33,
+            NoImage = 34,
+            WrongTicket = 35,
+            BadToml = 40,
+            BadKey = 41,
+            BadName = 42,
+            BadLine = 43,
+            BadCommand = 45,
+            TooLarge = 46,
+            Unreadable = 47,
+            BadJournal = 48,
+            Unwritable = 49,
+            PastMoment = 51,
+            TimeSpent = 52,
+            JournalKept = 54,
+            NothingSaved = 55)
+    };
+}
+
 impl FaultKind {
     /// The kind of a number, or none if no fault of this list has that number.
     pub fn of(number: u8) -> Option<FaultKind>
@@ -62,53 +129,7 @@ impl FaultKind {
         ensures none { IfNone result ((k : FaultKind) → kind_number k ≢ number) }
         ensures only { (k : FaultKind) → kind_number k ≡ number → result ≡ Some k }
     {
-        match number {
-            1 => Some(FaultKind::NoSlash),
-            2 => Some(FaultKind::BadAddress),
-            3 => Some(FaultKind::BadLength),
-            4 => Some(FaultKind::HostBits),
-            5 => Some(FaultKind::BadCost),
-            10 => Some(FaultKind::UnknownRouter),
-            11 => Some(FaultKind::UnknownLink),
-            12 => Some(FaultKind::NoThread),
-            13 => Some(FaultKind::AlreadyUp),
-            14 => Some(FaultKind::IsDown),
-            15 => Some(FaultKind::SessionsSpent),
-            16 => Some(FaultKind::NothingToDeliver),
-            17 => Some(FaultKind::NothingDue),
-            18 => Some(FaultKind::NothingRipe),
-            19 => Some(FaultKind::JournalFull),
-            20 => Some(FaultKind::NoMemory),
-            21 => Some(FaultKind::Busy),
-            22 => Some(FaultKind::Stale),
-            23 => Some(FaultKind::NoReaderPlace),
-            24 => Some(FaultKind::BadRouters),
-            25 => Some(FaultKind::BadLink),
-            26 => Some(FaultKind::TooManyLinks),
-            27 => Some(FaultKind::BadOwner),
-            28 => Some(FaultKind::UnknownPrefix),
-            29 => Some(FaultKind::NotAttached),
-            30 => Some(FaultKind::Stranger),
-            31 => Some(FaultKind::Doubled),
-            32 => Some(FaultKind::Missing),
-            33 => Some(FaultKind::Closed),
-            34 => Some(FaultKind::NoImage),
-            35 => Some(FaultKind::WrongTicket),
-            40 => Some(FaultKind::BadToml),
-            41 => Some(FaultKind::BadKey),
-            42 => Some(FaultKind::BadName),
-            43 => Some(FaultKind::BadLine),
-            45 => Some(FaultKind::BadCommand),
-            46 => Some(FaultKind::TooLarge),
-            47 => Some(FaultKind::Unreadable),
-            48 => Some(FaultKind::BadJournal),
-            49 => Some(FaultKind::Unwritable),
-            51 => Some(FaultKind::PastMoment),
-            52 => Some(FaultKind::TimeSpent),
-            54 => Some(FaultKind::JournalKept),
-            55 => Some(FaultKind::NothingSaved),
-            _ => None,
-        }
+        in_table!(of number)
     }
 
     /// Its number, 1..=55.
@@ -116,104 +137,14 @@ impl FaultKind {
         ensures number { result ≡ kind_number self }
         ensures some { 0 < result }
     {
-        match self {
-            FaultKind::NoSlash => 1,
-            FaultKind::BadAddress => 2,
-            FaultKind::BadLength => 3,
-            FaultKind::HostBits => 4,
-            FaultKind::BadCost => 5,
-            FaultKind::UnknownRouter => 10,
-            FaultKind::UnknownLink => 11,
-            FaultKind::NoThread => 12,
-            FaultKind::AlreadyUp => 13,
-            FaultKind::IsDown => 14,
-            FaultKind::SessionsSpent => 15,
-            FaultKind::NothingToDeliver => 16,
-            FaultKind::NothingDue => 17,
-            FaultKind::NothingRipe => 18,
-            FaultKind::JournalFull => 19,
-            FaultKind::NoMemory => 20,
-            FaultKind::Busy => 21,
-            FaultKind::Stale => 22,
-            FaultKind::NoReaderPlace => 23,
-            FaultKind::BadRouters => 24,
-            FaultKind::BadLink => 25,
-            FaultKind::TooManyLinks => 26,
-            FaultKind::BadOwner => 27,
-            FaultKind::UnknownPrefix => 28,
-            FaultKind::NotAttached => 29,
-            FaultKind::Stranger => 30,
-            FaultKind::Doubled => 31,
-            FaultKind::Missing => 32,
-            FaultKind::Closed => 33,
-            FaultKind::NoImage => 34,
-            FaultKind::WrongTicket => 35,
-            FaultKind::BadToml => 40,
-            FaultKind::BadKey => 41,
-            FaultKind::BadName => 42,
-            FaultKind::BadLine => 43,
-            FaultKind::BadCommand => 45,
-            FaultKind::TooLarge => 46,
-            FaultKind::Unreadable => 47,
-            FaultKind::BadJournal => 48,
-            FaultKind::Unwritable => 49,
-            FaultKind::PastMoment => 51,
-            FaultKind::TimeSpent => 52,
-            FaultKind::JournalKept => 54,
-            FaultKind::NothingSaved => 55,
-        }
+        in_table!(number self)
     }
 
     /// Its name, which the program prints after the number.
     pub fn name(self) -> &'static str
         ensures { result.now ≡ name_of self }
     {
-        match self {
-            FaultKind::NoSlash => "NoSlash",
-            FaultKind::BadAddress => "BadAddress",
-            FaultKind::BadLength => "BadLength",
-            FaultKind::HostBits => "HostBits",
-            FaultKind::BadCost => "BadCost",
-            FaultKind::UnknownRouter => "UnknownRouter",
-            FaultKind::UnknownLink => "UnknownLink",
-            FaultKind::NoThread => "NoThread",
-            FaultKind::AlreadyUp => "AlreadyUp",
-            FaultKind::IsDown => "IsDown",
-            FaultKind::SessionsSpent => "SessionsSpent",
-            FaultKind::NothingToDeliver => "NothingToDeliver",
-            FaultKind::NothingDue => "NothingDue",
-            FaultKind::NothingRipe => "NothingRipe",
-            FaultKind::JournalFull => "JournalFull",
-            FaultKind::NoMemory => "NoMemory",
-            FaultKind::Busy => "Busy",
-            FaultKind::Stale => "Stale",
-            FaultKind::NoReaderPlace => "NoReaderPlace",
-            FaultKind::BadRouters => "BadRouters",
-            FaultKind::BadLink => "BadLink",
-            FaultKind::TooManyLinks => "TooManyLinks",
-            FaultKind::BadOwner => "BadOwner",
-            FaultKind::UnknownPrefix => "UnknownPrefix",
-            FaultKind::NotAttached => "NotAttached",
-            FaultKind::Stranger => "Stranger",
-            FaultKind::Doubled => "Doubled",
-            FaultKind::Missing => "Missing",
-            FaultKind::Closed => "Closed",
-            FaultKind::NoImage => "NoImage",
-            FaultKind::WrongTicket => "WrongTicket",
-            FaultKind::BadToml => "BadToml",
-            FaultKind::BadKey => "BadKey",
-            FaultKind::BadName => "BadName",
-            FaultKind::BadLine => "BadLine",
-            FaultKind::BadCommand => "BadCommand",
-            FaultKind::TooLarge => "TooLarge",
-            FaultKind::Unreadable => "Unreadable",
-            FaultKind::BadJournal => "BadJournal",
-            FaultKind::Unwritable => "Unwritable",
-            FaultKind::PastMoment => "PastMoment",
-            FaultKind::TimeSpent => "TimeSpent",
-            FaultKind::JournalKept => "JournalKept",
-            FaultKind::NothingSaved => "NothingSaved",
-        }
+        in_table!(name self)
     }
 }
 
