@@ -47,6 +47,18 @@
 //!   not at their values, so `--threads 1` may stand beside it.
 #![tactic(auto)]
 
+// An argument: its shape, its name, what help calls its value, and what it is for.
+macro_rules! argument {
+    ($shape:ident $id:literal $value:literal $help:literal) => {
+        Argument {
+            shape: Shape::$shape,
+            id: $id,
+            value: $value,
+            help: $help,
+        }
+    };
+}
+
 mod arguments;
 mod commands;
 mod format;

@@ -45,33 +45,13 @@ fn view_command<'a>(alloc: Global) -> Result<Command<'a>, AllocError>
     with_arguments(alloc, command, &[FILE, JOURNAL, TIMES, OUTPUT, JSON])
 }
 
-const JOURNAL: Argument = Argument {
-    shape: Shape::FreeWord,
-    id: "journal",
-    value: "JOURNAL",
-    help: "Journal whose steps are shown. If you name none, the script is run",
-};
-
-const TIMES: Argument = Argument {
-    shape: Shape::Value,
-    id: "times",
-    value: "PATH",
-    help: "Run the network in simulated time, by this document of times, and not the script",
-};
-
-const OUTPUT: Argument = Argument {
-    shape: Shape::Output,
-    id: "output",
-    value: "PATH",
-    help: "Write to this file, and not to the standard output",
-};
-
-const JSON: Argument = Argument {
-    shape: Shape::Flag,
-    id: "json",
-    value: "",
-    help: "Write a line of JSON for each state, and no page",
-};
+const JOURNAL: Argument = argument!(FreeWord "journal" "JOURNAL"
+    "Journal whose steps are shown. If you name none, the script is run");
+const TIMES: Argument = argument!(Value "times" "PATH"
+    "Run the network in simulated time, by this document of times, and not the script");
+const OUTPUT: Argument = argument!(Output "output" "PATH"
+    "Write to this file, and not to the standard output");
+const JSON: Argument = argument!(Flag "json" "" "Write a line of JSON for each state, and no page");
 
 /// What the words ask for. The first word is the program's name. If you ask for help, it comes as an
 /// error too, and `exit_status` knows it by its kind. A file whose name begins with a hyphen stands
