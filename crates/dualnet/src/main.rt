@@ -35,7 +35,9 @@ mod pages;
 
 use advice::{explain, file_to_explain};
 use command_line::{Words, read_words};
-use play::{Fault, FaultKind, Host, NoGate, Source, THRESHOLDS, play_by, refuse};
+use play::{
+    Fault, FaultKind, Host, NoGate, Platform, Source, Streams, THRESHOLDS, play, refuse,
+};
 use program_files::{
     Input, exit_code, explain_unreadable, given_words, is_input, is_one_file, kept_path, open_file,
     print_error, replayed_path, scenario_path, times_path,
@@ -112,16 +114,22 @@ fn run_over<H: Host>(
 ) -> u8 {
     let mut journal = Vec::new(rt.alloc());
     let mut fault = None;
-    let status = play_by(
-        wait,
-        rt.alloc(),
-        THRESHOLDS,
-        &NoGate,
+    let by = Platform {
+        rt: wait,
+        alloc: rt.alloc(),
+        thresholds: THRESHOLDS,
+        gate: &NoGate,
+    };
+    let mut streams = Streams {
+        out: &mut out,
+        err: &mut err,
+    };
+    let status = play(
+        &by,
         words,
         &mut *scenario,
         &mut *second,
-        &mut out,
-        &mut err,
+        &mut streams,
         kept_path(words).is_some(),
         &mut journal,
         &mut fault,

@@ -40,7 +40,7 @@ ghost use Rattle.texts.specs.Words.{Text};
 ghost use Rattle.harness.specs.Outcomes.{Gave};
 
 use command_line::Words;
-use play::{Fault, Host, NoGate, THRESHOLDS, Thresholds, TurnGate, play_by};
+use play::{Fault, Host, NoGate, Platform, Streams, THRESHOLDS, Thresholds, TurnGate, play};
 use std::alloc::Global;
 use std::io::Read;
 
@@ -99,10 +99,17 @@ where
     let mut err = Vec::new(alloc);
     let mut kept = Vec::new(alloc);
     let mut fault = None;
-    let status = play_by(
-        rt, alloc, thresholds, gate, words, scenario, journal, &mut out, &mut err, true, &mut kept,
-        &mut fault,
-    );
+    let by = Platform {
+        rt,
+        alloc,
+        thresholds,
+        gate,
+    };
+    let mut streams = Streams {
+        out: &mut out,
+        err: &mut err,
+    };
+    let status = play(&by, words, scenario, journal, &mut streams, true, &mut kept, &mut fault);
     Outcome {
         status,
         out,

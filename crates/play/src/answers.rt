@@ -1,5 +1,6 @@
 //! What a shell prints beside the lines of its commands.
 
+use crate::program::Streams;
 use advice::{Typed, explain_typed};
 use command_line::Format;
 use lines::print_either;
@@ -54,13 +55,12 @@ impl TypedLine<'_> {
 pub(crate) fn print_fault<W: Write, E: Write>(
     typed: &TypedLine<'_>,
     fault: Fault,
-    out: &mut W,
-    err: &mut E,
+    streams: &mut Streams<'_, W, E>,
 ) {
-    let _ = out.flush();
-    let _ = refuse(fault, err);
+    let _ = streams.out.flush();
+    let _ = refuse(fault, streams.err);
     if typed.explain {
-        let _ = typed.explain(fault, err);
+        let _ = typed.explain(fault, streams.err);
     }
 }
 

@@ -16,12 +16,13 @@
 //! ```
 //!
 //! ```text
-//! let mut told = None;
-//! let status = play(&rt, alloc, &words, scenario, journal, &mut out, &mut err, &mut kept, &mut told);
+//! let by = Platform { rt: &rt, alloc, thresholds: THRESHOLDS, gate: &NoGate };
+//! let mut streams = Streams { out: &mut out, err: &mut err };
+//! let status = play(&by, &words, scenario, journal, &mut streams, true, &mut kept, &mut told);
 //! ```
 //!
-//! `kept` gets the text of the journal of a run or a shell that ended with 0. `told` is the fault for which
-//! the program stopped, so that its caller can give advice. Who wants something else of a run gives a [`Keeper`]
+//! `kept` gets the text of the journal of a run or a shell that ended with 0, if it is wanted. `told` is the fault for
+//! which the program stopped, so that its caller can give advice. Who wants something else of a run gives a [`Keeper`]
 //! to [`run_quietly`]: it gets the fabric at the end.
 //!
 //! A network is opened as a fabric, whose steps are kept, or, with `--no-journal`, as a simulation, which counts them
@@ -37,8 +38,8 @@
 //!
 //! What is tricky: a write that fails is lost, and changes nothing else, but that a shell ends at an answer which
 //! nobody reads any more. What is printed is not in these
-//! clauses, but for the texts of single lines. [`play_by`] is the same with other thresholds for threads and
-//! a gate that they call, so tests can start threads in a small network.
+//! clauses, but for the texts of single lines. With other thresholds, and a gate that threads call, tests start
+//! threads in a small network.
 //!
 //! Where there was a choice:
 //!
@@ -64,4 +65,4 @@ pub use faults::FaultKind;
 pub use interpreter::{Host, NO_THRESHOLDS, NoGate, THRESHOLDS, Thresholds, TurnGate};
 pub use keeping::Keeper;
 pub use plans::{Fault, Outcome, Plan, Source, read_bytes, read_plan, read_text, refuse};
-pub use program::{play, play_by, run_quietly};
+pub use program::{Platform, Streams, play, run_quietly};

@@ -8,6 +8,7 @@ ghost use Rattle.interpreter.specs.Nets.{counted_meaning, kept_meaning, opening_
 ghost use Rattle.play.specs.Works.{Comes, IsOfNothing, IsOfWorkers, IsWithoutAnswers, Stops, StopsWork, Works, none_kept};
 
 use crate::keeping::Keeper;
+use crate::program::{Platform, Streams};
 use crate::shell::do_lines;
 use fabric::{Fabric, FabricName, Unnamed};
 use interpreter::{
@@ -17,15 +18,14 @@ use interpreter::{
 use lines::{Ended, Line};
 use plans::{Fault, Plan};
 use script::{Command, Directory};
-use std::alloc::Global;
 use std::io::{Read, Write};
 use std::marker::Brand;
 
 /// By what a network runs whose steps are kept.
 #[derive(Clone, Copy)]
 pub struct Hands {
-    /// The threads that let the routers take their turns, where they settle.
-    pub crew: Crew,
+    /// How many threads let the routers take their turns, where they settle.
+    pub threads: u8,
     /// How many workers answer the packets that a script injects: 1 to 16.
     pub workers: u8,
 }
@@ -33,15 +33,12 @@ pub struct Hands {
 /// Opens a plan's network as a fabric, does its script, or the lines that are typed, and has kept what is to be kept
 /// of its steps.
 pub fn with_fabric<H, G, J, W, E, K, V>(
-    rt: &H,
-    alloc: Global,
+    by: &Platform<'_, H, G>,
     plan: Plan,
     hands: Hands,
-    gate: &G,
     style: PrintStyle,
     typed: Option<J>,
-    out: &mut W,
-    err: &mut E,
+    streams: &mut Streams<'_, W, E>,
     keeper: &mut K,
     kept: &mut V,
 ) -> Result<(), Fault>
@@ -58,24 +55,21 @@ where
     ensures fault { IfErr result (StopsWork opening_fabric IsOfWorkers
         (Stops kept_meaning (is_some typed)) plan) }
 {
-    let unnamed = Unnamed::many(alloc, plan.network.routers())?;
+    let unnamed = Unnamed::many(by.alloc, plan.network.routers())?;
     with_named::<Brand, H, G, J, W, E, K, V>(
-        rt, alloc, plan, unnamed, hands, gate, style, typed, out, err, keeper, kept,
+        by, plan, unnamed, hands, style, typed, streams, keeper, kept,
     )
 }
 
 // The same, where the network is opened under a name.
 fn with_named<B, H, G, J, W, E, K, V>(
-    rt: &H,
-    alloc: Global,
+    by: &Platform<'_, H, G>,
     plan: Plan,
     unnamed: Vec<Unnamed>,
     hands: Hands,
-    gate: &G,
     style: PrintStyle,
     typed: Option<J>,
-    out: &mut W,
-    err: &mut E,
+    streams: &mut Streams<'_, W, E>,
     keeper: &mut K,
     kept: &mut V,
 ) -> Result<(), Fault>
@@ -102,22 +96,26 @@ where
         commands,
     } = plan;
     let workers = hands.workers.max(1).min(16);
-    let (fabric, readers) = Fabric::<B>::open(rt, alloc, network, unnamed, workers)?;
+    let (fabric, readers) = Fabric::<B>::open(by.rt, by.alloc, network, unnamed, workers)?;
+    let crew = Crew {
+        threads: hands.threads,
+        thresholds: by.thresholds,
+    };
     let interpreter = Interpreter {
-        alloc,
-        gate,
+        alloc: by.alloc,
+        gate: by.gate,
         directory: &directory,
         style,
     };
-    match Kept::new(*rt, alloc, hands.crew, fabric, readers) {
+    match Kept::new(*by.rt, by.alloc, crew, fabric, readers) {
         Ok(net) => {
-            let (fabric, done) = finish_kept(&interpreter, net, typed, &commands, out, err);
+            let (fabric, done) = finish_kept(&interpreter, net, typed, &commands, streams);
             let ended = keep(done, &fabric, &directory, keeper, kept);
-            fabric.close(rt);
+            fabric.close(by.rt);
             ended
         }
         Err((fabric, memory)) => {
-            fabric.close(rt);
+            fabric.close(by.rt);
             Err(Fault::from(memory))
         }
     }
@@ -130,8 +128,7 @@ fn finish_kept<B, H, G, J, W, E>(
     mut net: Kept<B, H>,
     typed: Option<J>,
     commands: &[Command],
-    out: &mut W,
-    err: &mut E,
+    streams: &mut Streams<'_, W, E>,
 ) -> (Fabric<B>, Result<(), Fault>)
 where
     B: FabricName + Send + Sync + 'static,
@@ -144,7 +141,7 @@ where
     ensures fault { IfErr result.1 (λ e. Stops kept_meaning (is_some typed) commands.now net result.0 e
         ⊎ IsWithoutAnswers e) }
 {
-    let done = do_all(interpreter, &mut net, typed, commands, out, err);
+    let done = do_all(interpreter, &mut net, typed, commands, streams);
     let (fabric, answered) = net.close();
     match (done, answered) {
         (Ok(()), Err(kind)) => (fabric, Err(Fault::from(kind))),
@@ -173,21 +170,13 @@ fn keep<B: FabricName, K: Keeper, V: Write>(
 
 /// Opens a plan's network as a simulation, and does its script, or the lines that are typed. Nothing is kept of its
 /// steps. No thread is started, and the gate is not called.
-pub fn with_simulation<H, G, J, W, E>(
-    alloc: Global,
+pub fn with_simulation<H: Host, G: TurnGate + Sync, J: Read + Drop, W: Write, E: Write>(
+    by: &Platform<'_, H, G>,
     plan: Plan,
-    gate: &G,
     style: PrintStyle,
     typed: Option<J>,
-    out: &mut W,
-    err: &mut E,
+    streams: &mut Streams<'_, W, E>,
 ) -> Result<(), Fault>
-where
-    H: Host,
-    G: TurnGate + Sync,
-    J: Read + Drop,
-    W: Write,
-    E: Write,
     ensures ok { OnOk result (Works opening_counted (Comes counted_meaning (is_some typed)) none_kept plan) }
     ensures fault { IfErr result (StopsWork opening_counted IsOfNothing
         (Stops counted_meaning (is_some typed)) plan) }
@@ -197,15 +186,15 @@ where
         directory,
         commands,
     } = plan;
-    let mut net = Counted::open(alloc, network)?;
+    let mut net = Counted::open(by.alloc, network)?;
     let interpreter = Interpreter {
-        alloc,
-        gate,
+        alloc: by.alloc,
+        gate: by.gate,
         directory: &directory,
         style,
     };
     // A simulation lends no part, so any name will do.
-    do_all::<Brand, H, Counted, G, J, W, E>(&interpreter, &mut net, typed, &commands, out, err)
+    do_all::<Brand, H, Counted, G, J, W, E>(&interpreter, &mut net, typed, &commands, streams)
 }
 
 // Does the script, or the lines that are typed, and says how many steps were done.
@@ -214,8 +203,7 @@ fn do_all<B, H, N, G, J, W, E>(
     net: &mut N,
     typed: Option<J>,
     commands: &[Command],
-    out: &mut W,
-    err: &mut E,
+    streams: &mut Streams<'_, W, E>,
 ) -> Result<(), Fault>
 where
     B: FabricName + Send + Sync + 'static,
@@ -229,14 +217,14 @@ where
     ensures fault { IfErr result (Stops N.meaning (is_some typed) commands.now net.old net.new) }
 {
     match typed {
-        Some(input) => do_lines(interpreter, net, input, out, err)?,
+        Some(input) => do_lines(interpreter, net, input, streams)?,
         None => {
-            let done = do_commands(interpreter, net, commands, out, err);
-            end_line(interpreter.style.progress, err);
+            let done = do_commands(interpreter, net, commands, streams.out, streams.err);
+            end_line(interpreter.style.progress, streams.err);
             done?;
         }
     }
     let done = Ended::Done { steps: net.steps() };
-    let _ = interpreter.printer().print(&Line::Ended(done), out);
+    let _ = interpreter.printer().print(&Line::Ended(done), streams.out);
     Ok(())
 }

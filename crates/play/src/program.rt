@@ -14,7 +14,7 @@ use crate::opening::{Hands, with_fabric, with_simulation};
 use crate::replay::replay;
 use advice::Page;
 use command_line::{Format, Words};
-use interpreter::{Crew, Host, NoGate, PrintStyle, THRESHOLDS, Thresholds, TurnGate};
+use interpreter::{Host, NoGate, PrintStyle, THRESHOLDS, Thresholds, TurnGate};
 use network_model::NoMemory;
 use plans::{Fault, Outcome, Plan, read_plan, read_text, refuse};
 use std::alloc::Global;
@@ -22,106 +22,72 @@ use std::io;
 use std::io::{Empty, Read, Write};
 use timing::{TimeOptions, time};
 
+/// By what the program works.
+#[derive(Drop)]
+pub struct Platform<'a, H, G> {
+    /// The handle of its machine.
+    pub rt: &'a H,
+    pub alloc: Global,
+    /// With how many rows to publish threads are started.
+    pub thresholds: Thresholds,
+    /// What these threads call.
+    pub gate: &'a G,
+}
+
+/// Where the program prints, and where it tells of faults. What cannot be written is lost.
+#[derive(Drop)]
+pub struct Streams<'a, W, E> {
+    pub out: &'a mut W,
+    pub err: &'a mut E,
+}
+
 /// Does what the words ask for, and answers the exit status. Only a replay, a shell and a run in simulated time
 /// read `journal`: the shell reads its commands there, and the run its document of times. A fault is a line on `err`, and where the program stops for it,
 /// it is in `told`. A write to `out` or `err` that fails is lost, and changes nothing else, but that a shell
 /// ends at an answer which nobody reads. Where a run or a shell ends with status 0, its journal's text is added to
-/// `kept`. If the program stops for a fault, nothing is added.
-pub fn play<H, R, J, W, E>(
-    rt: &H,
-    alloc: Global,
+/// `kept`, if it is wanted. If the program stops for a fault, nothing is added.
+pub fn play<H: Host, G: TurnGate + Sync, R: Read + Drop, J: Read + Drop, W: Write, E: Write>(
+    by: &Platform<'_, H, G>,
     words: &Words<'_>,
     scenario: R,
     journal: J,
-    out: &mut W,
-    err: &mut E,
-    kept: &mut Vec<u8>,
-    told: &mut Option<Fault>,
-) -> u8
-where
-    H: Host,
-    R: Read + Drop,
-    J: Read + Drop,
-    W: Write,
-    E: Write,
-    ensures { ProgramOutcome true words.now (R.remaining scenario) (J.remaining journal)
-        kept.old.items kept.new.items told.old told.new result }
-{
-    play_by(
-        rt, alloc, THRESHOLDS, &NoGate, words, scenario, journal, out, err, true, kept, told,
-    )
-}
-
-/// The same, by threads that are started from these thresholds on, and call this gate. The text of a journal is
-/// made only if it is wanted.
-pub fn play_by<H, G, R, J, W, E>(
-    rt: &H,
-    alloc: Global,
-    thresholds: Thresholds,
-    gate: &G,
-    words: &Words<'_>,
-    scenario: R,
-    journal: J,
-    out: &mut W,
-    err: &mut E,
+    streams: &mut Streams<'_, W, E>,
     wanted: bool,
     kept: &mut Vec<u8>,
     told: &mut Option<Fault>,
 ) -> u8
-where
-    H: Host,
-    G: TurnGate + Sync,
-    R: Read + Drop,
-    J: Read + Drop,
-    W: Write,
-    E: Write,
     ensures { ProgramOutcome wanted words.now (R.remaining scenario) (J.remaining journal)
         kept.old.items kept.new.items told.old told.new result }
 {
-    let by = (thresholds, gate);
-    match do_words(
-        rt, alloc, by, words, scenario, journal, out, err, wanted, kept,
-    ) {
+    match do_words(by, words, scenario, journal, streams, wanted, kept) {
         Ok(end) => end.status(),
         Err(fault) => {
             // What was printed comes before the fault, also where `out` keeps it for a while.
-            let _ = out.flush();
+            let _ = streams.out.flush();
             *told = Some(fault);
-            refuse(fault, err)
+            refuse(fault, streams.err)
         }
     }
 }
 
 // Does what the words ask for.
-fn do_words<H, G, R, J, W, E>(
-    rt: &H,
-    alloc: Global,
-    by: (Thresholds, &G),
+fn do_words<H: Host, G: TurnGate + Sync, R: Read + Drop, J: Read + Drop, W: Write, E: Write>(
+    by: &Platform<'_, H, G>,
     words: &Words<'_>,
     scenario: R,
     journal: J,
-    out: &mut W,
-    err: &mut E,
+    streams: &mut Streams<'_, W, E>,
     wanted: bool,
     kept: &mut Vec<u8>,
 ) -> Result<Outcome, Fault>
-where
-    H: Host,
-    G: TurnGate + Sync,
-    R: Read + Drop,
-    J: Read + Drop,
-    W: Write,
-    E: Write,
     ensures ok { IfOk result
         (Ends wanted words.now (R.remaining scenario)
         (J.remaining journal) kept.old.items kept.new.items) }
     ensures fault { IfErr result (StopsWords words.now (R.remaining scenario) (J.remaining journal)) }
     ensures kept { OnErr result (kept.new.items ≡ kept.old.items) }
 {
-    let (thresholds, gate) = by;
-    let by = (rt, alloc, gate);
     match *words {
-        Words::Check { .. } => check(alloc, scenario, out),
+        Words::Check { .. } => check(by.alloc, scenario, streams.out),
         Words::Run {
             threads,
             workers,
@@ -138,24 +104,10 @@ where
                 progress,
             };
             if no_journal {
-                return count(by, scenario, style, None::<J>, out, err);
+                return count(by, scenario, style, None::<J>, streams);
             }
-            let crew = Crew {
-                threads,
-                thresholds,
-            };
-            let hands = Hands { crew, workers };
-            keep(
-                by,
-                scenario,
-                hands,
-                wanted,
-                style,
-                None::<J>,
-                out,
-                err,
-                kept,
-            )
+            let hands = Hands { threads, workers };
+            keep(by, scenario, hands, wanted, style, None::<J>, streams, kept)
         }
         Words::Replay {
             explain,
@@ -169,14 +121,14 @@ where
                 format,
                 progress,
             };
-            replay(alloc, scenario, journal, style, out, err)
+            replay(by.alloc, scenario, journal, style, streams)
         }
         Words::Time { spells, format, .. } => {
             let options = TimeOptions { format, spells };
-            time(alloc, scenario, journal, options, out)
+            time(by.alloc, scenario, journal, options, streams.out)
         }
         Words::Explain { kind } => {
-            let _ = write!(out, "{}", Page(kind));
+            let _ = write!(streams.out, "{}", Page(kind));
             Ok(Outcome::Done)
         }
         Words::Shell {
@@ -191,40 +143,31 @@ where
                 format,
                 progress: false,
             };
-            if no_journal {
-                return count(by, scenario, style, Some(journal), out, err);
-            }
-            let crew = Crew {
-                threads: 1,
-                thresholds,
-            };
-            let hands = Hands { crew, workers: 1 };
             let typed = Some(journal);
-            keep(by, scenario, hands, wanted, style, typed, out, err, kept)
+            if no_journal {
+                return count(by, scenario, style, typed, streams);
+            }
+            let hands = Hands {
+                threads: 1,
+                workers: 1,
+            };
+            keep(by, scenario, hands, wanted, style, typed, streams, kept)
         }
     }
 }
 
 // Does the script of a scenario, or the lines that are typed, on a network whose steps are kept, and adds the text of
 // its journal, if it is wanted.
-fn keep<H, G, R, J, W, E>(
-    by: (&H, Global, &G),
+fn keep<H: Host, G: TurnGate + Sync, R: Read + Drop, J: Read + Drop, W: Write, E: Write>(
+    by: &Platform<'_, H, G>,
     scenario: R,
     hands: Hands,
     wanted: bool,
     style: PrintStyle,
     typed: Option<J>,
-    out: &mut W,
-    err: &mut E,
+    streams: &mut Streams<'_, W, E>,
     kept: &mut Vec<u8>,
 ) -> Result<Outcome, Fault>
-where
-    H: Host,
-    G: TurnGate + Sync,
-    R: Read + Drop,
-    J: Read + Drop,
-    W: Write,
-    E: Write,
     ensures ok { IfOk result (λ end. (end ≡ Outcome.Done) × OfBytes (R.remaining scenario)
         (IsWorked opening_fabric (Comes kept_meaning (is_some typed))
         (λ d f. KeepsJournal wanted d f (Some kept.old.items) (Some kept.new.items)))) }
@@ -232,24 +175,11 @@ where
         StopsOn opening_fabric IsOfWorkers (Stops kept_meaning (is_some typed)) bytes e)) }
     ensures kept { OnErr result (kept.new.items ≡ kept.old.items) }
 {
-    let (rt, alloc, gate) = by;
-    let text = read_text(alloc, scenario)?;
-    let plan = read_plan(alloc, text.as_str())?;
+    let text = read_text(by.alloc, scenario)?;
+    let plan = read_plan(by.alloc, text.as_str())?;
     let mut keeper = JournalText { wanted };
-    let mut made = Vec::new(alloc);
-    with_fabric(
-        rt,
-        alloc,
-        plan,
-        hands,
-        gate,
-        style,
-        typed,
-        out,
-        err,
-        &mut keeper,
-        &mut made,
-    )?;
+    let mut made = Vec::new(by.alloc);
+    with_fabric(by, plan, hands, style, typed, streams, &mut keeper, &mut made)?;
     add(kept, made)?;
     Ok(Outcome::Done)
 }
@@ -268,54 +198,47 @@ fn add(kept: &mut Vec<u8>, mut made: Vec<u8>) -> Result<(), NoMemory>
 }
 
 // The same on a network whose steps are counted. Nothing is kept.
-fn count<H, G, R, J, W, E>(
-    by: (&H, Global, &G),
+fn count<H: Host, G: TurnGate + Sync, R: Read + Drop, J: Read + Drop, W: Write, E: Write>(
+    by: &Platform<'_, H, G>,
     scenario: R,
     style: PrintStyle,
     typed: Option<J>,
-    out: &mut W,
-    err: &mut E,
+    streams: &mut Streams<'_, W, E>,
 ) -> Result<Outcome, Fault>
-where
-    H: Host,
-    G: TurnGate + Sync,
-    R: Read + Drop,
-    J: Read + Drop,
-    W: Write,
-    E: Write,
     ensures ok { IfOk result (λ end. (end ≡ Outcome.Done) × OfBytes (R.remaining scenario)
         (IsWorked opening_counted (Comes counted_meaning (is_some typed)) none_kept)) }
     ensures fault { IfErr result (λ e. OfBytes (R.remaining scenario) (λ bytes.
         StopsOn opening_counted IsOfNothing (Stops counted_meaning (is_some typed)) bytes e)) }
 {
-    let (_, alloc, gate) = by;
-    let text = read_text(alloc, scenario)?;
-    let plan = read_plan(alloc, text.as_str())?;
-    with_simulation::<H, G, J, W, E>(alloc, plan, gate, style, typed, out, err)?;
+    let text = read_text(by.alloc, scenario)?;
+    let plan = read_plan(by.alloc, text.as_str())?;
+    with_simulation::<H, G, J, W, E>(by, plan, style, typed, streams)?;
     Ok(Outcome::Done)
 }
 
 /// Does the script of a plan by one thread and one worker, and has kept what is to be kept of the run. What the
 /// script prints is lost, and nothing is told of how far it is.
-pub fn run_quietly<H, K, V>(
+pub fn run_quietly<H: Host, K: Keeper, V: Write>(
     rt: &H,
     alloc: Global,
     plan: Plan,
     keeper: &mut K,
     kept: &mut V,
 ) -> Result<(), Fault>
-where
-    H: Host,
-    K: Keeper,
-    V: Write,
     ensures ok { OnOk result (Works opening_fabric (Comes kept_meaning false)
         (λ d f. K.keeps keeper.old d f (V.contents kept.old) (V.contents kept.new) keeper.new) plan) }
     ensures fault { IfErr result
         (StopsWork opening_fabric IsOfWorkers (Stops kept_meaning false) plan) }
 {
-    let crew = Crew {
-        threads: 1,
+    let by = Platform {
+        rt,
+        alloc,
         thresholds: THRESHOLDS,
+        gate: &NoGate,
+    };
+    let hands = Hands {
+        threads: 1,
+        workers: 1,
     };
     let style = PrintStyle {
         explain: false,
@@ -328,17 +251,9 @@ where
     // Of the type that the program's own writers have, so that no command is compiled once more.
     let mut out: &mut dyn Write = &mut out;
     let mut err: &mut dyn Write = &mut err;
-    with_fabric(
-        rt,
-        alloc,
-        plan,
-        Hands { crew, workers: 1 },
-        &NoGate,
-        style,
-        None::<Empty>,
-        &mut out,
-        &mut err,
-        keeper,
-        kept,
-    )
+    let mut streams = Streams {
+        out: &mut out,
+        err: &mut err,
+    };
+    with_fabric(&by, plan, hands, style, None::<Empty>, &mut streams, keeper, kept)
 }

@@ -9,6 +9,7 @@ ghost use Rattle.network_model.specs.Step.{Lawful};
 ghost use Rattle.interpreter.specs.Nets.{counted_after};
 ghost use Rattle.play.specs.Replays.{Replays, StepsReplay, StopsReplay, replay_refusal};
 
+use crate::program::Streams;
 use advice::Brief;
 use command_line::Format;
 use fabric::MOST_STEPS;
@@ -30,19 +31,13 @@ const SLICE: usize = 4096;
 /// Does the steps of a journal from the opening of its scenario's network, and compares the report of
 /// what they made with the journal's, but for a journal of the first version. Both files are read whole
 /// before the first step is done. What is told besides goes to `err`.
-pub fn replay<R, J, W, E>(
+pub fn replay<R: Read + Drop, J: Read + Drop, W: Write, E: Write>(
     alloc: Global,
     scenario: R,
     journal: J,
     style: PrintStyle,
-    out: &mut W,
-    err: &mut E,
+    streams: &mut Streams<'_, W, E>,
 ) -> Result<Outcome, Fault>
-where
-    R: Read + Drop,
-    J: Read + Drop,
-    W: Write,
-    E: Write,
     ensures ok { IfOk result (λ end. OfBytes (R.remaining scenario) (λ bytes.
         OfBytes (J.remaining journal) (λ lines. Replays bytes lines end))) }
     ensures fault { IfErr result (λ e. OfBytes (R.remaining scenario) (λ bytes.
@@ -65,7 +60,7 @@ where
         directory: &plan.directory,
         style,
     };
-    let end = do_journal(&interpreter, &mut live, &journal, out, err)?;
+    let end = do_journal(&interpreter, &mut live, &journal, streams)?;
     Ok(end)
 }
 
@@ -74,24 +69,23 @@ fn do_journal<W: Write, E: Write>(
     interpreter: &Interpreter<'_, NoGate>,
     live: &mut Counted,
     journal: &Journal<'_>,
-    out: &mut W,
-    err: &mut E,
+    streams: &mut Streams<'_, W, E>,
 ) -> Result<Outcome, Fault>
     requires { (live.old).simulation.steps ≡ 0 }
     ensures ok { IfOk result (StepsReplay journal.now.version journal.now.steps.items
         (live.old).simulation.world (live.new).simulation.world) }
     ensures fault { IfErr result IsWantOfMemory }
 {
-    let ran = do_steps(live, &journal.steps, interpreter.style.progress, err);
-    end_line(interpreter.style.progress, err);
+    let ran = do_steps(live, &journal.steps, interpreter.style.progress, streams.err);
+    end_line(interpreter.style.progress, streams.err);
     let printer = interpreter.printer();
     if let Some(refusal) = ran.refusal {
         let step = ran.done + 1;
         let fault = FaultKind::from(refusal);
         let refused = Ended::Refused { step, fault };
-        let _ = printer.print(&Line::Ended(refused), out);
+        let _ = printer.print(&Line::Ended(refused), streams.out);
         if interpreter.style.explain {
-            let _ = out.flush();
+            let _ = streams.out.flush();
             let links = live.network().links();
             let _ = explain_refusal(
                 interpreter.directory,
@@ -99,7 +93,7 @@ fn do_journal<W: Write, E: Write>(
                 journal,
                 ran.done,
                 refusal,
-                err,
+                streams.err,
             );
         }
         return Ok(Outcome::Refused);
@@ -107,10 +101,10 @@ fn do_journal<W: Write, E: Write>(
     match journal.version {
         Version::One => {
             let done = Ended::StepsDone { steps: ran.done };
-            let _ = printer.print(&Line::Ended(done), out);
+            let _ = printer.print(&Line::Ended(done), streams.out);
             Ok(Outcome::Done)
         }
-        Version::Two => compare(interpreter, live.world(), journal, out, err),
+        Version::Two => compare(interpreter, live.world(), journal, streams),
     }
 }
 
@@ -185,8 +179,7 @@ fn compare<W: Write, E: Write>(
     interpreter: &Interpreter<'_, NoGate>,
     world: &World,
     journal: &Journal<'_>,
-    out: &mut W,
-    err: &mut E,
+    streams: &mut Streams<'_, W, E>,
 ) -> Result<Outcome, Fault>
     ensures end { IfOk result (λ end. (end ≡ Outcome.Done) ⊎ (end ≡ Outcome.Differs)) }
     ensures fault { IfErr result IsWantOfMemory }
@@ -203,17 +196,17 @@ fn compare<W: Write, E: Write>(
     match first_difference(&printed, journal.report) {
         Some(line) => {
             let differs = Ended::Differs { line };
-            let _ = printer.print(&Line::Ended(differs), out);
+            let _ = printer.print(&Line::Ended(differs), streams.out);
             if interpreter.style.explain {
-                let _ = out.flush();
-                let _ = explain_difference(line, journal.report, &printed, err);
+                let _ = streams.out.flush();
+                let _ = explain_difference(line, journal.report, &printed, streams.err);
             }
             Ok(Outcome::Differs)
         }
         None => {
             let steps = journal.steps.len();
             let agrees = Ended::Agrees { steps };
-            let _ = printer.print(&Line::Ended(agrees), out);
+            let _ = printer.print(&Line::Ended(agrees), streams.out);
             Ok(Outcome::Done)
         }
     }

@@ -4,6 +4,7 @@ ghost use Rattle.std.specs.Prelude.{IfErr};
 ghost use Rattle.play.specs.Works.{CannotReadOn, WereTried};
 
 use crate::answers::{Listed, TypedLine, begin_answer, end_answer, print_fault, print_text};
+use crate::program::Streams;
 use command_line::{Format, SHELL_COMMANDS};
 use fabric::FabricName;
 use faults::FaultKind;
@@ -19,8 +20,7 @@ pub fn do_lines<B, H, N, G, J, W, E>(
     interpreter: &Interpreter<'_, G>,
     net: &mut N,
     input: J,
-    out: &mut W,
-    err: &mut E,
+    streams: &mut Streams<'_, W, E>,
 ) -> Result<(), Fault>
 where
     B: FabricName + Send + Sync + 'static,
@@ -43,7 +43,7 @@ where
         number = number.saturating_add(1);
         match line {
             Ok(line) => {
-                if !do_line(interpreter, net, number, &line, out, err) {
+                if !do_line(interpreter, net, number, &line, streams) {
                     return Ok(());
                 }
             }
@@ -60,8 +60,7 @@ fn do_line<B, H, N, G, W, E>(
     net: &mut N,
     number: usize,
     line: &[u8],
-    out: &mut W,
-    err: &mut E,
+    streams: &mut Streams<'_, W, E>,
 ) -> bool
 where
     B: FabricName + Send + Sync + 'static,
@@ -73,7 +72,7 @@ where
     ensures { WereTried N.meaning net.old net.new }
 {
     let line = line.strip_suffix(b"\r").unwrap_or(line);
-    let done = answer_line(interpreter, net, number, line, out);
+    let done = answer_line(interpreter, net, number, line, streams.out);
     let (goes_on, fault) = match done {
         Ok(goes_on) => (goes_on, None),
         Err(kind) => (true, Some(Fault::from(kind))),
@@ -87,13 +86,13 @@ where
         line,
     };
     match (interpreter.style.format, fault) {
-        (Format::Text, Some(fault)) => print_fault(&typed, fault, out, err),
+        (Format::Text, Some(fault)) => print_fault(&typed, fault, streams),
         (Format::Text, None) => {}
         (Format::Json, fault) => {
-            let _ = end_answer(&typed, fault, net.steps(), out);
+            let _ = end_answer(&typed, fault, net.steps(), streams.out);
         }
     }
-    match out.flush() {
+    match streams.out.flush() {
         Err(error) if error.kind() == ErrorKind::BrokenPipe => false,
         _ => goes_on,
     }

@@ -3,7 +3,7 @@
 use crate::commands::{BROKEN, CHECK, File, MISSING, REPLAY, RUN, SHELL, TIME, tells};
 use crate::equal_to::equal;
 use command_line::{exit_status, not_utf8};
-use play::{Host, play};
+use play::{Host, NoGate, Platform, Streams, THRESHOLDS, play};
 use program_files::is_one_file;
 use std::alloc::Global;
 use std::io::{self, Write};
@@ -83,17 +83,19 @@ impl Write for Closed {
 // A run whose output is lost ends with this status, and this is kept behind a line that was kept before.
 fn loses<H: Host + Abort>(rt: &H, alloc: Global, scenario: &[u8], status: u8, wanted: &str) {
     let mut kept = vec![in alloc; b'k', b'\n'].expect(rt, "memory");
-    let ended = play(
+    let by = Platform {
         rt,
         alloc,
-        &RUN,
-        File::Holds(scenario),
-        MISSING,
-        &mut Closed,
-        &mut Closed,
-        &mut kept,
-        &mut None,
-    );
+        thresholds: THRESHOLDS,
+        gate: &NoGate,
+    };
+    let (mut out, mut err) = (Closed, Closed);
+    let mut streams = Streams {
+        out: &mut out,
+        err: &mut err,
+    };
+    let scenario = File::Holds(scenario);
+    let ended = play(&by, &RUN, scenario, MISSING, &mut streams, true, &mut kept, &mut None);
     equal(rt, ended, status);
     equal(rt, kept.as_slice(), wanted.as_bytes());
 }

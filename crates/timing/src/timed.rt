@@ -32,17 +32,13 @@ pub struct TimeOptions {
 /// Reads a scenario and a document of times, runs the network until it is at rest, and tells what came of each
 /// change. Both are read whole before the first event is done, and the scenario's script is not done. A write
 /// that fails is lost.
-pub fn time<R, J, W>(
+pub fn time<R: Read + Drop, J: Read + Drop, W: Write>(
     alloc: Global,
     scenario: R,
     times: J,
     options: TimeOptions,
     out: &mut W,
 ) -> Result<Outcome, Fault>
-where
-    R: Read + Drop,
-    J: Read + Drop,
-    W: Write,
     ensures ok { IfOk result (λ end. (end ≡ Outcome.Done) × OfBytes (R.remaining scenario) (λ bytes.
         OfBytes (J.remaining times) (IsTimedToEnd bytes))) }
     ensures fault { IfErr result (λ e. OfBytes (R.remaining scenario) (λ bytes.

@@ -33,7 +33,7 @@ use world::{Network, Ran};
 /// of which a line on `err` tells, and the states before it are written; a fault is a line on `err`, and its
 /// status that of `dualnet`. `other` is the journal or the document of times that the words name. If they name
 /// neither, the scenario's script is run, and what it prints is lost.
-pub fn show<H, R, J, W, E>(
+pub fn show<H: Host, R: Read + Drop, J: Read + Drop, W: Write, E: Write>(
     rt: &H,
     alloc: Global,
     words: &ViewWords<'_>,
@@ -42,12 +42,6 @@ pub fn show<H, R, J, W, E>(
     out: &mut W,
     err: &mut E,
 ) -> u8
-where
-    H: Host,
-    R: Read + Drop,
-    J: Read + Drop,
-    W: Write,
-    E: Write,
     ensures { result ≡ 0 → OfBytes (R.remaining scenario) (IsShown (is_some words.now.journal)
         (is_some words.now.times) words.now.json (J.remaining other) (W.contents out.old) (W.contents out.new)) }
 {
