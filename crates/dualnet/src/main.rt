@@ -40,7 +40,7 @@ use play::{
 };
 use program_files::{
     Input, exit_code, explain_unreadable, given_words, is_input, is_one_file, kept_path, open_file,
-    print_error, replayed_path, scenario_path, times_path,
+    print_error, scenario_path, second_path,
 };
 use std::io::{BufWriter, IsTerminal, LineWriter, Read, Write};
 use std::process::ExitCode;
@@ -159,7 +159,10 @@ fn explain_fault(
 // status.
 fn keep_journal(rt: &HostRuntime, words: &Words<'_>, status: u8, journal: &[u8]) -> u8 {
     match kept_path(words) {
-        Some(path) if status == 0 => write_journal(rt, words, path, journal),
+        Some(path) if status == 0 => match fs::write(rt, path, journal) {
+            Ok(()) => 0,
+            Err(error) => refuse_journal(rt, words, path, error),
+        },
         _ => status,
     }
 }
@@ -185,18 +188,7 @@ fn second_input(rt: &HostRuntime, words: &Words<'_>) -> Source<Input> {
 
 // Whether the scenario is read from the standard input. Then no other file can be, because it is read once.
 fn is_scenario_from_input(words: &Words<'_>) -> bool {
-    match scenario_path(words) {
-        Some(path) => path == "-",
-        None => false,
-    }
-}
-
-// The file that is read beside the scenario.
-fn second_path<'a>(words: &Words<'a>) -> Option<&'a str> {
-    match times_path(words) {
-        Some(path) => Some(path),
-        None => replayed_path(words),
-    }
+    scenario_path(words) == Some("-")
 }
 
 // Tells why the files that are read cannot be read.
@@ -221,14 +213,6 @@ fn unwritable_path<'a>(rt: &HostRuntime, words: &Words<'a>) -> Option<&'a str> {
         || is_one_file(rt, scenario, journal)
         || (reads_input(words) && is_input(rt, journal));
     if is_in_use { Some(journal) } else { None }
-}
-
-// Writes a journal, and answers the exit status.
-fn write_journal(rt: &HostRuntime, words: &Words<'_>, path: &str, journal: &[u8]) -> u8 {
-    match fs::write(rt, path, journal) {
-        Ok(()) => 0,
-        Err(error) => refuse_journal(rt, words, path, error),
-    }
 }
 
 // Tells that the journal cannot be written there and, if that is asked for, why; and answers the exit status.

@@ -13,15 +13,11 @@ scenario_of (Time file times spells explain format) = Some file
 scenario_of (Explain kind) = None
 scenario_of (Shell file journal no_journal explain format) = Some file
 
--- the journal that is read: a replay's
-abbrev pub read_journal : Words → Option (Bor (List ℕ))
-read_journal (Replay file journal explain format progress) = Some journal
-read_journal _ = None
-
--- the document of times
-abbrev pub read_times : Words → Option (Bor (List ℕ))
-read_times (Time file times spells explain format) = Some times
-read_times _ = None
+-- the file that is read beside it: the journal of a replay, or the document of times
+abbrev pub read_beside : Words → Option (Bor (List ℕ))
+read_beside (Replay file journal explain format progress) = Some journal
+read_beside (Time file times spells explain format) = Some times
+read_beside _ = None
 
 -- the journal that is written: that of a run or a shell, where it names one
 abbrev pub kept_journal : Words → Option (Bor (List ℕ))

@@ -11,8 +11,8 @@
 //! exit_code(&rt, status)                           // the end of `main`
 //! ```
 //!
-//! - `scenario_path`, `replayed_path`, `times_path` and `kept_path` say which file is which: the scenario, the
-//!   journal that is read, the document of times, and the journal that is written. [`is_read`] says so for `dualnet-view`.
+//! - `scenario_path`, `second_path` and `kept_path` say which file is which: the scenario, the journal or the document
+//!   of times that is read beside it, and the journal that is written. [`is_read`] says so for `dualnet-view`.
 //! - [`open_file`] never fails. A file that cannot be opened is `Source::Missing`, of which each read fails,
 //!   so `plans` finds that it is unreadable, as it finds all other faults of a scenario.
 //! - [`explain_unreadable`] says why, in the system's words.
@@ -33,4 +33,4 @@ mod paths;
 
 pub use files::{Input, explain_unreadable, is_input, is_one_file, open_file};
 pub use given::{exit_code, given_words, print_error};
-pub use paths::{is_read, kept_path, replayed_path, scenario_path, times_path};
+pub use paths::{is_read, kept_path, scenario_path, second_path};

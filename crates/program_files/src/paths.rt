@@ -1,7 +1,7 @@
 //! The files that a command line names.
 
 ghost use Rattle.std.specs.Prelude.{◌≡◌, IfSome, true};
-ghost use Rattle.program_files.specs.Paths.{scenario_of, read_journal, read_times, kept_journal};
+ghost use Rattle.program_files.specs.Paths.{scenario_of, read_beside, kept_journal};
 
 use crate::files::is_one_file;
 use command_line::{ViewWords, Words};
@@ -20,21 +20,12 @@ pub fn scenario_path<'a>(words: &Words<'a>) -> Option<&'a str>
     }
 }
 
-/// The file of the journal that is to be replayed.
-pub fn replayed_path<'a>(words: &Words<'a>) -> Option<&'a str>
-    ensures { result ≡ read_journal words.now }
+/// The file that is read beside the scenario: the journal that is to be replayed, or the document of times.
+pub fn second_path<'a>(words: &Words<'a>) -> Option<&'a str>
+    ensures { result ≡ read_beside words.now }
 {
     match *words {
         Words::Replay { journal, .. } => Some(journal),
-        _ => None,
-    }
-}
-
-/// The file of the document of times.
-pub fn times_path<'a>(words: &Words<'a>) -> Option<&'a str>
-    ensures { result ≡ read_times words.now }
-{
-    match *words {
         Words::Time { times, .. } => Some(times),
         _ => None,
     }
