@@ -20,7 +20,8 @@ use fabric::{Fabric, FabricName};
 use journal::read_journal;
 use network_model::{NoMemory, Step};
 use play::{
-    Fault, FaultKind, Host, Keeper, Plan, read_bytes, read_plan, read_text, refuse, run_quietly,
+    Fault, FaultKind, Host, Keeper, Outcome, Plan, read_bytes, read_plan, read_text, refuse,
+    run_quietly,
 };
 use run_states::{StatesFault, run_from_opening, write_states};
 use script::Directory;
@@ -45,86 +46,49 @@ pub fn show<H: Host, R: Read + Drop, J: Read + Drop, W: Write, E: Write>(
     ensures { result ≡ 0 → OfBytes (R.remaining scenario) (IsShown (is_some words.now.journal)
         (is_some words.now.times) words.now.json (J.remaining other) (W.contents out.old) (W.contents out.new)) }
 {
-    let text = match read_text(alloc, scenario) {
-        Ok(text) => text,
-        Err(kind) => return refuse(Fault::from(kind), err),
-    };
-    if words.journal.is_some() {
-        return end_journal(alloc, words.json, text.as_str(), other, out, err);
-    }
-    if words.times.is_some() {
-        return end_times(alloc, words.json, text.as_str(), other, out, err);
-    }
-    end_script(rt, alloc, words.json, text.as_str(), out, err)
-}
-
-// Writes the states of the steps that a journal says, and answers the exit status.
-fn end_journal<J: Read + Drop, W: Write, E: Write>(
-    alloc: Global,
-    json: bool,
-    text: &str,
-    journal: J,
-    out: &mut W,
-    err: &mut E,
-) -> u8
-    requires { length text.now ≤ most_bytes }
-    ensures { result ≡ 0 → (lines : Text) × Gives (J.remaining journal) lines
-        × IsJournalShown json text.now lines (W.contents out.old) (W.contents out.new) }
-{
-    match show_journal(alloc, json, text, journal, out) {
-        Ok(ran) => print_refusal(ran, err),
+    match show_given(rt, alloc, words, scenario, other, out, err) {
+        Ok(end) => end.status(),
         Err(fault) => refuse(fault, err),
     }
 }
 
-// Writes the states of a run in simulated time, and answers the exit status.
-fn end_times<J: Read + Drop, W: Write, E: Write>(
-    alloc: Global,
-    json: bool,
-    text: &str,
-    times: J,
-    out: &mut W,
-    err: &mut E,
-) -> u8
-    requires { length text.now ≤ most_bytes }
-    ensures { result ≡ 0 → (lines : Text) × Gives (J.remaining times) lines
-        × IsTimesShown json text.now lines (W.contents out.old) (W.contents out.new) }
-{
-    match show_times(alloc, json, text, times, out) {
-        Ok(()) => 0,
-        Err(fault) => refuse(fault, err),
-    }
-}
-
-// Does the script of a scenario, writes the states of its steps, and answers the exit status.
-fn end_script<H: Host, W: Write, E: Write>(
+// Writes the states of the run that the words name.
+fn show_given<H: Host, R: Read + Drop, J: Read + Drop, W: Write, E: Write>(
     rt: &H,
     alloc: Global,
-    json: bool,
-    text: &str,
+    words: &ViewWords<'_>,
+    scenario: R,
+    other: J,
     out: &mut W,
     err: &mut E,
-) -> u8
-    requires { length text.now ≤ most_bytes }
-    ensures { result ≡ 0 → IsRunToEnd
-        (λ d f. IsRunShown json d f (W.contents out.old) (W.contents out.new)) text.now }
+) -> Result<Outcome, Fault>
+    ensures { IfOk result (λ end. end ≡ Outcome.Done → OfBytes (R.remaining scenario) (IsShown (is_some words.now.journal)
+        (is_some words.now.times) words.now.json (J.remaining other) (W.contents out.old) (W.contents out.new))) }
 {
-    match show_script(rt, alloc, json, text, out) {
-        Ok(()) => 0,
-        Err(fault) => refuse(fault, err),
+    let text = read_text(alloc, scenario)?;
+    let text = text.as_str();
+    if words.journal.is_some() {
+        return show_journal(alloc, words.json, text, other, out, err);
     }
+    if words.times.is_some() {
+        show_times(alloc, words.json, text, other, out)?;
+        return Ok(Outcome::Done);
+    }
+    show_script(rt, alloc, words.json, text, out)?;
+    Ok(Outcome::Done)
 }
 
-// Writes the states of the steps that a journal says, up to the first that is refused.
-fn show_journal<J: Read + Drop, W: Write>(
+// Writes the states of the steps that a journal says, up to the first that is refused, of which a line on `err` tells.
+fn show_journal<J: Read + Drop, W: Write, E: Write>(
     alloc: Global,
     json: bool,
     text: &str,
     journal: J,
     out: &mut W,
-) -> Result<Ran, Fault>
+    err: &mut E,
+) -> Result<Outcome, Fault>
     requires { length text.now ≤ most_bytes }
-    ensures { IfOk result (λ ran. ran.refusal ≡ None → (lines : Text) × Gives (J.remaining journal) lines
+    ensures { IfOk result (λ end. end ≡ Outcome.Done → (lines : Text) × Gives (J.remaining journal) lines
         × IsJournalShown json text.now lines (W.contents out.old) (W.contents out.new)) }
 {
     let lines = read_bytes(alloc, journal)?;
@@ -143,9 +107,21 @@ fn show_journal<J: Read + Drop, W: Write>(
     let ran = run_from_opening(alloc, &network, &journal.steps)?;
     let lawful = &journal.steps[..ran.done];
     match write_steps(alloc, json, &network, &directory, lawful, &[], out) {
-        Ok(()) => Ok(ran),
+        Ok(()) => Ok(end_of(ran, err)),
         Err(fault) => Err(fault_of(fault)),
     }
+}
+
+// How a run of a journal's steps ended. If one was refused, it is told.
+fn end_of<E: Write>(ran: Ran, err: &mut E) -> Outcome
+    ensures { result ≡ Outcome.Done → ran.refusal ≡ None }
+{
+    let Some(refusal) = ran.refusal else {
+        return Outcome::Done;
+    };
+    let step = ran.done.saturating_add(1);
+    let _ = writeln!(err, "dualnet: step {step} refused: {refusal}");
+    Outcome::Refused
 }
 
 // Runs the network of a scenario in simulated time, as a document of times says, and writes the states of its steps.
@@ -353,21 +329,4 @@ fn states_of_page(
         &mut states,
     )?;
     Ok(states)
-}
-
-// Tells of a step that was refused, and answers the exit status.
-fn print_refusal<E: Write>(ran: Ran, err: &mut E) -> u8
-    ensures { result ≡ 0 → ran.refusal ≡ None }
-{
-    match ran.refusal {
-        Some(refusal) => {
-            let _ = writeln!(
-                err,
-                "dualnet: step {} refused: {refusal}",
-                ran.done.saturating_add(1)
-            );
-            2
-        }
-        None => 0,
-    }
 }

@@ -6,7 +6,8 @@ use Rattle.view.proofs.Written.{CameTo, shown_whole}
 use Rattle.view.proofs.view.show_journal.Goals as goal
 
 pub returns-in-Ok : goal.returns-in-Ok
-returns-in-Ok g c = λ none.
+returns-in-Ok g c = λ done.
+    let none = c.end_of.ensures done in
     let plan = c.in_ok-network.field-0 in
     let text = c.args.text.now in
     let lines = c.in_ok-lines.lines.items in
