@@ -13,7 +13,7 @@
 //!
 //! ```text
 //! explain(alloc, &words, fault, &scenario, &beside, &mut err)?;      // beside: a journal, or a document of times
-//! explain_typed(alloc, &typed, &mut err)?;                           // a line that was typed into a shell
+//! explain_typed(alloc, &typed, kind, &mut err)?;                     // a line that was typed into a shell
 //! ```
 //!
 //! - [`explain`] finds the line in the file (`src/position.rt`), and reads it again to see what is wrong

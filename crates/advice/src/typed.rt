@@ -10,7 +10,7 @@ use std::alloc::Global;
 use std::io;
 use std::io::Write;
 
-/// A line that was typed into a shell, and its fault.
+/// A line that was typed into a shell.
 #[derive(Clone, Copy)]
 pub struct Typed<'a> {
     pub names: &'a Names,
@@ -19,17 +19,20 @@ pub struct Typed<'a> {
     pub number: usize,
     /// Its bytes, which need not be UTF-8.
     pub line: &'a [u8],
-    pub kind: FaultKind,
 }
 
-/// Tells of a line that was typed what is wrong with it, when the fault comes, and what to do.
-pub fn explain_typed<W: Write>(alloc: Global, typed: &Typed<'_>, out: &mut W) -> io::Result<()> {
+/// Tells of a line that was typed what is wrong with it, when this fault comes, and what to do.
+pub fn explain_typed<W: Write>(
+    alloc: Global,
+    typed: &Typed<'_>,
+    kind: FaultKind,
+    out: &mut W,
+) -> io::Result<()> {
     let number = typed.number;
     match str::from_utf8(typed.line) {
         Ok(line) => {
             writeln!(out, "  line {number}: {}", shown(line))?;
-            let is_command = matches!(typed.kind, FaultKind::BadCommand | FaultKind::BadCost);
-            if is_command {
+            if matches!(kind, FaultKind::BadCommand | FaultKind::BadCost) {
                 let why = match why_not_of_shell(line) {
                     Some(why) => why,
                     None => why_no_command(alloc, typed.names, typed.links, line)?,
@@ -39,5 +42,5 @@ pub fn explain_typed<W: Write>(alloc: Global, typed: &Typed<'_>, out: &mut W) ->
         }
         Err(_) => writeln!(out, "  line {number} is not UTF-8")?,
     }
-    write!(out, "{}", Brief(typed.kind))
+    write!(out, "{}", Brief(kind))
 }

@@ -3,11 +3,10 @@
 use crate::program::Streams;
 use advice::{Typed, explain_typed};
 use command_line::Format;
+use faults::FaultKind;
+use interpreter::Interpreter;
 use lines::print_either;
-use network_model::LinkSpec;
 use plans::{Fault, refuse};
-use script::Names;
-use std::alloc::Global;
 use std::io::Write;
 use std::{fmt, io};
 
@@ -23,44 +22,18 @@ pub(crate) fn print_text<W: Write>(
     print_either(format, text, json, out)
 }
 
-/// A line that was typed, and how it is told of where it is not done.
-#[derive(Clone, Copy)]
-pub(crate) struct TypedLine<'a> {
-    pub alloc: Global,
-    pub names: &'a Names,
-    pub links: &'a [LinkSpec],
-    /// Whether more is told of a fault.
-    pub explain: bool,
-    /// Its number, from 1.
-    pub number: usize,
-    pub line: &'a [u8],
-}
-
-impl TypedLine<'_> {
-    // Tells more of the fault of the line.
-    fn explain<W: Write>(&self, fault: Fault, out: &mut W) -> io::Result<()> {
-        let typed = Typed {
-            names: self.names,
-            links: self.links,
-            number: self.number,
-            line: self.line,
-            kind: fault.kind,
-        };
-        explain_typed(self.alloc, &typed, out)
-    }
-}
-
 /// Tells on `err` why a line was not done, after all that was printed before, and more where that is asked
 /// for. A write that fails is lost.
-pub(crate) fn print_fault<W: Write, E: Write>(
-    typed: &TypedLine<'_>,
-    fault: Fault,
+pub(crate) fn print_fault<G, W: Write, E: Write>(
+    interpreter: &Interpreter<'_, G>,
+    typed: &Typed<'_>,
+    kind: FaultKind,
     streams: &mut Streams<'_, W, E>,
 ) {
     let _ = streams.out.flush();
-    let _ = refuse(fault, streams.err);
-    if typed.explain {
-        let _ = typed.explain(fault, streams.err);
+    let _ = refuse(Fault::from(kind), streams.err);
+    if interpreter.style.explain {
+        let _ = explain_typed(interpreter.alloc, typed, kind, streams.err);
     }
 }
 
@@ -73,20 +46,20 @@ pub(crate) fn begin_answer<W: Write>(number: usize, out: &mut W) -> io::Result<(
 }
 
 /// Ends that object: the fault, if there is one, what is told more of it, and how many steps were done.
-pub(crate) fn end_answer<W: Write>(
-    typed: &TypedLine<'_>,
-    fault: Option<Fault>,
+pub(crate) fn end_answer<G, W: Write>(
+    interpreter: &Interpreter<'_, G>,
+    typed: &Typed<'_>,
+    fault: Option<FaultKind>,
     steps: u64,
     out: &mut W,
 ) -> io::Result<()> {
     match fault {
-        Some(fault) => {
-            let kind = fault.kind;
+        Some(kind) => {
             write!(out, "],\"fault\":\"{kind}\"")?;
-            if typed.explain {
-                let mut bytes = Vec::new(typed.alloc);
+            if interpreter.style.explain {
+                let mut bytes = Vec::new(interpreter.alloc);
                 // Where there is no memory for all of it, what there is memory for is told.
-                let _ = typed.explain(fault, &mut bytes);
+                let _ = explain_typed(interpreter.alloc, typed, kind, &mut bytes);
                 let text = str::from_utf8(&bytes).unwrap_or("");
                 let text = Escaped { text };
                 write!(out, ",\"told\":\"{text}\"")?;

@@ -228,16 +228,11 @@ fn shown_line(report: &[u8], number: usize) -> &str {
     let Ok(text) = str::from_utf8(report) else {
         return "a line that is not UTF-8";
     };
-    for (before, line) in text.lines().enumerate() {
-        if before + 1 == number {
-            return if is_plain(line) {
-                line
-            } else {
-                "a line that is long, or has other characters than ASCII"
-            };
-        }
+    match text.lines().nth(number.saturating_sub(1)) {
+        Some(line) if is_plain(line) => line,
+        Some(_) => "a line that is long, or has other characters than ASCII",
+        None => "no line",
     }
-    "no line"
 }
 
 // Whether a line is short, and has only what can be seen.

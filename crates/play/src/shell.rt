@@ -3,8 +3,9 @@
 ghost use Rattle.std.specs.Prelude.{IfErr};
 ghost use Rattle.play.specs.Works.{CannotReadOn, WereTried};
 
-use crate::answers::{Listed, TypedLine, begin_answer, end_answer, print_fault, print_text};
+use crate::answers::{Listed, begin_answer, end_answer, print_fault, print_text};
 use crate::program::Streams;
+use advice::Typed;
 use command_line::{Format, SHELL_COMMANDS};
 use fabric::FabricName;
 use faults::FaultKind;
@@ -75,21 +76,19 @@ where
     let done = answer_line(interpreter, net, number, line, streams.out);
     let (goes_on, fault) = match done {
         Ok(goes_on) => (goes_on, None),
-        Err(kind) => (true, Some(Fault::from(kind))),
+        Err(kind) => (true, Some(kind)),
     };
-    let typed = TypedLine {
-        alloc: interpreter.alloc,
+    let typed = Typed {
         names: interpreter.directory.names(),
         links: net.network().links(),
-        explain: interpreter.style.explain,
         number,
         line,
     };
     match (interpreter.style.format, fault) {
-        (Format::Text, Some(fault)) => print_fault(&typed, fault, streams),
+        (Format::Text, Some(kind)) => print_fault(interpreter, &typed, kind, streams),
         (Format::Text, None) => {}
         (Format::Json, fault) => {
-            let _ = end_answer(&typed, fault, net.steps(), streams.out);
+            let _ = end_answer(interpreter, &typed, fault, net.steps(), streams.out);
         }
     }
     match streams.out.flush() {
