@@ -1,47 +1,17 @@
 //! The text of a step.
 
-ghost use Rattle.std.specs.Prelude.{◌≡◌};
-ghost use Rattle.journal.specs.Steps.{delivery_text, end_a, end_b, ends_text, port_text};
+ghost use Rattle.std.specs.Prelude.{◌≡◌, Some};
+ghost use Rattle.journal.specs.Steps.{end_a, end_b, step_text};
 
 use network_model::{LinkSpec, Step};
 use script::Directory;
 use std::fmt;
-use std::marker::Model;
 
-/// The text of a step, as a script and a journal say it: `up A B`, `down A B`, `cost A B C`,
-/// `deliver A B`, `publish A`, `release A`, `attach A PREFIX COST` or `detach A PREFIX`. The routers of
-/// `up` and `down` come in the order of their link.
-#[derive(Drop)]
-pub struct StepText<'a> {
-    directory: &'a Directory,
-    links: &'a [LinkSpec],
-    step: Step,
-}
-
-impl<'a> Model for StepText<'a> {
-    ghost use Rattle.texts.specs.Words.{Text};
-    ghost use Rattle.journal.specs.Steps.{step_text};
-
-    ghost Value = { Text };
-
-    ghost view = { λ t. step_text t.directory.now t.links.now t.step };
-}
-
-impl<'a> StepText<'a> {
-    ghost use Rattle.std.specs.Prelude.{◌≡◌};
-    ghost use Rattle.journal.specs.Steps.{step_text};
-
-    /// The text of a step in a network of these links, with the names of the directory.
-    pub fn new(directory: &'a Directory, links: &'a [LinkSpec], step: Step) -> StepText<'a>
-        ensures { result ≡ step_text directory.now links.now step }
-    {
-        StepText {
-            directory,
-            links,
-            step,
-        }
-    }
-}
+/// The text of a step in a network of these links, as a script and a journal say it: `up A B`, `down A B`,
+/// `cost A B C`, `deliver A B`, `publish A`, `release A`, `attach A PREFIX COST` or `detach A PREFIX`. The routers
+/// of `up` and `down` come in the order of their link.
+#[derive(Clone, Copy)]
+pub struct StepText<'a>(pub &'a Directory, pub &'a [LinkSpec], pub Step);
 
 // The routers at the ends of a link; none where there is no such link.
 fn ends(links: &[LinkSpec], link: u16) -> (Option<u16>, Option<u16>)
@@ -54,102 +24,44 @@ fn ends(links: &[LinkSpec], link: u16) -> (Option<u16>, Option<u16>)
     }
 }
 
-// The names of two routers, with a blank between.
-#[derive(Drop)]
-struct Two<'a> {
-    first: &'a str,
-    second: &'a str,
-}
-
-impl<'a> Model for Two<'a> {
-    ghost use Rattle.std.specs.Prelude.{◌++◌, codes};
-    ghost use Rattle.texts.specs.Words.{Text};
-
-    ghost Value = { Text };
-
-    ghost view = { λ t. t.first.now ++ codes " " ++ t.second.now };
-}
-
-impl fmt::Display for Two<'_> {
-    ghost use Rattle.std.specs.Prelude.{Some};
-
-    ghost output = { λ t. Some t };
-
-    fn fmt<W: fmt::Write>(&self, f: &mut fmt::Formatter<W>) -> fmt::Result {
-        write!(f, "{} {}", self.first, self.second)
-    }
-}
-
-fn names_of_ends<'a>(directory: &'a Directory, links: &[LinkSpec], link: u16) -> Two<'a>
-    ensures { result ≡ ends_text directory.now links.now link }
-{
-    let (a, b) = ends(links, link);
-    Two {
-        first: directory.name(a),
-        second: directory.name(b),
-    }
-}
-
-fn names_at_port(directory: &Directory, router: u16, port: u8) -> Two<'_>
-    ensures { result ≡ port_text directory.now router port }
-{
-    Two {
-        first: directory.name(Some(router)),
-        second: directory.name(directory.neighbour(router, port)),
-    }
-}
-
-fn names_of_delivery(directory: &Directory, router: u16, port: u8) -> Two<'_>
-    ensures { result ≡ delivery_text directory.now router port }
-{
-    Two {
-        first: directory.name(Some(router)),
-        second: directory.name(directory.source(router, port)),
-    }
-}
-
 impl fmt::Display for StepText<'_> {
-    ghost use Rattle.std.specs.Prelude.{Some};
-
-    ghost output = { λ t. Some t };
+    ghost output = { λ t. Some (step_text t.0.now t.1.now t.2) };
 
     fn fmt<W: fmt::Write>(&self, f: &mut fmt::Formatter<W>) -> fmt::Result {
-        match self.step {
+        let StepText(directory, links, step) = *self;
+        match step {
             Step::LinkUp { link } => {
-                let ends = names_of_ends(self.directory, self.links, link);
-                write!(f, "up {ends}")
+                let (a, b) = ends(links, link);
+                let (a, b) = (directory.name(a), directory.name(b));
+                write!(f, "up {a} {b}")
             }
             Step::LinkDown { link } => {
-                let ends = names_of_ends(self.directory, self.links, link);
-                write!(f, "down {ends}")
+                let (a, b) = ends(links, link);
+                let (a, b) = (directory.name(a), directory.name(b));
+                write!(f, "down {a} {b}")
             }
             Step::SetCost { router, port, cost } => {
-                let names = names_at_port(self.directory, router, port);
-                write!(f, "cost {names} {cost}")
+                let name = directory.name(Some(router));
+                let across = directory.name(directory.neighbour(router, port));
+                write!(f, "cost {name} {across} {cost}")
             }
             Step::Deliver { router, port } => {
-                let names = names_of_delivery(self.directory, router, port);
-                write!(f, "deliver {names}")
+                let name = directory.name(Some(router));
+                let source = directory.name(directory.source(router, port));
+                write!(f, "deliver {name} {source}")
             }
-            Step::Publish { router } => {
-                let name = self.directory.name(Some(router));
-                write!(f, "publish {name}")
-            }
-            Step::Release { router } => {
-                let name = self.directory.name(Some(router));
-                write!(f, "release {name}")
-            }
+            Step::Publish { router } => write!(f, "publish {}", directory.name(Some(router))),
+            Step::Release { router } => write!(f, "release {}", directory.name(Some(router))),
             Step::Attach {
                 router,
                 prefix,
                 cost,
             } => {
-                let name = self.directory.name(Some(router));
+                let name = directory.name(Some(router));
                 write!(f, "attach {name} {prefix} {cost}")
             }
             Step::Detach { router, prefix } => {
-                let name = self.directory.name(Some(router));
-                write!(f, "detach {name} {prefix}")
+                write!(f, "detach {} {prefix}", directory.name(Some(router)))
             }
         }
     }

@@ -39,7 +39,7 @@ fn write_lines<W: Write>(
         (steps_text directory.now links.now steps.now)) }
 {
     for &step in steps {
-        writeln!(out, "{}", StepText::new(directory, links, step))?;
+        writeln!(out, "{}", StepText(directory, links, step))?;
     }
     Ok(())
 }

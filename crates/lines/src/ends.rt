@@ -51,7 +51,7 @@ impl fmt::Display for NextText<'_> {
         let name = directory.name(Some(router));
         match step {
             Some(step) => {
-                let step = StepText::new(directory, links, step);
+                let step = StepText(directory, links, step);
                 write!(f, "next {name}: {step}")
             }
             None => write!(f, "next {name}: nothing"),
@@ -76,7 +76,7 @@ impl fmt::Display for NextJson<'_> {
         let name = directory.name(Some(router));
         match step {
             Some(step) => {
-                let step = StepText::new(directory, links, step);
+                let step = StepText(directory, links, step);
                 write!(
                     f,
                     "{{\"kind\":\"next\",\"router\":\"{name}\",\"step\":\"{step}\"}}"

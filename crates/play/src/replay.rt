@@ -121,7 +121,7 @@ fn explain_refusal<E: Write>(
     // The steps begin in line 2.
     let line = done.saturating_add(2);
     if let Some(&step) = journal.steps.get(done) {
-        let step = StepText::new(directory, links, step);
+        let step = StepText(directory, links, step);
         writeln!(err, "  line {line} of the journal: {step}")?;
     }
     write!(err, "{}", Brief(FaultKind::from(refusal)))

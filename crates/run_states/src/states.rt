@@ -182,7 +182,7 @@ fn text_of<'n>(
 ) -> Result<String, NoMemory>
     ensures { IfOk result (λ text. string_bytes text ≡ step_text directory.now links.now step.now) }
 {
-    Ok(StepText::new(directory, links, *step).to_string(alloc)?)
+    Ok(StepText(directory, links, *step).to_string(alloc)?)
 }
 
 // Writes a state: after how many steps it is, the last of them and its moment, and what has changed since the state

@@ -22,7 +22,7 @@ pub fn print_changes<W: Write>(
 ) {
     for (place, one) in begun.iter().enumerate() {
         let (after, until) = next_change(begun, place, end);
-        let step = StepText::new(printer.directory, links, one.event.step);
+        let step = StepText(printer.directory, links, one.event.step);
         let moment = one.event.moment;
         match one.refusal {
             Some(refusal) => print_refusal(printer, moment, step, refusal, out),

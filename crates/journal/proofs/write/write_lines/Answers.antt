@@ -1,5 +1,5 @@
-use Rattle.std.proofs.Common.{[], ◌∷◌, ◌++◌, subst, arith}
-use Rattle.script.proofs.Common.{Appends, line_next}
+use Rattle.std.proofs.Common.{arith}
+use Rattle.script.proofs.Common.{line_next}
 use Rattle.journal.specs.Steps.{step_text}
 use Rattle.journal.proofs.write.write_lines.Goals as goal
 
@@ -9,5 +9,5 @@ loop-step-preserved g c =
     let new = g.W.Write.contents c.writeln.new.self in
     record {
       printed = line_next (step_text c.args.directory.now c.args.links.now) c.args.steps.now c.loop-step.step-index c.step-item.result (g.W.Write.contents c.args.out.now) mid new
-          (omega (arith, c.loop-step-test.true)) c.step-item.is c.loop-step.invariant.printed (subst (λ t. Appends mid new (t ++ 10 ∷ [])) c.new.ensures c.in_ok-writeln.ensures.bytes);
+          (omega (arith, c.loop-step-test.true)) c.step-item.is c.loop-step.invariant.printed c.in_ok-writeln.ensures.bytes;
     }
