@@ -11,7 +11,6 @@ ghost use Rattle.interpreter.specs.Traces.{IsTrace, crossing_on, matched_at, mat
 
 use crate::live::Live;
 use crate::threaded::{Staff, Threaded};
-use crate::totals::{counts_of, counts_since, no_counts};
 use control::Progress;
 use faults::FaultKind;
 use lines::{Answer, Asked, Counts, Line, Printer};
@@ -64,7 +63,7 @@ impl Counted {
             saved: None,
             last: 0,
             answers: Vec::new(alloc),
-            counted: no_counts(),
+            counted: Counts::none(),
         })
     }
 
@@ -247,8 +246,8 @@ impl Live for Counted {
     }
 
     fn count(&mut self) -> Counts {
-        let totals = counts_of(self.simulation.steps(), self.simulation.sent());
-        let since = counts_since(totals, self.counted);
+        let totals = counts_of(&self.simulation);
+        let since = totals.since(self.counted);
         self.counted = totals;
         since
     }
@@ -272,11 +271,8 @@ impl Live for Counted {
             return Err(FaultKind::NoMemory);
         };
         // What was done and not yet counted is counted later, too.
-        let since = counts_since(
-            counts_of(self.simulation.steps(), self.simulation.sent()),
-            self.counted,
-        );
-        self.counted = counts_since(counts_of(copy.steps(), copy.sent()), since);
+        let since = counts_of(&self.simulation).since(self.counted);
+        self.counted = counts_of(&copy).since(since);
         self.simulation = copy;
         Ok(())
     }
@@ -292,6 +288,13 @@ impl<S: Staff> Threaded<S> for Counted {
 
     fn staff(&mut self) -> Option<&mut S> {
         None
+    }
+}
+
+fn counts_of(simulation: &Simulation) -> Counts {
+    Counts {
+        steps: simulation.steps(),
+        sent: simulation.sent(),
     }
 }
 

@@ -11,7 +11,6 @@ use crate::dispatcher::{Dispatcher, ports_of, print_replies};
 use crate::host::Host;
 use crate::live::Live;
 use crate::threaded::{Staff, Threaded};
-use crate::totals::{counts_of, counts_since, no_counts};
 use control::{Crew, Order, Progress, TurnGate, settle, settle_in_order};
 use fabric::{Fabric, FabricName};
 use faults::FaultKind;
@@ -90,7 +89,7 @@ where
                     dispatcher: Dispatcher::new(ports),
                     fabric,
                 },
-                counted: no_counts(),
+                counted: Counts::none(),
             }),
             Err(memory) => Err((fabric, memory)),
         }
@@ -258,11 +257,11 @@ where
     }
 
     fn count(&mut self) -> Counts {
-        let totals = counts_of(
-            self.staffed.fabric.journal().len() as u64,
-            self.staffed.fabric.sent(),
-        );
-        let since = counts_since(totals, self.counted);
+        let totals = Counts {
+            steps: self.staffed.fabric.journal().len() as u64,
+            sent: self.staffed.fabric.sent(),
+        };
+        let since = totals.since(self.counted);
         self.counted = totals;
         since
     }

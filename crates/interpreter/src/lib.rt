@@ -54,7 +54,6 @@ mod live;
 mod progress;
 mod putting;
 mod threaded;
-mod totals;
 
 pub use control::{Crew, NO_THRESHOLDS, NoGate, Progress, THRESHOLDS, Thresholds, TurnGate};
 pub use counted::Counted;

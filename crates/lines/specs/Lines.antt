@@ -18,7 +18,7 @@ line_text d (Waiting waiting) = waiting_text d waiting
 line_text d (Moved waiting) = codes "  " ++ waiting_text d waiting
 line_text d (Next router links step) = next_text d links.now router step
 line_text d (Tried fault) = tried_text fault
-line_text d (Counted counts) = counts_text counts
+line_text d (Counted counts) = codes "count: " ++ counts_text counts
 line_text d (Ended ended) = ended_text ended
 
 -- the same as an object of JSON
@@ -32,5 +32,5 @@ line_json d (Waiting waiting) = waiting_json d waiting
 line_json d (Moved waiting) = waiting_json d waiting
 line_json d (Next router links step) = next_json d links.now router step
 line_json d (Tried fault) = tried_json fault
-line_json d (Counted counts) = counts_json counts
+line_json d (Counted counts) = codes "{\"kind\":\"count\"," ++ counts_json counts ++ codes "}"
 line_json d (Ended ended) = ended_json ended

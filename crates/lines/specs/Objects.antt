@@ -212,8 +212,8 @@ tried_json (Some fault) = codes "{\"kind\":\"try\",\"refused\":\"" ++ fault_text
 -- how many steps were done, and how many messages of each kind they put on links
 abbrev pub counts_json : Counts → Text
 counts_json c =
-    codes "{\"kind\":\"count\",\"steps\":" ++ decimal c.steps ++ codes ",\"updates\":" ++ decimal c.updates
-    ++ codes ",\"queries\":" ++ decimal c.queries ++ codes ",\"replies\":" ++ decimal c.replies ++ codes "}"
+    codes "\"steps\":" ++ decimal c.steps ++ codes ",\"updates\":" ++ decimal (c.sent).updates
+    ++ codes ",\"queries\":" ++ decimal (c.sent).queries ++ codes ",\"replies\":" ++ decimal (c.sent).replies
 
 -- how a run or a replay ended
 abbrev pub ended_json : Ended → Text

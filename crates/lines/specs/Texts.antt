@@ -213,8 +213,8 @@ tried_text (Some fault) = codes "refused " ++ fault_text fault
 -- how many steps were done, and how many messages of each kind they put on links
 abbrev pub counts_text : Counts → Text
 counts_text c =
-    codes "count: " ++ decimal c.steps ++ codes " steps, " ++ decimal c.updates ++ codes " updates "
-    ++ decimal c.queries ++ codes " queries " ++ decimal c.replies ++ codes " replies"
+    decimal c.steps ++ codes " steps, " ++ decimal (c.sent).updates ++ codes " updates "
+    ++ decimal (c.sent).queries ++ codes " queries " ++ decimal (c.sent).replies ++ codes " replies"
 
 -- how a run or a replay ended: all steps were done, and the report of a journal agrees; they were done alone, since the report is of the first version; the report differs at a line; or a step was refused
 abbrev pub ended_text : Ended → Text

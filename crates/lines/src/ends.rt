@@ -4,6 +4,7 @@ ghost use Rattle.std.specs.Prelude.{Some};
 ghost use Rattle.lines.specs.Texts.{counts_text, ended_text, next_text};
 ghost use Rattle.lines.specs.Objects.{counts_json, ended_json, next_json};
 
+use course::Sent;
 use faults::FaultKind;
 use journal::StepText;
 use network_model::{LinkSpec, Step};
@@ -14,9 +15,68 @@ use std::fmt;
 #[derive(Clone, Copy)]
 pub struct Counts {
     pub steps: u64,
-    pub updates: u64,
-    pub queries: u64,
-    pub replies: u64,
+    pub sent: Sent,
+}
+
+impl Counts {
+    /// Nothing was done.
+    pub fn none() -> Counts {
+        Counts {
+            steps: 0,
+            sent: Sent::none(),
+        }
+    }
+
+    /// What was done after so much was done before.
+    pub fn since(self, before: Counts) -> Counts {
+        let (now, then) = (self.sent, before.sent);
+        Counts {
+            steps: self.steps.wrapping_sub(before.steps),
+            sent: Sent {
+                updates: now.updates.wrapping_sub(then.updates),
+                queries: now.queries.wrapping_sub(then.queries),
+                replies: now.replies.wrapping_sub(then.replies),
+            },
+        }
+    }
+}
+
+impl fmt::Display for Counts {
+    ghost output = { λ t. Some (counts_text t) };
+
+    fn fmt<W: fmt::Write>(&self, f: &mut fmt::Formatter<W>) -> fmt::Result {
+        let steps = self.steps;
+        let Sent {
+            updates,
+            queries,
+            replies,
+        } = self.sent;
+        write!(
+            f,
+            "{steps} steps, {updates} updates {queries} queries {replies} replies"
+        )
+    }
+}
+
+/// The same as members of an object of JSON.
+#[derive(Clone, Copy)]
+pub struct CountsJson(pub Counts);
+
+impl fmt::Display for CountsJson {
+    ghost output = { λ t. Some (counts_json t.0) };
+
+    fn fmt<W: fmt::Write>(&self, f: &mut fmt::Formatter<W>) -> fmt::Result {
+        let steps = self.0.steps;
+        let Sent {
+            updates,
+            queries,
+            replies,
+        } = self.0.sent;
+        write!(
+            f,
+            "\"steps\":{steps},\"updates\":{updates},\"queries\":{queries},\"replies\":{replies}"
+        )
+    }
 }
 
 /// How a run or a replay ended.
@@ -87,40 +147,6 @@ impl fmt::Display for NextJson<'_> {
                 "{{\"kind\":\"next\",\"router\":\"{name}\",\"step\":null}}"
             ),
         }
-    }
-}
-
-// How many steps were done, and how many messages of each kind they put on links.
-#[derive(Clone, Copy)]
-pub(crate) struct CountsText(pub Counts);
-
-impl fmt::Display for CountsText {
-    ghost output = { λ t. Some (counts_text t.0) };
-
-    fn fmt<W: fmt::Write>(&self, f: &mut fmt::Formatter<W>) -> fmt::Result {
-        let (steps, updates) = (self.0.steps, self.0.updates);
-        let (queries, replies) = (self.0.queries, self.0.replies);
-        write!(
-            f,
-            "count: {steps} steps, {updates} updates {queries} queries {replies} replies"
-        )
-    }
-}
-
-// The same as an object of JSON.
-#[derive(Clone, Copy)]
-pub(crate) struct CountsJson(pub Counts);
-
-impl fmt::Display for CountsJson {
-    ghost output = { λ t. Some (counts_json t.0) };
-
-    fn fmt<W: fmt::Write>(&self, f: &mut fmt::Formatter<W>) -> fmt::Result {
-        let (steps, updates) = (self.0.steps, self.0.updates);
-        let (queries, replies) = (self.0.queries, self.0.replies);
-        write!(
-            f,
-            "{{\"kind\":\"count\",\"steps\":{steps},\"updates\":{updates},\"queries\":{queries},\"replies\":{replies}}}"
-        )
     }
 }
 

@@ -61,7 +61,10 @@ impl fmt::Display for Json<'_, '_, '_> {
             Line::Tried(Some(fault)) => {
                 write!(f, "{{\"kind\":\"try\",\"refused\":\"{fault}\"}}")
             }
-            Line::Counted(counts) => write!(f, "{}", CountsJson(counts)),
+            Line::Counted(counts) => {
+                let counts = CountsJson(counts);
+                write!(f, "{{\"kind\":\"count\",{counts}}}")
+            }
             Line::Ended(ended) => write!(f, "{}", EndedJson(ended)),
         }
     }

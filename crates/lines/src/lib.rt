@@ -74,7 +74,7 @@ mod values;
 mod waiting;
 
 pub use answers::{Answer, Asked};
-pub use ends::{Counts, Ended};
+pub use ends::{Counts, CountsJson, Ended};
 pub use json::Json;
 pub use line::Line;
 pub use moved::moved_by;

@@ -4,7 +4,7 @@ ghost use Rattle.std.specs.Prelude.{Some};
 ghost use Rattle.lines.specs.Lines.{line_text};
 
 use crate::answers::{AskedText, TraceText};
-use crate::ends::{CountsText, EndedText, NextText};
+use crate::ends::{EndedText, NextText};
 use crate::line::Line;
 use crate::reasons::{AwaitsText, KnownText};
 use crate::states::StateText;
@@ -56,7 +56,7 @@ impl fmt::Display for Text<'_, '_, '_> {
             } => write!(f, "{}", NextText(directory, links, router, step)),
             Line::Tried(None) => write!(f, "done"),
             Line::Tried(Some(fault)) => write!(f, "refused {fault}"),
-            Line::Counted(counts) => write!(f, "{}", CountsText(counts)),
+            Line::Counted(counts) => write!(f, "count: {counts}"),
             Line::Ended(ended) => write!(f, "{}", EndedText(ended)),
         }
     }

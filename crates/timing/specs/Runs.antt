@@ -18,7 +18,7 @@ use Rattle.timing.specs.declared.snapshot.Begun.{Begun}
 
 -- how far a run is
 abbrev pub snapshot_of : Timed → Snapshot
-snapshot_of t = record { now = t.clock; steps = (t.simulation).steps; sent = (t.simulation).sent; rests = is_settled (world_of t) }
+snapshot_of t = record { now = t.clock; counts = record { steps = (t.simulation).steps; sent = (t.simulation).sent }; rests = is_settled (world_of t) }
 
 -- with these changes given, one after another
 abbrev pub with_changes : List Change → Timed → Timed

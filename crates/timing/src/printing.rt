@@ -3,7 +3,7 @@
 use crate::snapshot::{Begun, Snapshot};
 use crate::tally::{Span, Tally, began_in, count_spells};
 use journal::StepText;
-use lines::{Printer, print_either};
+use lines::{Counts, CountsJson, Printer, print_either};
 use network_model::{LinkSpec, Refusal};
 use std::fmt;
 use std::io::Write;
@@ -21,22 +21,16 @@ pub fn print_changes<W: Write>(
     out: &mut W,
 ) {
     for (place, one) in begun.iter().enumerate() {
-        let (after, until) = next_change(begun, place, end);
         let step = StepText(printer.directory, links, one.event.step);
-        let moment = one.event.moment;
         match one.refusal {
-            Some(refusal) => print_refusal(printer, moment, step, refusal, out),
+            Some(refusal) => print_refusal(printer, one.event.moment, step, refusal, out),
             None => {
+                let (after, until) = next_change(begun, place, end);
                 let span = Span {
-                    from: moment,
+                    from: one.event.moment,
                     until,
                 };
-                let effect = Effect {
-                    moment,
-                    before: one.before,
-                    after,
-                };
-                print_effect(printer, step, effect, span, report, out);
+                print_effect(printer, step, one.before, after, span, report, out);
             }
         }
     }
@@ -73,40 +67,37 @@ fn print_refusal<W: Write>(
 fn print_effect<W: Write>(
     printer: &Printer<'_>,
     step: StepText<'_>,
-    effect: Effect,
+    before: Snapshot,
+    after: Snapshot,
     span: Span,
     report: Option<&Report>,
     out: &mut W,
 ) {
-    let moment = effect.moment;
-    let text = EffectText { effect };
-    let json = EffectJson { effect };
-    let Some(report) = report else {
-        let _ = print_either(
-            printer.format,
-            format_args!("{moment} {step}: {text}"),
-            format_args!("{{\"kind\":\"change\",\"moment\":{moment},\"step\":\"{step}\",{json}}}"),
-            out,
-        );
-        return;
+    let moment = span.from;
+    let spells = match report {
+        Some(report) => Some((
+            count_spells(span, report.computations()),
+            count_spells(span, report.outages()),
+        )),
+        None => None,
     };
-    let Tally { count, longest } = count_spells(span, report.computations());
-    let Tally {
-        count: cuts,
-        longest: longest_cut,
-    } = count_spells(span, report.outages());
+    let rest = after.now.saturating_sub(moment);
+    let effect = Effect {
+        rest: if after.rests { Some(rest) } else { None },
+        counts: after.counts.since(before.counts),
+        spells,
+    };
+    let json = EffectJson(effect);
     let _ = print_either(
         printer.format,
-        format_args!(
-            "{moment} {step}: {text}, {count} computations of at most {longest}, {cuts} outages of at most {longest_cut}"
-        ),
-        format_args!(
-            "{{\"kind\":\"change\",\"moment\":{moment},\"step\":\"{step}\",{json},\"computations\":{count},\"longest_computation\":{longest},\"outages\":{cuts},\"longest_outage\":{longest_cut}}}"
-        ),
+        format_args!("{moment} {step}: {effect}"),
+        format_args!("{{\"kind\":\"change\",\"moment\":{moment},\"step\":\"{step}\",{json}}}"),
         out,
     );
-    print_spells(printer, "computation", span, report.computations(), out);
-    print_spells(printer, "outage", span, report.outages(), out);
+    if let Some(report) = report {
+        print_spells(printer, "computation", span, report.computations(), out);
+        print_spells(printer, "outage", span, report.outages(), out);
+    }
 }
 
 // Tells the spells of one kind that began in this time.
@@ -142,97 +133,61 @@ fn print_spell<W: Write>(printer: &Printer<'_>, kind: &str, spell: &Spell, out: 
     );
 }
 
-// What came of a change that was done at this moment.
+// What came of a change: how much later the network was at rest, if it was; what was done until then; and of the
+// computations and the outages that began meanwhile how many there were, and the longest, where they are recorded.
 #[derive(Clone, Copy)]
 struct Effect {
-    moment: u64,
-    before: Snapshot,
-    after: Snapshot,
+    rest: Option<u64>,
+    counts: Counts,
+    spells: Option<(Tally, Tally)>,
 }
 
-impl Effect {
-    // How much later the network was at rest, if it was.
-    fn rest(&self) -> Option<u64> {
-        if self.after.rests {
-            Some(self.after.now.saturating_sub(self.moment))
-        } else {
-            None
-        }
-    }
-
-    fn steps(&self) -> u64 {
-        self.after.steps.saturating_sub(self.before.steps)
-    }
-
-    fn updates(&self) -> u64 {
-        self.after
-            .sent
-            .updates
-            .saturating_sub(self.before.sent.updates)
-    }
-
-    fn queries(&self) -> u64 {
-        self.after
-            .sent
-            .queries
-            .saturating_sub(self.before.sent.queries)
-    }
-
-    fn replies(&self) -> u64 {
-        self.after
-            .sent
-            .replies
-            .saturating_sub(self.before.sent.replies)
-    }
-}
-
-// The same, for people.
-#[derive(Clone, Copy)]
-struct EffectText {
-    effect: Effect,
-}
-
-impl fmt::Display for EffectText {
+impl fmt::Display for Effect {
     fn fmt<W: fmt::Write>(&self, f: &mut fmt::Formatter<W>) -> fmt::Result {
-        let effect = self.effect;
-        let (steps, updates) = (effect.steps(), effect.updates());
-        let (queries, replies) = (effect.queries(), effect.replies());
-        match effect.rest() {
-            Some(rest) => write!(f, "at rest {rest} later, ")?,
-            None => write!(f, "not at rest, ")?,
+        match self.rest {
+            Some(rest) => write!(f, "at rest {rest} later, {}", self.counts)?,
+            None => write!(f, "not at rest, {}", self.counts)?,
         }
-        write!(
-            f,
-            "{steps} steps, {updates} updates {queries} queries {replies} replies"
-        )
+        match self.spells {
+            Some((Tally { count, longest }, outages)) => {
+                let (cuts, cut) = (outages.count, outages.longest);
+                write!(
+                    f,
+                    ", {count} computations of at most {longest}, {cuts} outages of at most {cut}"
+                )
+            }
+            None => Ok(()),
+        }
     }
 }
 
-// The same, as keys of an object of JSON.
+// The same as members of an object of JSON.
 #[derive(Clone, Copy)]
-struct EffectJson {
-    effect: Effect,
-}
+struct EffectJson(Effect);
 
 impl fmt::Display for EffectJson {
     fn fmt<W: fmt::Write>(&self, f: &mut fmt::Formatter<W>) -> fmt::Result {
-        let effect = self.effect;
-        let (steps, updates) = (effect.steps(), effect.updates());
-        let (queries, replies) = (effect.queries(), effect.replies());
-        match effect.rest() {
-            Some(rest) => write!(f, "\"rest\":{rest},")?,
-            None => write!(f, "\"rest\":null,")?,
+        let counts = CountsJson(self.0.counts);
+        match self.0.rest {
+            Some(rest) => write!(f, "\"rest\":{rest},{counts}")?,
+            None => write!(f, "\"rest\":null,{counts}")?,
         }
-        write!(
-            f,
-            "\"steps\":{steps},\"updates\":{updates},\"queries\":{queries},\"replies\":{replies}"
-        )
+        match self.0.spells {
+            Some((Tally { count, longest }, outages)) => {
+                let (cuts, cut) = (outages.count, outages.longest);
+                write!(
+                    f,
+                    ",\"computations\":{count},\"longest_computation\":{longest},\"outages\":{cuts},\"longest_outage\":{cut}"
+                )
+            }
+            None => Ok(()),
+        }
     }
 }
 
 /// Prints the last line of a run that came to rest.
 pub fn print_end<W: Write>(printer: &Printer<'_>, end: Snapshot, out: &mut W) {
-    let (steps, now) = (end.steps, end.now);
+    let (steps, now) = (end.counts.steps, end.now);
     let _ = print_either(
         printer.format,
         format_args!("done: {steps} steps, at rest at {now}"),

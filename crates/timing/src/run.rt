@@ -10,6 +10,7 @@ ghost use Rattle.timing.specs.Runs.{ComesNext, IsBegun, IsOfEvents, IsReady, Lea
 
 use crate::snapshot::{Begun, Snapshot};
 use faults::FaultKind;
+use lines::Counts;
 use network_model::{NoMemory, Refusal, Step};
 use plans::Fault;
 use simulation::Sent;
@@ -41,6 +42,7 @@ pub fn run_changes(recording: &mut Recording, begun: &mut Vec<Begun>) -> Result<
     let _step: Option<Step> = None;
     let _event: Option<Event> = None;
     let _sent: Option<Sent> = None;
+    let _counts: Option<Counts> = None;
     let count = changes_left(recording);
     for done in 0..count {
         run_before(recording)?;

@@ -3,8 +3,8 @@
 ghost use Rattle.std.specs.Prelude.{◌≡◌};
 ghost use Rattle.timing.specs.Runs.{snapshot_of};
 
+use lines::Counts;
 use network_model::Refusal;
-use simulation::Sent;
 use timed_simulation::{Event, TimedSimulation};
 
 /// How far a run is.
@@ -12,10 +12,8 @@ use timed_simulation::{Event, TimedSimulation};
 pub struct Snapshot {
     /// The moment of the last event, in microseconds since the opening.
     pub now: u64,
-    /// How many steps were done.
-    pub steps: u64,
-    /// How many messages of each kind were sent.
-    pub sent: Sent,
+    /// How many steps were done, and how many messages of each kind were sent.
+    pub counts: Counts,
     /// Whether the network has nothing left to do.
     pub rests: bool,
 }
@@ -26,10 +24,13 @@ impl Snapshot {
         ensures { result ≡ snapshot_of timed.now }
     {
         let simulation = timed.simulation();
-        Snapshot {
-            now: timed.now(),
+        let counts = Counts {
             steps: simulation.steps(),
             sent: simulation.sent(),
+        };
+        Snapshot {
+            now: timed.now(),
+            counts,
             rests: simulation.is_settled(),
         }
     }
