@@ -6,7 +6,7 @@ ghost use Rattle.interpreter.specs.Nets.{IsStepDone, IsStepRefused};
 
 use crate::live::Live;
 use faults::FaultKind;
-use lines::{Answer, Asked, Line, Printer, moved_by};
+use lines::{Answer, Asked, Line, Printer, TraceLine, moved_by};
 use network_model::{Refusal, Step};
 use std::io::Write;
 
@@ -80,14 +80,14 @@ pub fn show_trace<N: Live, W: Write>(
     ensures err { IfErr result (N.meaning.not_traced net.old router) }
 {
     let traced = net.trace(router, addr, through)?;
-    let line = Line::Traced {
+    let line = TraceLine {
         router,
         addr,
         through,
         path: &traced.path,
         end: traced.end,
     };
-    let _ = printer.print(&line, out);
+    let _ = printer.print(&Line::Traced(line), out);
     Ok(())
 }
 

@@ -10,13 +10,13 @@ use Rattle.lines.specs.declared.line.Line.TheVariants.{Asked, Traced, State, Awa
 -- a line for people
 abbrev pub line_text : Directory → Line → Text
 line_text d (Asked asked) = asked_text d asked
-line_text d (Traced router addr through path end) = trace_text d router addr through path.now end
+line_text d (Traced t) = trace_text d t.router t.addr t.through (t.path).now t.end
 line_text d (State state) = state_text d state
-line_text d (Awaits router prefix neighbours) = awaits_text d neighbours.now
-line_text d (Known router prefix known) = known_text d known
+line_text d (Awaits a) = awaits_text d (a.neighbours).now
+line_text d (Known k) = known_text d k.known
 line_text d (Waiting waiting) = waiting_text d waiting
 line_text d (Moved waiting) = codes "  " ++ waiting_text d waiting
-line_text d (Next router links step) = next_text d links.now router step
+line_text d (Next n) = next_text d (n.links).now n.router n.step
 line_text d (Tried fault) = tried_text fault
 line_text d (Counted counts) = codes "count: " ++ counts_text counts
 line_text d (Ended ended) = ended_text ended
@@ -24,13 +24,13 @@ line_text d (Ended ended) = ended_text ended
 -- the same as an object of JSON
 abbrev pub line_json : Directory → Line → Text
 line_json d (Asked asked) = asked_json d asked
-line_json d (Traced router addr through path end) = trace_json d router addr through path.now end
+line_json d (Traced t) = trace_json d t.router t.addr t.through (t.path).now t.end
 line_json d (State state) = state_json d state
-line_json d (Awaits router prefix neighbours) = awaits_json d router prefix neighbours.now
-line_json d (Known router prefix known) = known_json d router prefix known
+line_json d (Awaits a) = awaits_json d a.router a.prefix (a.neighbours).now
+line_json d (Known k) = known_json d k.router k.prefix k.known
 line_json d (Waiting waiting) = waiting_json d waiting
 line_json d (Moved waiting) = waiting_json d waiting
-line_json d (Next router links step) = next_json d links.now router step
+line_json d (Next n) = next_json d (n.links).now n.router n.step
 line_json d (Tried fault) = tried_json fault
 line_json d (Counted counts) = codes "{\"kind\":\"count\"," ++ counts_json counts ++ codes "}"
 line_json d (Ended ended) = ended_json ended

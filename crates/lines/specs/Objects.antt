@@ -97,18 +97,13 @@ trace_json d router addr through path end =
 
 -- ---- links, routers, machines
 
--- the cost of a link from each end, and how many items each end has yet to take
-abbrev pub loads_json : LinkLine → Text
-loads_json l =
-    codes "\"costs\":[" ++ decimal (l.at).from_a ++ codes "," ++ decimal (l.at).from_b
-    ++ codes "],\"queued\":[" ++ decimal l.queued_a ++ codes "," ++ decimal l.queued_b ++ codes "]"
-
 -- a link: its ends, whether it is up, its session, its cost from each end, and how many items each end has yet to take
 abbrev pub link_json : Directory → LinkLine → Text
 link_json d l =
     codes "{\"kind\":\"link\",\"a\":\"" ++ name_text d (Some l.a) ++ codes "\",\"b\":\"" ++ name_text d (Some l.b)
     ++ codes "\",\"up\":" ++ flag_json (l.at).up ++ codes ",\"session\":" ++ decimal (l.at).session
-    ++ codes "," ++ loads_json l ++ codes "}"
+    ++ codes ",\"costs\":[" ++ decimal (l.at).from_a ++ codes "," ++ decimal (l.at).from_b
+    ++ codes "],\"queued\":[" ++ decimal l.queued_a ++ codes "," ++ decimal l.queued_b ++ codes "]}"
 
 -- a router: how often it published, how many messages it holds, how many of them are ripe, and how many notices of its own attachments it has yet to take
 abbrev pub router_json : Directory → RouterLine → Text
@@ -116,15 +111,12 @@ router_json d r =
     codes "{\"kind\":\"router\",\"router\":\"" ++ name_text d (Some r.router) ++ codes "\",\"generation\":" ++ decimal (r.at).generation
     ++ codes ",\"held\":" ++ decimal (r.at).held ++ codes ",\"ripe\":" ++ decimal (r.at).ripe ++ codes ",\"notices\":" ++ decimal (r.at).notices ++ codes "}"
 
--- the origin state of a machine where a computation is under way, its reported and its feasible distance
-abbrev pub distances_json : Option ℕ → ℕ → ℕ → Text
-distances_json origin rd fd = codes "\"active\":" ++ number_json origin ++ codes ",\"rd\":" ++ distance_json rd ++ codes ",\"fd\":" ++ distance_json fd
-
 -- a router's machine for a prefix: its state and its distances, and the entry that the router chose
 abbrev pub machine_json : Directory → MachineLine → Text
 machine_json d m =
     codes "{\"kind\":\"machine\",\"router\":\"" ++ name_text d (Some m.router) ++ codes "\",\"prefix\":\"" ++ prefix_text m.prefix
-    ++ codes "\"," ++ distances_json (m.at).origin (m.at).rd (m.at).fd ++ codes "," ++ entry_json d m.router m.entry ++ codes "}"
+    ++ codes "\",\"active\":" ++ number_json (m.at).origin ++ codes ",\"rd\":" ++ distance_json (m.at).rd ++ codes ",\"fd\":" ++ distance_json (m.at).fd
+    ++ codes "," ++ entry_json d m.router m.entry ++ codes "}"
 
 -- what is told of a network: also a prefix that a router has not heard of
 abbrev pub state_json : Directory → State → Text

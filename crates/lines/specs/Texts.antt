@@ -60,7 +60,7 @@ fault_text fault = decimal (kind_number fault) ++ codes " " ++ name_of fault
 
 -- ---- rows, look-ups, jobs, traces
 
--- the row that a look-up found, without its router
+-- the row of a router that a look-up found, without its router
 abbrev pub found_text : Directory → ℕ → Option (Prefix × Entry) → Text
 found_text d router None = codes "none"
 found_text d router (Some row) = prefix_text row.0 ++ codes " " ++ entry_text d router row.1
@@ -71,7 +71,7 @@ answer_text d a = name_text d (Some a.router) ++ codes " " ++ address_text a.add
 
 -- a row of a router: its prefix and its entry; what a look-up of an address at a router found; what a worker's job of a number found
 abbrev pub asked_text : Directory → Asked → Text
-asked_text d (Row router prefix entry) = name_text d (Some router) ++ codes " " ++ prefix_text prefix ++ codes " " ++ entry_text d router entry
+asked_text d (Row router prefix entry) = name_text d (Some router) ++ codes " " ++ found_text d router (Some (prefix, entry))
 asked_text d (Lookup answer) = codes "lookup " ++ answer_text d answer
 asked_text d (Packet number answer) = codes "packet " ++ decimal number ++ codes " " ++ answer_text d answer
 
@@ -101,10 +101,6 @@ abbrev pub up_text : Bool → Text
 up_text true = codes "up"
 up_text false = codes "down"
 
--- the cost of a link from each end, and how many items each end has yet to take
-abbrev pub loads_text : LinkLine → Text
-loads_text l = decimal (l.at).from_a ++ codes " " ++ decimal (l.at).from_b ++ codes " queued " ++ decimal l.queued_a ++ codes " " ++ decimal l.queued_b
-
 -- whether a computation is under way, and in which origin state
 abbrev pub origin_text : Option ℕ → Text
 origin_text None = codes "passive"
@@ -114,7 +110,8 @@ origin_text (Some origin) = codes "active " ++ decimal origin
 abbrev pub link_text : Directory → LinkLine → Text
 link_text d l =
     codes "link " ++ name_text d (Some l.a) ++ codes " " ++ name_text d (Some l.b)
-    ++ codes " " ++ up_text (l.at).up ++ codes " " ++ decimal (l.at).session ++ codes " " ++ loads_text l
+    ++ codes " " ++ up_text (l.at).up ++ codes " " ++ decimal (l.at).session ++ codes " " ++ decimal (l.at).from_a ++ codes " " ++ decimal (l.at).from_b
+    ++ codes " queued " ++ decimal l.queued_a ++ codes " " ++ decimal l.queued_b
 
 -- a router: how often it published, how many messages it holds, how many of them are ripe, and how many notices of its own attachments it has yet to take
 abbrev pub router_text : Directory → RouterLine → Text

@@ -1,13 +1,14 @@
 //! Rows, what was found for addresses, and traces.
 
 ghost use Rattle.std.specs.Prelude.{◌≡◌, Some};
-ghost use Rattle.lines.specs.Texts.{answer_text, asked_text, end_text, through_text, trace_text};
+ghost use Rattle.lines.specs.Formats.{in_format};
+ghost use Rattle.lines.specs.Texts.{answer_text, asked_text, end_text, found_text, through_text, trace_text};
 ghost use Rattle.lines.specs.Objects.{answer_json, asked_json, found_json, through_json, trace_json};
 
-use crate::values::{EachName, EntryJson, EntryText, NamesJson};
+use crate::told::Told;
+use crate::values::{EachName, NamesJson};
 use ipv4_prefix::{Addr, Prefix};
 use network_model::{Ending, Entry};
-use script::Directory;
 use std::fmt;
 
 /// What a router found for an address.
@@ -35,116 +36,78 @@ pub enum Asked {
     Packet(u64, Answer),
 }
 
-// A router, an address, and what the router found for it.
+/// The trace of a packet for an address from a router.
 #[derive(Clone, Copy)]
-struct AnswerText<'a>(&'a Directory, Answer);
-
-impl fmt::Display for AnswerText<'_> {
-    ghost output = { λ t. Some (answer_text t.0.now t.1) };
-
-    fn fmt<W: fmt::Write>(&self, f: &mut fmt::Formatter<W>) -> fmt::Result {
-        let AnswerText(directory, answer) = *self;
-        let name = directory.name(Some(answer.router));
-        let addr = Addr(answer.addr);
-        match answer.found {
-            None => write!(f, "{name} {addr}: none"),
-            Some((prefix, entry)) => {
-                let entry = EntryText(directory, answer.router, entry);
-                write!(f, "{name} {addr}: {prefix} {entry}")
-            }
-        }
-    }
+pub struct TraceLine<'a> {
+    pub router: u16,
+    pub addr: u32,
+    /// Whether it goes on whichever prefixes match.
+    pub through: bool,
+    /// The routers that the packet passes.
+    pub path: &'a [u16],
+    /// Why it ends.
+    pub end: Ending,
 }
 
-// A row of a router as members of an object of JSON, without its router.
-#[derive(Clone, Copy)]
-struct FoundJson<'a>(&'a Directory, u16, Option<(Prefix, Entry)>);
-
-impl fmt::Display for FoundJson<'_> {
-    ghost output = { λ t. Some (found_json t.0.now t.1 t.2) };
+// The row of a router that a look-up found, if it found one: words, or members.
+impl fmt::Display for Told<'_, (u16, Option<(Prefix, Entry)>)> {
+    ghost output = { λ t. Some (in_format t.0.format
+        (found_text t.0.directory.now t.1.0 t.1.1) (found_json t.0.directory.now t.1.0 t.1.1)) };
 
     fn fmt<W: fmt::Write>(&self, f: &mut fmt::Formatter<W>) -> fmt::Result {
-        let FoundJson(directory, router, found) = *self;
+        let Told(by, (router, found)) = *self;
         match found {
-            None => write!(f, "\"prefix\":null,\"entry\":null"),
+            None => write_either!(f, by; "none", "\"prefix\":null,\"entry\":null"),
             Some((prefix, entry)) => {
-                let entry = EntryJson(directory, router, entry);
-                write!(f, "\"prefix\":\"{prefix}\",{entry}")
+                let entry = Told(by, (router, entry));
+                write_either!(f, by; "{prefix} {entry}", "\"prefix\":\"{prefix}\",{entry}")
             }
         }
     }
 }
 
-// The members of an answer.
-#[derive(Clone, Copy)]
-struct AnswerJson<'a>(&'a Directory, Answer);
-
-impl fmt::Display for AnswerJson<'_> {
-    ghost output = { λ t. Some (answer_json t.0.now t.1) };
+// A router, an address, and what the router found for it: words, or members.
+impl fmt::Display for Told<'_, Answer> {
+    ghost output = { λ t. Some (in_format t.0.format
+        (answer_text t.0.directory.now t.1) (answer_json t.0.directory.now t.1)) };
 
     fn fmt<W: fmt::Write>(&self, f: &mut fmt::Formatter<W>) -> fmt::Result {
-        let AnswerJson(directory, answer) = *self;
-        let name = directory.name(Some(answer.router));
-        let addr = Addr(answer.addr);
-        let found = FoundJson(directory, answer.router, answer.found);
-        write!(f, "\"router\":\"{name}\",\"address\":\"{addr}\",{found}")
+        let Told(by, answer) = *self;
+        let name = by.directory.name(Some(answer.router));
+        let (addr, found) = (Addr(answer.addr), Told(by, (answer.router, answer.found)));
+        write_either!(f, by;
+            "{name} {addr}: {found}",
+            "\"router\":\"{name}\",\"address\":\"{addr}\",{found}")
     }
 }
 
-// A line for people.
-#[derive(Clone, Copy)]
-pub(crate) struct AskedText<'a>(pub &'a Directory, pub Asked);
-
-impl fmt::Display for AskedText<'_> {
-    ghost output = { λ t. Some (asked_text t.0.now t.1) };
+impl fmt::Display for Told<'_, Asked> {
+    ghost output = { λ t. Some (in_format t.0.format
+        (asked_text t.0.directory.now t.1) (asked_json t.0.directory.now t.1)) };
 
     fn fmt<W: fmt::Write>(&self, f: &mut fmt::Formatter<W>) -> fmt::Result {
-        let AskedText(directory, asked) = *self;
+        let Told(by, asked) = *self;
         match asked {
             Asked::Row {
                 router,
                 prefix,
                 entry,
             } => {
-                let name = directory.name(Some(router));
-                let entry = EntryText(directory, router, entry);
-                write!(f, "{name} {prefix} {entry}")
-            }
-            Asked::Lookup(answer) => write!(f, "lookup {}", AnswerText(directory, answer)),
-            Asked::Packet(number, answer) => {
-                let answer = AnswerText(directory, answer);
-                write!(f, "packet {number} {answer}")
-            }
-        }
-    }
-}
-
-// A line as an object of JSON.
-#[derive(Clone, Copy)]
-pub(crate) struct AskedJson<'a>(pub &'a Directory, pub Asked);
-
-impl fmt::Display for AskedJson<'_> {
-    ghost output = { λ t. Some (asked_json t.0.now t.1) };
-
-    fn fmt<W: fmt::Write>(&self, f: &mut fmt::Formatter<W>) -> fmt::Result {
-        let AskedJson(directory, asked) = *self;
-        match asked {
-            Asked::Row {
-                router,
-                prefix,
-                entry,
-            } => {
-                let name = directory.name(Some(router));
-                let found = FoundJson(directory, router, Some((prefix, entry)));
-                write!(f, "{{\"kind\":\"row\",\"router\":\"{name}\",{found}}}")
+                let name = by.directory.name(Some(router));
+                let row = Told(by, (router, Some((prefix, entry))));
+                write_either!(f, by;
+                    "{name} {row}",
+                    "{{\"kind\":\"row\",\"router\":\"{name}\",{row}}}")
             }
             Asked::Lookup(answer) => {
-                let answer = AnswerJson(directory, answer);
-                write!(f, "{{\"kind\":\"lookup\",{answer}}}")
+                let answer = Told(by, answer);
+                write_either!(f, by; "lookup {answer}", "{{\"kind\":\"lookup\",{answer}}}")
             }
             Asked::Packet(number, answer) => {
-                let answer = AnswerJson(directory, answer);
-                write!(f, "{{\"kind\":\"packet\",\"job\":{number},{answer}}}")
+                let answer = Told(by, answer);
+                write_either!(f, by;
+                    "packet {number} {answer}",
+                    "{{\"kind\":\"packet\",\"job\":{number},{answer}}}")
             }
         }
     }
@@ -177,58 +140,24 @@ fn through_member(through: bool) -> &'static str
     if through { "\"through\":true," } else { "" }
 }
 
-// A trace from a router for an address, whether it goes on whichever prefixes match, the routers that the packet
-// passes, and why it ends: `trace A ADDR: NAMES END`, with the names of the routers on its path, each followed by
-// a space, and `delivered`, `no route`, `unreachable`, `dead link` or `crossed`; with ` --through` after the
-// address where it is a trace through.
-#[derive(Clone, Copy)]
-pub(crate) struct TraceText<'a>(
-    pub &'a Directory,
-    pub u16,
-    pub u32,
-    pub bool,
-    pub &'a [u16],
-    pub Ending,
-);
-
-impl fmt::Display for TraceText<'_> {
-    ghost output = { λ t. Some (trace_text t.0.now t.1 t.2 t.3 t.4.now t.5) };
+// `trace A ADDR: NAMES END`, with the names of the routers on its path, each followed by a space, and `delivered`,
+// `no route`, `unreachable`, `dead link` or `crossed`; with ` --through` after the address where it is a trace through.
+impl fmt::Display for Told<'_, TraceLine<'_>> {
+    ghost output = { λ t. Some (in_format t.0.format
+        (trace_text t.0.directory.now t.1.router t.1.addr t.1.through t.1.path.now t.1.end)
+        (trace_json t.0.directory.now t.1.router t.1.addr t.1.through t.1.path.now t.1.end)) };
 
     fn fmt<W: fmt::Write>(&self, f: &mut fmt::Formatter<W>) -> fmt::Result {
-        let TraceText(directory, router, addr, through, path, end) = *self;
-        let name = directory.name(Some(router));
-        let addr = Addr(addr);
-        let option = through_words(through);
-        let path = EachName(directory, "", " ", path);
-        let end = end_words(end);
-        write!(f, "trace {name} {addr}{option}: {path}{end}")
-    }
-}
-
-// The same as an object of JSON.
-#[derive(Clone, Copy)]
-pub(crate) struct TraceJson<'a>(
-    pub &'a Directory,
-    pub u16,
-    pub u32,
-    pub bool,
-    pub &'a [u16],
-    pub Ending,
-);
-
-impl fmt::Display for TraceJson<'_> {
-    ghost output = { λ t. Some (trace_json t.0.now t.1 t.2 t.3 t.4.now t.5) };
-
-    fn fmt<W: fmt::Write>(&self, f: &mut fmt::Formatter<W>) -> fmt::Result {
-        let TraceJson(directory, router, addr, through, path, end) = *self;
-        let name = directory.name(Some(router));
-        let addr = Addr(addr);
-        let member = through_member(through);
-        let path = NamesJson(directory, path);
-        let end = end_words(end);
-        write!(
-            f,
-            "{{\"kind\":\"trace\",\"router\":\"{name}\",\"address\":\"{addr}\",{member}\"path\":[{path}],\"end\":\"{end}\"}}"
-        )
+        let Told(by, line) = *self;
+        let name = by.directory.name(Some(line.router));
+        let addr = Addr(line.addr);
+        let option = through_words(line.through);
+        let member = through_member(line.through);
+        let passed = EachName(by.directory, "", " ", line.path);
+        let path = NamesJson(by.directory, line.path);
+        let end = end_words(line.end);
+        write_either!(f, by;
+            "trace {name} {addr}{option}: {passed}{end}",
+            "{{\"kind\":\"trace\",\"router\":\"{name}\",\"address\":\"{addr}\",{member}\"path\":[{path}],\"end\":\"{end}\"}}")
     }
 }

@@ -1,14 +1,15 @@
 //! What became of steps.
 
 ghost use Rattle.std.specs.Prelude.{Some};
-ghost use Rattle.lines.specs.Texts.{counts_text, ended_text, next_text};
-ghost use Rattle.lines.specs.Objects.{counts_json, ended_json, next_json};
+ghost use Rattle.lines.specs.Formats.{in_format};
+ghost use Rattle.lines.specs.Texts.{counts_text, ended_text, next_text, tried_text};
+ghost use Rattle.lines.specs.Objects.{counts_json, ended_json, next_json, tried_json};
 
+use crate::told::Told;
 use course::Sent;
 use faults::FaultKind;
 use journal::StepText;
 use network_model::{LinkSpec, Step};
-use script::Directory;
 use std::fmt;
 
 /// How many steps were done, and how many messages of each kind they put on links.
@@ -41,44 +42,6 @@ impl Counts {
     }
 }
 
-impl fmt::Display for Counts {
-    ghost output = { λ t. Some (counts_text t) };
-
-    fn fmt<W: fmt::Write>(&self, f: &mut fmt::Formatter<W>) -> fmt::Result {
-        let steps = self.steps;
-        let Sent {
-            updates,
-            queries,
-            replies,
-        } = self.sent;
-        write!(
-            f,
-            "{steps} steps, {updates} updates {queries} queries {replies} replies"
-        )
-    }
-}
-
-/// The same as members of an object of JSON.
-#[derive(Clone, Copy)]
-pub struct CountsJson(pub Counts);
-
-impl fmt::Display for CountsJson {
-    ghost output = { λ t. Some (counts_json t.0) };
-
-    fn fmt<W: fmt::Write>(&self, f: &mut fmt::Formatter<W>) -> fmt::Result {
-        let steps = self.0.steps;
-        let Sent {
-            updates,
-            queries,
-            replies,
-        } = self.0.sent;
-        write!(
-            f,
-            "\"steps\":{steps},\"updates\":{updates},\"queries\":{queries},\"replies\":{replies}"
-        )
-    }
-}
-
 /// How a run or a replay ended.
 #[derive(Clone, Copy)]
 pub enum Ended {
@@ -94,106 +57,89 @@ pub enum Ended {
     Refused { step: usize, fault: FaultKind },
 }
 
-// What a router has to do next, in a network of these links.
+/// What a router has to do next, in a network of these links.
 #[derive(Clone, Copy)]
-pub(crate) struct NextText<'a>(
-    pub &'a Directory,
-    pub &'a [LinkSpec],
-    pub u16,
-    pub Option<Step>,
-);
+pub struct NextLine<'a> {
+    pub router: u16,
+    pub links: &'a [LinkSpec],
+    pub step: Option<Step>,
+}
 
-impl fmt::Display for NextText<'_> {
-    ghost output = { λ t. Some (next_text t.0.now t.1.now t.2 t.3) };
+impl fmt::Display for Told<'_, NextLine<'_>> {
+    ghost output = { λ t. Some (in_format t.0.format
+        (next_text t.0.directory.now t.1.links.now t.1.router t.1.step)
+        (next_json t.0.directory.now t.1.links.now t.1.router t.1.step)) };
 
     fn fmt<W: fmt::Write>(&self, f: &mut fmt::Formatter<W>) -> fmt::Result {
-        let NextText(directory, links, router, step) = *self;
-        let name = directory.name(Some(router));
-        match step {
+        let Told(by, line) = *self;
+        let name = by.directory.name(Some(line.router));
+        match line.step {
             Some(step) => {
-                let step = StepText(directory, links, step);
-                write!(f, "next {name}: {step}")
+                let step = StepText(by.directory, line.links, step);
+                write_either!(f, by;
+                    "next {name}: {step}",
+                    "{{\"kind\":\"next\",\"router\":\"{name}\",\"step\":\"{step}\"}}")
             }
-            None => write!(f, "next {name}: nothing"),
+            None => write_either!(f, by;
+                "next {name}: nothing",
+                "{{\"kind\":\"next\",\"router\":\"{name}\",\"step\":null}}"),
         }
     }
 }
 
-// The same as an object of JSON.
-#[derive(Clone, Copy)]
-pub(crate) struct NextJson<'a>(
-    pub &'a Directory,
-    pub &'a [LinkSpec],
-    pub u16,
-    pub Option<Step>,
-);
-
-impl fmt::Display for NextJson<'_> {
-    ghost output = { λ t. Some (next_json t.0.now t.1.now t.2 t.3) };
+// Why a step that was tried was refused, if it was.
+impl fmt::Display for Told<'_, Option<FaultKind>> {
+    ghost output = { λ t. Some (in_format t.0.format (tried_text t.1) (tried_json t.1)) };
 
     fn fmt<W: fmt::Write>(&self, f: &mut fmt::Formatter<W>) -> fmt::Result {
-        let NextJson(directory, links, router, step) = *self;
-        let name = directory.name(Some(router));
-        match step {
-            Some(step) => {
-                let step = StepText(directory, links, step);
-                write!(
-                    f,
-                    "{{\"kind\":\"next\",\"router\":\"{name}\",\"step\":\"{step}\"}}"
-                )
-            }
-            None => write!(
-                f,
-                "{{\"kind\":\"next\",\"router\":\"{name}\",\"step\":null}}"
-            ),
+        let Told(by, fault) = *self;
+        match fault {
+            None => write_either!(f, by; "done", "{{\"kind\":\"try\",\"refused\":null}}"),
+            Some(fault) => write_either!(f, by;
+                "refused {fault}",
+                "{{\"kind\":\"try\",\"refused\":\"{fault}\"}}"),
         }
     }
 }
 
-// How a run or a replay ended.
-#[derive(Clone, Copy)]
-pub(crate) struct EndedText(pub Ended);
-
-impl fmt::Display for EndedText {
-    ghost output = { λ t. Some (ended_text t.0) };
+// Words, or members.
+impl fmt::Display for Told<'_, Counts> {
+    ghost output = { λ t. Some (in_format t.0.format (counts_text t.1) (counts_json t.1)) };
 
     fn fmt<W: fmt::Write>(&self, f: &mut fmt::Formatter<W>) -> fmt::Result {
-        match self.0 {
-            Ended::Done { steps } => write!(f, "done: {steps} steps"),
-            Ended::Agrees { steps } => write!(f, "replay agrees: {steps} steps"),
-            Ended::StepsDone { steps } => write!(f, "replay done: {steps} steps"),
-            Ended::Differs { line } => write!(f, "replay differs: report line {line}"),
-            Ended::Refused { step, fault } => write!(f, "step {step} refused: {fault}"),
-        }
+        let Told(by, Counts { steps, sent }) = *self;
+        let Sent {
+            updates,
+            queries,
+            replies,
+        } = sent;
+        write_either!(f, by;
+            "{steps} steps, {updates} updates {queries} queries {replies} replies",
+            "\"steps\":{steps},\"updates\":{updates},\"queries\":{queries},\"replies\":{replies}")
     }
 }
 
-// The same as an object of JSON.
-#[derive(Clone, Copy)]
-pub(crate) struct EndedJson(pub Ended);
-
-impl fmt::Display for EndedJson {
-    ghost output = { λ t. Some (ended_json t.0) };
+impl fmt::Display for Told<'_, Ended> {
+    ghost output = { λ t. Some (in_format t.0.format (ended_text t.1) (ended_json t.1)) };
 
     fn fmt<W: fmt::Write>(&self, f: &mut fmt::Formatter<W>) -> fmt::Result {
-        match self.0 {
-            Ended::Done { steps } => write!(f, "{{\"kind\":\"done\",\"steps\":{steps}}}"),
-            Ended::Agrees { steps } => write!(
-                f,
-                "{{\"kind\":\"replay\",\"result\":\"agrees\",\"steps\":{steps}}}"
-            ),
-            Ended::StepsDone { steps } => write!(
-                f,
-                "{{\"kind\":\"replay\",\"result\":\"done\",\"steps\":{steps}}}"
-            ),
-            Ended::Differs { line } => write!(
-                f,
-                "{{\"kind\":\"replay\",\"result\":\"differs\",\"report_line\":{line}}}"
-            ),
-            Ended::Refused { step, fault } => write!(
-                f,
-                "{{\"kind\":\"replay\",\"result\":\"refused\",\"step\":{step},\"refused\":\"{fault}\"}}"
-            ),
+        let Told(by, ended) = *self;
+        match ended {
+            Ended::Done { steps } => write_either!(f, by;
+                "done: {steps} steps",
+                "{{\"kind\":\"done\",\"steps\":{steps}}}"),
+            Ended::Agrees { steps } => write_either!(f, by;
+                "replay agrees: {steps} steps",
+                "{{\"kind\":\"replay\",\"result\":\"agrees\",\"steps\":{steps}}}"),
+            Ended::StepsDone { steps } => write_either!(f, by;
+                "replay done: {steps} steps",
+                "{{\"kind\":\"replay\",\"result\":\"done\",\"steps\":{steps}}}"),
+            Ended::Differs { line } => write_either!(f, by;
+                "replay differs: report line {line}",
+                "{{\"kind\":\"replay\",\"result\":\"differs\",\"report_line\":{line}}}"),
+            Ended::Refused { step, fault } => write_either!(f, by;
+                "step {step} refused: {fault}",
+                "{{\"kind\":\"replay\",\"result\":\"refused\",\"step\":{step},\"refused\":\"{fault}\"}}"),
         }
     }
 }

@@ -1,8 +1,8 @@
 //! Prints why a machine is at what it is at.
 
 use crate::line::Line;
-use crate::printer::Printer;
-use crate::reasons::Known;
+use crate::reasons::{AwaitsLine, Known, KnownLine};
+use crate::told::Printer;
 use diffusing_replies::PortSet;
 use dual_machine::{Machine, Mode};
 use ipv4_prefix::Prefix;
@@ -50,12 +50,12 @@ fn print_known<W: Write>(
     known: Known,
     out: &mut W,
 ) -> io::Result<()> {
-    let line = Line::Known {
+    let line = KnownLine {
         router,
         prefix,
         known,
     };
-    printer.print(&line, out)
+    printer.print(&Line::Known(line), out)
 }
 
 // Prints whose replies are awaited, by ascending port.
@@ -77,12 +77,12 @@ fn print_awaited<W: Write>(
             count = count.saturating_add(1);
         }
     }
-    let line = Line::Awaits {
+    let line = AwaitsLine {
         router: number,
         prefix,
         neighbours: &neighbours[..count.min(32)],
     };
-    printer.print(&line, out)
+    printer.print(&Line::Awaits(line), out)
 }
 
 // Prints what is known of each neighbour.

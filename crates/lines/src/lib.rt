@@ -3,7 +3,7 @@
 //! A run, a shell and a replay print the same lines, and a journal keeps some of them. If each wrote its own, a
 //! replay could not compare them, so what a line tells of a network is read from it here. A text for people is
 //! hard to read by programs, so each line can be printed as JSON, too. A line is therefore a value ([`Line`]),
-//! made once, and there are two renderings of it:
+//! made once, and there are two renderings of it ([`Told`]), which stand side by side:
 //!
 //! ```text
 //!   Line::Asked(Asked::Row { .. })        Text  b 10.0.0.0/8 via a 1
@@ -56,35 +56,41 @@
 //! debt to a port without a neighbour is told as none.
 #![tactic(auto)]
 
+// Writes the first text if lines are told for people, and the second if they are told as JSON.
+macro_rules! write_either {
+    ($f:ident, $by:ident; $text:literal, $json:literal) => {
+        match $by.format {
+            command_line::Format::Text => write!($f, $text),
+            command_line::Format::Json => write!($f, $json),
+        }
+    };
+}
+
 mod answers;
 mod ends;
 mod explained;
-mod json;
 mod line;
 mod moved;
-mod printer;
 mod queues;
 mod reasons;
 mod records;
 mod report;
 mod states;
 mod table;
-mod text;
+mod told;
 mod values;
 mod waiting;
 
-pub use answers::{Answer, Asked};
-pub use ends::{Counts, CountsJson, Ended};
-pub use json::Json;
+pub use answers::{Answer, Asked, TraceLine};
+pub use ends::{Counts, Ended, NextLine};
 pub use line::Line;
 pub use moved::moved_by;
-pub use printer::{Printer, print_either};
 pub use queues::{queue_at, show_held, show_next, show_queue};
-pub use reasons::Known;
+pub use reasons::{AwaitsLine, Known, KnownLine};
 pub use records::{LinkState, MachineState, RouterState};
 pub use report::{print_report, print_state};
 pub use states::{LinkLine, MachineLine, RouterLine, State};
 pub use table::show_table;
-pub use text::Text;
+pub use told::{Printer, Told, print_either};
 pub use values::kind_words;
 pub use waiting::Waiting;

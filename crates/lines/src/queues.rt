@@ -10,9 +10,10 @@ ghost use Rattle.lines.specs.declared.line.Line.TheVariants.{Next};
 ghost use Rattle.lines.specs.Formats.{line_in};
 ghost use Rattle.lines.specs.Waiting.{held_lines, noticed_lines, queued_lines};
 
+use crate::ends::NextLine;
 use crate::line::Line;
-use crate::printer::Printer;
 use crate::report::known_router;
+use crate::told::Printer;
 use crate::waiting::Waiting;
 use link_fifo::Links;
 use metric::Cost;
@@ -48,15 +49,15 @@ fn print_next<W: Write>(
 ) -> io::Result<()>
     ensures { OnOk result (Appends (W.contents out.old) (W.contents out.new)
         (line_in printer.now.format printer.now.directory.now
-        (Next router links.entry (turns.next_step world.now router)) ++ 10 ∷ [])) }
+        (Next (record { router = router; links = links.entry; step = turns.next_step world.now router })) ++ 10 ∷ [])) }
 {
     let step = world.next_step(router);
-    let next = Line::Next {
+    let next = NextLine {
         router,
         links,
         step,
     };
-    printer.print(&next, out)
+    printer.print(&Line::Next(next), out)
 }
 
 /// Prints what a router has yet to take from a port, oldest first, a line each: items of a link, or, at

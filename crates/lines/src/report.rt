@@ -6,9 +6,9 @@ ghost use Rattle.lines.specs.Report.{link_line as line_of_link, IsMachineLine, P
 
 use crate::explained::print_reasons;
 use crate::line::Line;
-use crate::printer::Printer;
 use crate::records::{LinkState, MachineState, RouterState};
 use crate::states::{LinkLine, MachineLine, RouterLine, State};
+use crate::told::Printer;
 use ipv4_prefix::Prefix;
 use link_fifo::Links;
 use network_model::{End, Refusal};

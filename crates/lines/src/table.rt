@@ -7,8 +7,8 @@ ghost use Rattle.lines.specs.Report.{rows_text, unknown_router};
 
 use crate::answers::Asked;
 use crate::line::Line;
-use crate::printer::Printer;
 use crate::report::known_router;
+use crate::told::Printer;
 use network_model::Refusal;
 use route_table::RouteTable;
 use std::io;

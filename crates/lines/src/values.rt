@@ -1,9 +1,12 @@
 //! Values in lines.
 
 ghost use Rattle.std.specs.Prelude.{◌≡◌, Some};
+ghost use Rattle.metric.specs.Distance.{distance_text};
+ghost use Rattle.lines.specs.Formats.{in_format};
 ghost use Rattle.lines.specs.Texts.{each_name, entry_text, kind_text};
 ghost use Rattle.lines.specs.Objects.{distance_json, entry_json, names_json};
 
+use crate::told::Told;
 use metric::{Distance, Kind};
 use network_model::Entry;
 use script::Directory;
@@ -62,60 +65,35 @@ impl fmt::Display for NamesJson<'_> {
     }
 }
 
-// Where an entry of a router leads.
-#[derive(Clone, Copy)]
-pub(crate) struct EntryText<'a>(pub &'a Directory, pub u16, pub Entry);
-
-impl fmt::Display for EntryText<'_> {
-    ghost output = { λ t. Some (entry_text t.0.now t.1 t.2) };
+// Where an entry of a router leads: words, or members.
+impl fmt::Display for Told<'_, (u16, Entry)> {
+    ghost output = { λ t. Some (in_format t.0.format
+        (entry_text t.0.directory.now t.1.0 t.1.1) (entry_json t.0.directory.now t.1.0 t.1.1)) };
 
     fn fmt<W: fmt::Write>(&self, f: &mut fmt::Formatter<W>) -> fmt::Result {
-        let EntryText(directory, router, entry) = *self;
+        let Told(by, (router, entry)) = *self;
         match entry {
-            Entry::Local => write!(f, "local"),
+            Entry::Local => write_either!(f, by; "local", "\"entry\":\"local\""),
             Entry::Via { port, session } => {
-                let name = directory.name(directory.neighbour(router, port));
-                write!(f, "via {name} {session}")
+                let name = by.directory.name(by.directory.neighbour(router, port));
+                write_either!(f, by;
+                    "via {name} {session}",
+                    "\"entry\":\"via\",\"neighbour\":\"{name}\",\"session\":{session}")
             }
-            Entry::Unreachable => write!(f, "unreachable"),
+            Entry::Unreachable => write_either!(f, by; "unreachable", "\"entry\":\"unreachable\""),
         }
     }
 }
 
-// The same as members of an object of JSON.
-#[derive(Clone, Copy)]
-pub(crate) struct EntryJson<'a>(pub &'a Directory, pub u16, pub Entry);
-
-impl fmt::Display for EntryJson<'_> {
-    ghost output = { λ t. Some (entry_json t.0.now t.1 t.2) };
+// A distance, which is null in JSON if it is infinite.
+impl fmt::Display for Told<'_, Distance> {
+    ghost output = { λ t. Some (in_format t.0.format (distance_text t.1) (distance_json t.1)) };
 
     fn fmt<W: fmt::Write>(&self, f: &mut fmt::Formatter<W>) -> fmt::Result {
-        let EntryJson(directory, router, entry) = *self;
-        match entry {
-            Entry::Local => write!(f, "\"entry\":\"local\""),
-            Entry::Via { port, session } => {
-                let name = directory.name(directory.neighbour(router, port));
-                write!(
-                    f,
-                    "\"entry\":\"via\",\"neighbour\":\"{name}\",\"session\":{session}"
-                )
-            }
-            Entry::Unreachable => write!(f, "\"entry\":\"unreachable\""),
+        let Told(by, distance) = *self;
+        if distance.is_infinite() {
+            return write_either!(f, by; "{distance}", "null");
         }
-    }
-}
-
-// A distance in JSON.
-#[derive(Clone, Copy)]
-pub(crate) struct DistanceJson(pub Distance);
-
-impl fmt::Display for DistanceJson {
-    ghost output = { λ t. Some (distance_json t.0) };
-
-    fn fmt<W: fmt::Write>(&self, f: &mut fmt::Formatter<W>) -> fmt::Result {
-        if self.0.is_infinite() {
-            return write!(f, "null");
-        }
-        write!(f, "{}", self.0)
+        write!(f, "{distance}")
     }
 }

@@ -1,9 +1,10 @@
 //! Lines with numbers that no run reaches.
 
 use crate::written::is_written;
+use command_line::Format;
 use lines::{
-    Answer, Asked, Json, Line, LinkLine, LinkState, MachineLine, MachineState, RouterLine,
-    RouterState, State, Text,
+    Answer, Asked, Line, LinkLine, LinkState, MachineLine, MachineState, Printer, RouterLine,
+    RouterState, State, Told,
 };
 use metric::{Cost, Distance};
 use network_model::{Entry, Prefix};
@@ -24,8 +25,10 @@ fn is_line(
     text: &str,
     object: &str,
 ) {
-    is_written(rt, alloc, &Text { directory, line }, text);
-    is_written(rt, alloc, &Json { directory, line }, object);
+    for (format, wanted) in [(Format::Text, text), (Format::Json, object)] {
+        let printer = Printer { directory, format };
+        is_written(rt, alloc, &Told(printer, *line), wanted);
+    }
 }
 
 const ROUTER: RouterLine = RouterLine {

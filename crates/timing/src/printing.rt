@@ -3,7 +3,7 @@
 use crate::snapshot::{Begun, Snapshot};
 use crate::tally::{Span, Tally, began_in, count_spells};
 use journal::StepText;
-use lines::{Counts, CountsJson, Printer, print_either};
+use lines::{Counts, Printer, Told, print_either};
 use network_model::{LinkSpec, Refusal};
 use std::fmt;
 use std::io::Write;
@@ -84,7 +84,7 @@ fn print_effect<W: Write>(
     let rest = after.now.saturating_sub(moment);
     let effect = Effect {
         rest: if after.rests { Some(rest) } else { None },
-        counts: after.counts.since(before.counts),
+        counts: Told(*printer, after.counts.since(before.counts)),
         spells,
     };
     let json = EffectJson(effect);
@@ -136,13 +136,13 @@ fn print_spell<W: Write>(printer: &Printer<'_>, kind: &str, spell: &Spell, out: 
 // What came of a change: how much later the network was at rest, if it was; what was done until then; and of the
 // computations and the outages that began meanwhile how many there were, and the longest, where they are recorded.
 #[derive(Clone, Copy)]
-struct Effect {
+struct Effect<'a> {
     rest: Option<u64>,
-    counts: Counts,
+    counts: Told<'a, Counts>,
     spells: Option<(Tally, Tally)>,
 }
 
-impl fmt::Display for Effect {
+impl fmt::Display for Effect<'_> {
     fn fmt<W: fmt::Write>(&self, f: &mut fmt::Formatter<W>) -> fmt::Result {
         match self.rest {
             Some(rest) => write!(f, "at rest {rest} later, {}", self.counts)?,
@@ -163,11 +163,11 @@ impl fmt::Display for Effect {
 
 // The same as members of an object of JSON.
 #[derive(Clone, Copy)]
-struct EffectJson(Effect);
+struct EffectJson<'a>(Effect<'a>);
 
-impl fmt::Display for EffectJson {
+impl fmt::Display for EffectJson<'_> {
     fn fmt<W: fmt::Write>(&self, f: &mut fmt::Formatter<W>) -> fmt::Result {
-        let counts = CountsJson(self.0.counts);
+        let counts = self.0.counts;
         match self.0.rest {
             Some(rest) => write!(f, "\"rest\":{rest},{counts}")?,
             None => write!(f, "\"rest\":null,{counts}")?,

@@ -1,0 +1,75 @@
+//! Lines as they are told: as text for people, or as objects of JSON.
+
+ghost use Rattle.std.specs.Prelude.{◌∷◌, ◌++◌, [], IfSome, OnOk, Some};
+ghost use Rattle.std.specs.Fmt.{with_newline};
+ghost use Rattle.std.specs.Io.KnownBytes.{Appends};
+ghost use Rattle.lines.specs.Formats.{in_format, line_in};
+
+use crate::line::Line;
+use command_line::Format;
+use script::Directory;
+use std::io::Write;
+use std::{fmt, io};
+
+/// How lines are told: by the names of a network's routers, in a format.
+#[derive(Clone, Copy)]
+pub struct Printer<'a> {
+    pub directory: &'a Directory,
+    pub format: Format,
+}
+
+impl Printer<'_> {
+    /// Prints a line.
+    pub fn print<W: Write>(&self, line: &Line<'_>, out: &mut W) -> io::Result<()>
+        ensures { OnOk result (Appends (W.contents out.old) (W.contents out.new)
+            (line_in self.now.format self.now.directory.now line.now ++ 10 ∷ [])) }
+    {
+        writeln!(out, "{}", Told(*self, *line))
+    }
+}
+
+/// Prints what is no [`Line`] in the format: this text, or this object of JSON.
+pub fn print_either<T, J, W>(format: Format, text: T, json: J, out: &mut W) -> io::Result<()>
+where
+    T: fmt::Display + Drop,
+    J: fmt::Display + Drop,
+    W: Write,
+    ensures { OnOk result (IfSome (with_newline (in_format format (T.output text) (J.output json)))
+        (Appends (W.contents out.old) (W.contents out.new))) }
+{
+    match format {
+        Format::Text => writeln!(out, "{text}"),
+        Format::Json => writeln!(out, "{json}"),
+    }
+}
+
+/// A line as it is told, or a part of one.
+#[derive(Clone, Copy)]
+pub struct Told<'a, T>(pub Printer<'a>, pub T);
+
+impl fmt::Display for Told<'_, Line<'_>> {
+    ghost output = { λ t. Some (line_in t.0.format t.0.directory.now t.1) };
+
+    fn fmt<W: fmt::Write>(&self, f: &mut fmt::Formatter<W>) -> fmt::Result {
+        let Told(by, line) = *self;
+        match line {
+            Line::Asked(asked) => write!(f, "{}", Told(by, asked)),
+            Line::Traced(line) => write!(f, "{}", Told(by, line)),
+            Line::State(state) => write!(f, "{}", Told(by, state)),
+            Line::Awaits(line) => write!(f, "{}", Told(by, line)),
+            Line::Known(line) => write!(f, "{}", Told(by, line)),
+            Line::Waiting(waiting) => write!(f, "{}", Told(by, waiting)),
+            Line::Moved(waiting) => {
+                let moved = Told(by, waiting);
+                write_either!(f, by; "  {moved}", "{moved}")
+            }
+            Line::Next(line) => write!(f, "{}", Told(by, line)),
+            Line::Tried(fault) => write!(f, "{}", Told(by, fault)),
+            Line::Counted(counts) => {
+                let counts = Told(by, counts);
+                write_either!(f, by; "count: {counts}", "{{\"kind\":\"count\",{counts}}}")
+            }
+            Line::Ended(ended) => write!(f, "{}", Told(by, ended)),
+        }
+    }
+}
