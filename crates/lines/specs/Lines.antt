@@ -2,10 +2,10 @@
 use Rattle.std.specs.Prelude.{◌++◌, codes}
 use Rattle.texts.specs.Words.{Text}
 use Rattle.script.specs.Directories.{Directory}
-use Rattle.lines.specs.Texts.{asked_text, awaits_text, counts_text, ended_text, known_text, next_text, state_text, trace_text, tried_text, waiting_text}
-use Rattle.lines.specs.Objects.{asked_json, awaits_json, counts_json, ended_json, known_json, next_json, state_json, trace_json, tried_json, waiting_json}
+use Rattle.lines.specs.Texts.{asked_text, awaits_text, change_text, counts_text, ended_text, known_text, next_text, spell_text, state_text, trace_text, tried_text, waiting_text}
+use Rattle.lines.specs.Objects.{asked_json, awaits_json, change_json, counts_json, ended_json, known_json, next_json, spell_json, state_json, trace_json, tried_json, waiting_json}
 use Rattle.lines.specs.declared.line.Line.{Line}
-use Rattle.lines.specs.declared.line.Line.TheVariants.{Asked, Traced, State, Awaits, Known, Waiting, Moved, Next, Tried, Counted, Ended}
+use Rattle.lines.specs.declared.line.Line.TheVariants.{Asked, Traced, State, Awaits, Known, Waiting, Moved, Next, Tried, Counted, Ended, Changed, Spell}
 
 -- a line for people
 abbrev pub line_text : Directory → Line → Text
@@ -20,6 +20,8 @@ line_text d (Next n) = next_text d (n.links).now n.router n.step
 line_text d (Tried fault) = tried_text fault
 line_text d (Counted counts) = codes "count: " ++ counts_text counts
 line_text d (Ended ended) = ended_text ended
+line_text d (Changed c) = change_text d c
+line_text d (Spell s) = spell_text d s
 
 -- the same as an object of JSON
 abbrev pub line_json : Directory → Line → Text
@@ -34,3 +36,5 @@ line_json d (Next n) = next_json d (n.links).now n.router n.step
 line_json d (Tried fault) = tried_json fault
 line_json d (Counted counts) = codes "{\"kind\":\"count\"," ++ counts_json counts ++ codes "}"
 line_json d (Ended ended) = ended_json ended
+line_json d (Changed c) = change_json d c
+line_json d (Spell s) = spell_json d s

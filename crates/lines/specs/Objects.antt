@@ -1,5 +1,5 @@
 -- Lines of JSON, each an object with no spaces between its parts. Names are small letters and digits, prefixes and addresses digits, dots and slashes: no text needs an escape.
-use Rattle.std.specs.Prelude.{ℕ, Bool, true, false, ◌==◌, if◌then◌else◌, List, [], ◌∷◌, ◌++◌, Option, Some, None, codes, decimal}
+use Rattle.std.specs.Prelude.{ℕ, Bool, true, false, ◌==◌, if◌then◌else◌, List, [], ◌∷◌, ◌++◌, Option, Some, None, Result, Ok, Err, codes, decimal}
 use Rattle.faults.specs.declared.kind.FaultKind.{FaultKind}
 use Rattle.metric.specs.Distance.{infinity}
 use Rattle.ipv4_prefix.specs.Prefix.{Prefix}
@@ -31,7 +31,11 @@ use Rattle.lines.specs.declared.waiting.Waiting.{Waiting}
 use Rattle.lines.specs.declared.waiting.Waiting.TheVariants.{Queued, Noticed, Kept}
 use Rattle.lines.specs.declared.ends.Counts.{Counts}
 use Rattle.lines.specs.declared.ends.Ended.{Ended}
-use Rattle.lines.specs.declared.ends.Ended.TheVariants.{Done, Agrees, StepsDone, Differs, Refused}
+use Rattle.lines.specs.declared.ends.Ended.TheVariants.{Done, AtRest, Agrees, StepsDone, Differs, Refused}
+use Rattle.lines.specs.declared.times.Tally.{Tally}
+use Rattle.lines.specs.declared.times.Effect.{Effect}
+use Rattle.lines.specs.declared.times.ChangeLine.{ChangeLine}
+use Rattle.lines.specs.declared.times.SpellLine.{SpellLine}
 
 -- ---- values
 
@@ -210,8 +214,44 @@ counts_json c =
 -- how a run or a replay ended
 abbrev pub ended_json : Ended → Text
 ended_json (Done steps) = codes "{\"kind\":\"done\",\"steps\":" ++ decimal steps ++ codes "}"
+ended_json (AtRest steps moment) = codes "{\"kind\":\"rest\",\"steps\":" ++ decimal steps ++ codes ",\"moment\":" ++ decimal moment ++ codes "}"
 ended_json (Agrees steps) = codes "{\"kind\":\"replay\",\"result\":\"agrees\",\"steps\":" ++ decimal steps ++ codes "}"
 ended_json (StepsDone steps) = codes "{\"kind\":\"replay\",\"result\":\"done\",\"steps\":" ++ decimal steps ++ codes "}"
 ended_json (Differs line) = codes "{\"kind\":\"replay\",\"result\":\"differs\",\"report_line\":" ++ decimal line ++ codes "}"
 ended_json (Refused step fault) =
     codes "{\"kind\":\"replay\",\"result\":\"refused\",\"step\":" ++ decimal step ++ codes ",\"refused\":\"" ++ fault_text fault ++ codes "\"}"
+
+-- ---- simulated time
+
+-- how much later a network was at rest, if it was
+abbrev pub rest_json : Option ℕ → Text
+rest_json None = codes "\"rest\":null"
+rest_json (Some rest) = codes "\"rest\":" ++ decimal rest
+
+-- how many computations and outages began, and how long the longest of each was, if they are recorded
+abbrev pub tallies_json : Option (Tally × Tally) → Text
+tallies_json None = []
+tallies_json (Some t) =
+    codes ",\"computations\":" ++ decimal (t.0).count ++ codes ",\"longest_computation\":" ++ decimal (t.0).longest
+    ++ codes ",\"outages\":" ++ decimal (t.1).count ++ codes ",\"longest_outage\":" ++ decimal (t.1).longest
+
+-- what came of a change
+abbrev pub effect_json : Effect → Text
+effect_json e = rest_json e.rest ++ codes "," ++ counts_json e.counts ++ tallies_json e.spells
+
+-- the same, or why it was refused
+abbrev pub came_json : Result Effect FaultKind → Text
+came_json (Ok effect) = effect_json effect
+came_json (Err fault) = codes "\"refused\":\"" ++ fault_text fault ++ codes "\""
+
+-- a change, and what came of it
+abbrev pub change_json : Directory → ChangeLine → Text
+change_json d c =
+    codes "{\"kind\":\"change\",\"moment\":" ++ decimal c.moment ++ codes ",\"step\":\"" ++ step_text d (c.links).now c.step
+    ++ codes "\"," ++ came_json c.came ++ codes "}"
+
+-- a computation or an outage that has ended
+abbrev pub spell_json : Directory → SpellLine → Text
+spell_json d s =
+    codes "{\"kind\":\"" ++ (s.kind).now ++ codes "\",\"router\":\"" ++ name_text d (Some s.router) ++ codes "\",\"prefix\":\"" ++ prefix_text s.prefix
+    ++ codes "\",\"from\":" ++ decimal s.from ++ codes ",\"to\":" ++ decimal s.to ++ codes "}"

@@ -1,5 +1,5 @@
 -- Lines for people.
-use Rattle.std.specs.Prelude.{ℕ, Bool, true, false, if◌then◌else◌, List, [], ◌++◌, Option, Some, None, codes, decimal}
+use Rattle.std.specs.Prelude.{ℕ, Bool, true, false, if◌then◌else◌, List, [], ◌++◌, Option, Some, None, Result, Ok, Err, codes, decimal}
 use Rattle.std.specs.List.{flat_map}
 use Rattle.faults.specs.Numbers.{kind_number, name_of}
 use Rattle.faults.specs.declared.kind.FaultKind.{FaultKind}
@@ -34,7 +34,11 @@ use Rattle.lines.specs.declared.waiting.Waiting.{Waiting}
 use Rattle.lines.specs.declared.waiting.Waiting.TheVariants.{Queued, Noticed, Kept}
 use Rattle.lines.specs.declared.ends.Counts.{Counts}
 use Rattle.lines.specs.declared.ends.Ended.{Ended}
-use Rattle.lines.specs.declared.ends.Ended.TheVariants.{Done, Agrees, StepsDone, Differs, Refused}
+use Rattle.lines.specs.declared.ends.Ended.TheVariants.{Done, AtRest, Agrees, StepsDone, Differs, Refused}
+use Rattle.lines.specs.declared.times.Tally.{Tally}
+use Rattle.lines.specs.declared.times.Effect.{Effect}
+use Rattle.lines.specs.declared.times.ChangeLine.{ChangeLine}
+use Rattle.lines.specs.declared.times.SpellLine.{SpellLine}
 
 -- ---- values
 
@@ -213,10 +217,44 @@ counts_text c =
     decimal c.steps ++ codes " steps, " ++ decimal (c.sent).updates ++ codes " updates "
     ++ decimal (c.sent).queries ++ codes " queries " ++ decimal (c.sent).replies ++ codes " replies"
 
--- how a run or a replay ended: all steps were done, and the report of a journal agrees; they were done alone, since the report is of the first version; the report differs at a line; or a step was refused
+-- how a run or a replay ended: all steps were done; the last of them at a moment of simulated time; all were done, and the report of a journal agrees; they were done alone, since the report is of the first version; the report differs at a line; or a step was refused
 abbrev pub ended_text : Ended → Text
 ended_text (Done steps) = codes "done: " ++ decimal steps ++ codes " steps"
+ended_text (AtRest steps moment) = codes "done: " ++ decimal steps ++ codes " steps, at rest at " ++ decimal moment
 ended_text (Agrees steps) = codes "replay agrees: " ++ decimal steps ++ codes " steps"
 ended_text (StepsDone steps) = codes "replay done: " ++ decimal steps ++ codes " steps"
 ended_text (Differs line) = codes "replay differs: report line " ++ decimal line
 ended_text (Refused step fault) = codes "step " ++ decimal step ++ codes " refused: " ++ fault_text fault
+
+-- ---- simulated time
+
+-- how much later a network was at rest, if it was
+abbrev pub rest_text : Option ℕ → Text
+rest_text None = codes "not at rest"
+rest_text (Some rest) = codes "at rest " ++ decimal rest ++ codes " later"
+
+-- how many computations and outages began, and how long the longest of each was, if they are recorded
+abbrev pub tallies_text : Option (Tally × Tally) → Text
+tallies_text None = []
+tallies_text (Some t) =
+    codes ", " ++ decimal (t.0).count ++ codes " computations of at most " ++ decimal (t.0).longest
+    ++ codes ", " ++ decimal (t.1).count ++ codes " outages of at most " ++ decimal (t.1).longest
+
+-- what came of a change
+abbrev pub effect_text : Effect → Text
+effect_text e = rest_text e.rest ++ codes ", " ++ counts_text e.counts ++ tallies_text e.spells
+
+-- the same, or why it was refused
+abbrev pub came_text : Result Effect FaultKind → Text
+came_text (Ok effect) = effect_text effect
+came_text (Err fault) = codes "refused " ++ fault_text fault
+
+-- a change, and what came of it
+abbrev pub change_text : Directory → ChangeLine → Text
+change_text d c = decimal c.moment ++ codes " " ++ step_text d (c.links).now c.step ++ codes ": " ++ came_text c.came
+
+-- a computation or an outage that has ended
+abbrev pub spell_text : Directory → SpellLine → Text
+spell_text d s =
+    codes "  " ++ (s.kind).now ++ codes " at " ++ name_text d (Some s.router) ++ codes " for " ++ prefix_text s.prefix
+    ++ codes " from " ++ decimal s.from ++ codes " to " ++ decimal s.to

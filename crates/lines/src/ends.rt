@@ -47,6 +47,8 @@ impl Counts {
 pub enum Ended {
     /// A run did so many steps.
     Done { steps: u64 },
+    /// So did a run in simulated time, whose last event was at this moment.
+    AtRest { steps: u64, moment: u64 },
     /// So many steps of a journal were done, and the report is the journal's.
     Agrees { steps: usize },
     /// So many steps of a journal of the first version were done.
@@ -128,6 +130,9 @@ impl fmt::Display for Told<'_, Ended> {
             Ended::Done { steps } => write_either!(f, by;
                 "done: {steps} steps",
                 "{{\"kind\":\"done\",\"steps\":{steps}}}"),
+            Ended::AtRest { steps, moment } => write_either!(f, by;
+                "done: {steps} steps, at rest at {moment}",
+                "{{\"kind\":\"rest\",\"steps\":{steps},\"moment\":{moment}}}"),
             Ended::Agrees { steps } => write_either!(f, by;
                 "replay agrees: {steps} steps",
                 "{{\"kind\":\"replay\",\"result\":\"agrees\",\"steps\":{steps}}}"),

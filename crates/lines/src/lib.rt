@@ -1,9 +1,9 @@
-//! The lines that a run, a shell or a replay prints of a network, each as text for people and as an object of JSON.
+//! The lines that are printed of a network, each as text for people and as an object of JSON.
 //!
-//! A run, a shell and a replay print the same lines, and a journal keeps some of them. If each wrote its own, a
-//! replay could not compare them, so what a line tells of a network is read from it here. A text for people is
-//! hard to read by programs, so each line can be printed as JSON, too. A line is therefore a value ([`Line`]),
-//! made once, and there are two renderings of it ([`Told`]), which stand side by side:
+//! A run, a shell and a replay print the same lines, a run in simulated time has some more, and a journal keeps
+//! some of them. If each wrote its own, a replay could not compare them, so what a line tells of a network is read
+//! from it here. A text for people is hard to read by programs, so each line can be printed as JSON, too. A line is
+//! therefore a value ([`Line`]), made once, and there are two renderings of it ([`Told`]), which stand side by side:
 //!
 //! ```text
 //!   Line::Asked(Asked::Row { .. })        Text  b 10.0.0.0/8 via a 1
@@ -49,8 +49,7 @@
 //! prefixes and addresses are digits, dots and slashes. `Names` takes no other names, so none can come here.
 //!
 //! That each object is JSON for another reader is tested with `serde_json`. The schema is
-//! `docs/lines.schema.json`. It has the lines of simulated time, too, which `timing` prints, and the objects
-//! by which a shell answers, which are those of `play`.
+//! `docs/lines.schema.json`. It has the objects by which a shell answers, too, which are those of `play`.
 //!
 //! A line is told to people without the router and the prefix, if it stands below one that has them. A
 //! debt to a port without a neighbour is told as none.
@@ -77,6 +76,7 @@ mod records;
 mod report;
 mod states;
 mod table;
+mod times;
 mod told;
 mod values;
 mod waiting;
@@ -91,6 +91,7 @@ pub use records::{LinkState, MachineState, RouterState};
 pub use report::{print_report, print_state};
 pub use states::{LinkLine, MachineLine, RouterLine, State};
 pub use table::show_table;
-pub use told::{Printer, Told, print_either};
+pub use times::{ChangeLine, Effect, SpellLine, Tally};
+pub use told::{Printer, Told};
 pub use values::kind_words;
 pub use waiting::Waiting;

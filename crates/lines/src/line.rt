@@ -4,6 +4,7 @@ use crate::answers::{Asked, TraceLine};
 use crate::ends::{Counts, Ended, NextLine};
 use crate::reasons::{AwaitsLine, KnownLine};
 use crate::states::State;
+use crate::times::{ChangeLine, SpellLine};
 use crate::waiting::Waiting;
 use faults::FaultKind;
 
@@ -33,4 +34,9 @@ pub enum Line<'a> {
     Counted(Counts),
     /// How a run or a replay ended, for example `done: 9 steps`.
     Ended(Ended),
+    /// `MOMENT STEP: refused NUMBER NAME`, or `MOMENT STEP: at rest T later, COUNTS` with the spells behind it: a change
+    /// in simulated time.
+    Changed(ChangeLine<'a>),
+    /// `computation at A for PREFIX from T to T`, or `outage` in its place. For people it is two columns to the right.
+    Spell(SpellLine),
 }

@@ -1,9 +1,8 @@
 //! Lines as they are told: as text for people, or as objects of JSON.
 
-ghost use Rattle.std.specs.Prelude.{◌∷◌, ◌++◌, [], IfSome, OnOk, Some};
-ghost use Rattle.std.specs.Fmt.{with_newline};
+ghost use Rattle.std.specs.Prelude.{◌∷◌, ◌++◌, [], OnOk, Some};
 ghost use Rattle.std.specs.Io.KnownBytes.{Appends};
-ghost use Rattle.lines.specs.Formats.{in_format, line_in};
+ghost use Rattle.lines.specs.Formats.{line_in};
 
 use crate::line::Line;
 use command_line::Format;
@@ -25,21 +24,6 @@ impl Printer<'_> {
             (line_in self.now.format self.now.directory.now line.now ++ 10 ∷ [])) }
     {
         writeln!(out, "{}", Told(*self, *line))
-    }
-}
-
-/// Prints what is no [`Line`] in the format: this text, or this object of JSON.
-pub fn print_either<T, J, W>(format: Format, text: T, json: J, out: &mut W) -> io::Result<()>
-where
-    T: fmt::Display + Drop,
-    J: fmt::Display + Drop,
-    W: Write,
-    ensures { OnOk result (IfSome (with_newline (in_format format (T.output text) (J.output json)))
-        (Appends (W.contents out.old) (W.contents out.new))) }
-{
-    match format {
-        Format::Text => writeln!(out, "{text}"),
-        Format::Json => writeln!(out, "{json}"),
     }
 }
 
@@ -70,6 +54,8 @@ impl fmt::Display for Told<'_, Line<'_>> {
                 write_either!(f, by; "count: {counts}", "{{\"kind\":\"count\",{counts}}}")
             }
             Line::Ended(ended) => write!(f, "{}", Told(by, ended)),
+            Line::Changed(line) => write!(f, "{}", Told(by, line)),
+            Line::Spell(line) => write!(f, "{}", Told(by, line)),
         }
     }
 }

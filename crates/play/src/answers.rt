@@ -5,7 +5,6 @@ use advice::{Typed, explain_typed};
 use command_line::Format;
 use faults::FaultKind;
 use interpreter::Interpreter;
-use lines::print_either;
 use plans::{Fault, refuse};
 use std::io::Write;
 use std::{fmt, io};
@@ -17,9 +16,13 @@ pub(crate) fn print_text<W: Write>(
     text: &str,
     out: &mut W,
 ) -> io::Result<()> {
-    let escaped = Escaped { text };
-    let json = format_args!("{{\"kind\":\"{kind}\",\"text\":\"{escaped}\"}}");
-    print_either(format, text, json, out)
+    match format {
+        Format::Text => writeln!(out, "{text}"),
+        Format::Json => {
+            let text = Escaped { text };
+            writeln!(out, "{{\"kind\":\"{kind}\",\"text\":\"{text}\"}}")
+        }
+    }
 }
 
 /// Tells on `err` why a line was not done, after all that was printed before, and more where that is asked

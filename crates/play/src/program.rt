@@ -1,6 +1,6 @@
 //! What the program does, over any readers and writers.
 
-ghost use Rattle.std.specs.Prelude.{◌≡◌, ◌++◌, true, false, Some, IfOk, IfErr, OnErr, OnOk, is_some};
+ghost use Rattle.std.specs.Prelude.{◌≡◌, ◌++◌, false, Some, IfOk, IfErr, OnErr, OnOk, is_some};
 ghost use Rattle.fabric.specs.Fabric.{opening_fabric};
 ghost use Rattle.plans.specs.Faults.{OfBytes};
 ghost use Rattle.interpreter.specs.Nets.{counted_meaning, kept_meaning, opening_counted};

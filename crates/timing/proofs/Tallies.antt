@@ -2,7 +2,7 @@
 use Rattle.std.proofs.Common.{◌≡◌, ℕ, ◌+◌, ◌<◌, zero, suc, List, [], ◌∷◌, drop, get_or, length, refl, sym, ap, subst, ◌∙◌, arith}
 use Rattle.timed_reports.specs.declared.spells.Spell.{Spell}
 use Rattle.timing.specs.declared.tally.Span.{Span}
-use Rattle.timing.specs.declared.tally.Tally.{Tally}
+use Rattle.lines.specs.declared.times.Tally.{Tally}
 use Rattle.timing.specs.Tallies.{tally, with_one}
 
 -- one more is counted

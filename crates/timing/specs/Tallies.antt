@@ -3,7 +3,7 @@ use Rattle.std.specs.Prelude.{◌+◌, ◌-◌, ◌^◌, Bool, true, ◌&&◌, n
 use Rattle.std.specs.Option.{option_map_or}
 use Rattle.timed_reports.specs.declared.spells.Spell.{Spell}
 use Rattle.timing.specs.declared.tally.Span.{Span}
-use Rattle.timing.specs.declared.tally.Tally.{Tally}
+use Rattle.lines.specs.declared.times.Tally.{Tally}
 
 -- a spell began in this time
 abbrev pub began_in : Span → Spell → Bool

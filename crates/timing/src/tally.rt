@@ -3,14 +3,8 @@
 ghost use Rattle.std.specs.Prelude.{◌≡◌};
 ghost use Rattle.timing.specs.Tallies.{began_in, none_counted, tally, with_one};
 
+use lines::Tally;
 use timed_reports::Spell;
-
-/// How many spells there were, and how many microseconds the longest took.
-#[derive(Clone, Copy)]
-pub struct Tally {
-    pub count: usize,
-    pub longest: u64,
-}
 
 /// A time from a moment on, to another that does not belong to it; without an end if there is no other.
 #[derive(Clone, Copy)]
