@@ -23,12 +23,7 @@ pub fn print_reasons<W: Write>(
     let Some(machine) = router.machine(prefix) else {
         return Ok(());
     };
-    if let Mode::Active {
-        origin: _,
-        awaited,
-        debt,
-    } = machine.mode()
-    {
+    if let Mode::Active { awaited, debt, .. } = machine.mode() {
         print_awaited(printer, number, prefix, &awaited, out)?;
         let owed = match debt {
             Some(port) => printer.directory.neighbour(number, port),

@@ -1,9 +1,11 @@
-//! Prints what a network is at: its links, its routers and their machines.
+//! Prints what a network is at: its links, its routers, their machines, and the rows that they published.
 
-ghost use Rattle.std.specs.Prelude.{◌≡◌, ◌<◌, Err, Some, IsOk, IfOk, IfSome, OnOk, OnErr, MatchOption, length, slice_get};
-ghost use Rattle.lines.specs.Report.{unknown_router};
-ghost use Rattle.lines.specs.Report.{link_line as line_of_link, IsMachineLine, Prints, PrintsMachine};
+ghost use Rattle.std.specs.Prelude.{◌≡◌, ◌<◌, Err, Some, IsOk, IfErr, IfOk, IfSome, OnOk, OnErr, MatchOption, length, slice_get};
+ghost use Rattle.std.specs.Io.KnownBytes.{Appends};
+ghost use Rattle.world.specs.Steps.{CanBeRefused};
+ghost use Rattle.lines.specs.Report.{link_line as line_of_link, unknown_router, rows_text, IsMachineLine, Prints, PrintsMachine};
 
+use crate::answers::Asked;
 use crate::explained::print_reasons;
 use crate::line::Line;
 use crate::records::{LinkState, MachineState, RouterState};
@@ -12,6 +14,7 @@ use crate::told::Printer;
 use ipv4_prefix::Prefix;
 use link_fifo::Links;
 use network_model::{End, Refusal};
+use route_table::RouteTable;
 use router_core::Router;
 use std::io;
 use std::io::Write;
@@ -152,4 +155,39 @@ fn machine_line(number: u16, router: &Router, prefix: Prefix) -> Option<MachineL
         at: MachineState::of(machine),
         entry,
     })
+}
+
+/// Prints a router's published rows. What it prints may be lost.
+pub fn show_table<W: Write>(
+    world: &World,
+    printer: &Printer<'_>,
+    router: u16,
+    out: &mut W,
+) -> Result<(), Refusal>
+    ensures { IfErr result (λ e. CanBeRefused (unknown_router world.now router) e) }
+{
+    let table = known_router(world, router)?.table();
+    let _ = print_table(printer, router, table, out);
+    Ok(())
+}
+
+// Prints the rows that a router published, a line each, up to the first write that fails.
+fn print_table<W: Write>(
+    printer: &Printer<'_>,
+    router: u16,
+    table: &RouteTable,
+    out: &mut W,
+) -> io::Result<()>
+    ensures { OnOk result (Appends (W.contents out.old) (W.contents out.new)
+        (rows_text printer.now.format printer.now.directory.now router (table.now).table.published)) }
+{
+    for (prefix, entry) in table.published_rows() {
+        let row = Asked::Row {
+            router,
+            prefix,
+            entry,
+        };
+        printer.print(&Line::Asked(row), out)?;
+    }
+    Ok(())
 }

@@ -1,4 +1,4 @@
-//! What waits to be taken, and what a router holds.
+//! What waits to be taken, what a router holds, and what of it a step moves.
 
 ghost use Rattle.std.specs.Prelude.{◌≡◌, Some};
 ghost use Rattle.lines.specs.Formats.{in_format};
@@ -7,8 +7,9 @@ ghost use Rattle.lines.specs.Objects.{item_json, message_json, notice_json, wait
 
 use crate::told::Told;
 use crate::values::kind_words;
-use network_model::{Held, Item, Message, Notice};
+use network_model::{Held, Item, Message, Notice, Step};
 use std::fmt;
+use world::World;
 
 /// What waits to be taken, or is held. A message is `update PREFIX RD d session S`, or `query` or `reply`
 /// in place of `update`.
@@ -134,5 +135,37 @@ impl fmt::Display for Told<'_, Waiting> {
                     "{{\"kind\":\"held\",\"router\":\"{name}\",\"neighbour\":\"{across}\",{sent},\"ripe\":{ripe}}}")
             }
         }
+    }
+}
+
+/// What a step is about to take or to send, if it is lawful and does either.
+pub fn moved_by(world: &World, step: &Step) -> Option<Waiting> {
+    match *step {
+        Step::Deliver { router, port } => match world.port(router, port) {
+            Some(place) if usize::from(place.link) < world.links().len() => {
+                let session = world.links().session(place.link);
+                let item = world.links().item(place.link, place.end, 0)?;
+                Some(Waiting::Queued {
+                    router,
+                    port,
+                    session,
+                    item,
+                })
+            }
+            _ if usize::from(router) < world.routers().len() => {
+                let notice = world.notice(router, 0)?;
+                Some(Waiting::Noticed { router, notice })
+            }
+            _ => None,
+        },
+        Step::Release { router } => {
+            let held = world.routers().get(usize::from(router))?.message(0)?;
+            Some(Waiting::Kept {
+                router,
+                ripe: true,
+                held,
+            })
+        }
+        _ => None,
     }
 }

@@ -4,7 +4,7 @@ use Rattle.texts.proofs.Printed.{line_more}
 use Rattle.lines.specs.declared.answers.Asked.TheVariants.{Row}
 use Rattle.lines.specs.declared.line.Line.TheVariants.{Asked}
 use Rattle.lines.specs.Formats.{line_in}
-use Rattle.lines.proofs.table.print_table.Goals as goal
+use Rattle.lines.proofs.report.print_table.Goals as goal
 
 pub loop-prefix-preserved : goal.loop-prefix-preserved
 loop-prefix-preserved g c =
