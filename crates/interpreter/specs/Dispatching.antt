@@ -1,5 +1,6 @@
 -- Jobs that workers are given, and what they answer.
 use Rattle.std.specs.Prelude.{◌≡◌, ℕ, ◌+◌, ◌⊎◌, ⊤, List, [], Option, Some, min, slice_get}
+use Rattle.std.specs.List.{flat_map}
 use Rattle.std.specs.Option.{option_map_or}
 use Rattle.faults.specs.declared.kind.FaultKind.{FaultKind}
 use Rattle.ipv4_prefix.specs.Prefix.{Prefix}
@@ -11,16 +12,14 @@ use Rattle.publication.specs.declared.job.Job.{Job}
 use Rattle.publication.specs.Lists.{image_of}
 use Rattle.forwarder.specs.Replies.{Replied}
 use Rattle.texts.specs.Words.{Text}
-use Rattle.command_line.specs.declared.format.Format.{Format}
-use Rattle.script.specs.Directories.{Directory}
 use Rattle.lines.specs.declared.answers.Asked.TheVariants.{Packet}
 use Rattle.lines.specs.declared.line.Line.TheVariants.{Asked}
-use Rattle.lines.specs.Formats.{line_in}
+use Rattle.lines.specs.declared.told.Printer.{Printer}
+use Rattle.lines.specs.Formats.{printed}
 use Rattle.worker_pool.specs.Crews.{Crew}
 use Rattle.worker_pool.specs.declared.fault.PoolFault.{PoolFault}
 use Rattle.worker_pool.specs.Faults.{IsBeginFault, IsInjectFault, pool_kind}
 use Rattle.plans.specs.Faults.{OfRefusal}
-use Rattle.texts.specs.Lines.{lines_text}
 
 -- the jobs that wait until the workers have answered them, in order, the number of the last job that was given, and how many workers there are
 pub record Dispatched (X : Type 0) : Type 0 where
@@ -64,9 +63,9 @@ abbrev pub CannotInject : Option Refusal → FaultKind → Type 0
 CannotInject refusal kind = OfRefusal (CanBeRefused refusal) kind ⊎ CannotWork kind
 
 -- what a worker answered
-abbrev pub reply_text : {X : Type 0} → Format → Directory → Replied X → Text
-reply_text format d r = line_in format d (Asked (Packet (r.job).number (record { router = ((r.job).told).router; addr = (r.job).addr; found = (r.answer).matched })))
+abbrev pub reply_text : {X : Type 0} → Printer → Replied X → Text
+reply_text p r = printed p (Asked (Packet (r.job).number (record { router = ((r.job).told).router; addr = (r.job).addr; found = (r.answer).matched })))
 
 -- what workers answered, a line for each reply
-abbrev pub packets_text : {X : Type 0} → Format → Directory → List (Replied X) → Text
-packets_text format d = lines_text (reply_text format d)
+abbrev pub packets_text : {X : Type 0} → Printer → List (Replied X) → Text
+packets_text p = flat_map (reply_text p)

@@ -200,7 +200,7 @@ pub fn print_replies<B: FabricName, W: Write>(
     out: &mut W,
 ) -> io::Result<()>
     ensures { OnOk result (Appends (W.contents out.old) (W.contents out.new)
-        (packets_text printer.now.format printer.now.directory.now replies.now)) }
+        (packets_text printer.now replies.now)) }
 {
     for reply in replies {
         let job = reply.job();

@@ -33,6 +33,8 @@ pub struct PrintStyle {
     pub format: Format,
     /// Whether it is told how far a script is.
     pub progress: bool,
+    /// Whether the lines are the elements of a list.
+    pub listed: bool,
 }
 
 /// How commands are done, and told of.
@@ -52,6 +54,7 @@ impl<'a, G> Interpreter<'a, G> {
         Printer {
             directory: self.directory,
             format: self.style.format,
+            listed: self.style.listed,
         }
     }
 }

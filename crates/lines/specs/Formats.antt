@@ -1,10 +1,12 @@
 -- Lines in a format.
+use Rattle.std.specs.Prelude.{[], ◌∷◌, ◌++◌, if◌then◌else◌}
 use Rattle.texts.specs.Words.{Text}
 use Rattle.command_line.specs.declared.format.Format.{Format}
 use Rattle.command_line.specs.declared.format.Format.TheVariants.{Text as ForPeople, Json}
 use Rattle.script.specs.Directories.{Directory}
 use Rattle.lines.specs.Lines.{line_json, line_text}
 use Rattle.lines.specs.declared.line.Line.{Line}
+use Rattle.lines.specs.declared.told.Printer.{Printer}
 
 -- of a line for people and an object of JSON, the one of the format
 abbrev pub in_format : {A : Type 0} → Format → A → A → A
@@ -14,3 +16,7 @@ in_format Json text json = json
 -- a line in the format
 abbrev pub line_in : Format → Directory → Line → Text
 line_in format d line = in_format format (line_text d line) (line_json d line)
+
+-- a line as it is printed: on a line of its own, or as an element of a list, behind a comma
+abbrev pub printed : Printer → Line → Text
+printed p line = if p.listed then 44 ∷ line_in p.format (p.directory).now line else line_in p.format (p.directory).now line ++ 10 ∷ []

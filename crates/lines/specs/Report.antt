@@ -1,5 +1,6 @@
 -- What is told of links, routers, machines and rows.
-use Rattle.std.specs.Prelude.{◌≡◌, ℕ, List, [], ◌∷◌, ◌++◌, ◌⊎◌, Option, Some, None, nat_lt, if◌then◌else◌, length}
+use Rattle.std.specs.Prelude.{◌≡◌, ℕ, List, ◌⊎◌, Option, Some, None, nat_lt, if◌then◌else◌, length}
+use Rattle.std.specs.List.{flat_map}
 use Rattle.std.specs.FinMap.{find as row_of}
 use Rattle.std.specs.Io.KnownBytes.{Appends}
 use Rattle.ipv4_prefix.specs.Prefix.{Prefix, prefix_cmp}
@@ -10,16 +11,14 @@ use Rattle.network_model.specs.declared.step.Refusal.TheVariants.{UnknownRouter}
 use Rattle.dual_machine.specs.State.{MachineState as Machine}
 use Rattle.lines.specs.States.{link_state, IsMachineState}
 use Rattle.texts.specs.Words.{Text}
-use Rattle.texts.specs.Lines.{lines_text}
-use Rattle.script.specs.Directories.{Directory}
-use Rattle.command_line.specs.declared.format.Format.{Format}
 use Rattle.lines.specs.declared.answers.Asked.TheVariants.{Row}
 use Rattle.lines.specs.declared.line.Line.{Line}
 use Rattle.lines.specs.declared.line.Line.TheVariants.{Asked, State}
 use Rattle.lines.specs.declared.states.LinkLine.{LinkLine}
 use Rattle.lines.specs.declared.states.MachineLine.{MachineLine}
 use Rattle.lines.specs.declared.states.State.TheVariants.{Machine as OfMachine, Unheard}
-use Rattle.lines.specs.Formats.{line_in}
+use Rattle.lines.specs.declared.told.Printer.{Printer}
+use Rattle.lines.specs.Formats.{printed}
 
 -- why nothing is told of a router: it is not there
 abbrev pub unknown_router : World → ℕ → Option Refusal
@@ -57,12 +56,12 @@ state_line number p None = State (Unheard number p)
 state_line number p (Some line) = State (OfMachine line)
 
 -- rows of a router, a line each
-abbrev pub rows_text : Format → Directory → ℕ → List (Prefix × Entry) → Text
-rows_text format d router = lines_text (λ row. line_in format d (Asked (Row router row.0 row.1)))
+abbrev pub rows_text : Printer → ℕ → List (Prefix × Entry) → Text
+rows_text p router = flat_map (λ row. printed p (Asked (Row router row.0 row.1)))
 
 -- a line on a router's machine for a prefix was printed
-abbrev pub PrintsMachine : Format → Directory → ℕ → Router → Prefix → Option Text → Option Text → Type 0
-PrintsMachine format d number r p old new = (line : Option MachineLine) × IsMachineLine number r p line × Appends old new (line_in format d (state_line number p line) ++ 10 ∷ [])
+abbrev pub PrintsMachine : Printer → ℕ → Router → Prefix → Option Text → Option Text → Type 0
+PrintsMachine by number r p old new = (line : Option MachineLine) × IsMachineLine number r p line × Appends old new (printed by (state_line number p line))
 
 -- something was printed, and what was there before stays
 abbrev pub Prints : Option Text → Option Text → Type 0

@@ -14,7 +14,7 @@
 //! ```
 //!
 //! ```text
-//! let printer = Printer { directory: &directory, format: Format::Text };
+//! let printer = Printer { directory: &directory, format: Format::Text, listed: false };
 //! printer.print(&Line::Asked(Asked::Row { router, prefix, entry }), &mut out)?;
 //! print_report(fabric.world(), &printer, &mut out)?;
 //!

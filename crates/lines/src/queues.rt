@@ -1,13 +1,13 @@
 //! Prints what routers have to do and to take, and what they hold.
 
-ghost use Rattle.std.specs.Prelude.{◌≡◌, ◌<◌, ◌++◌, ◌∷◌, [], IfErr, IfOk, IfSome, OnOk, length, slice_get};
+ghost use Rattle.std.specs.Prelude.{◌≡◌, ◌<◌, IfErr, IfOk, IfSome, OnOk, length, slice_get};
 ghost use Rattle.std.specs.Io.KnownBytes.{Appends};
 ghost use Rattle.network_model.specs.World as model;
 ghost use Rattle.world.specs.Steps.{CanBeRefused};
 ghost use Rattle.network_model.specs.Turns as turns;
 ghost use Rattle.lines.specs.Report.{unknown_router};
 ghost use Rattle.lines.specs.declared.line.Line.TheVariants.{Next};
-ghost use Rattle.lines.specs.Formats.{line_in};
+ghost use Rattle.lines.specs.Formats.{printed};
 ghost use Rattle.lines.specs.Waiting.{held_lines, noticed_lines, queued_lines};
 
 use crate::ends::NextLine;
@@ -48,8 +48,8 @@ fn print_next<W: Write>(
     out: &mut W,
 ) -> io::Result<()>
     ensures { OnOk result (Appends (W.contents out.old) (W.contents out.new)
-        (line_in printer.now.format printer.now.directory.now
-        (Next (record { router = router; links = links.entry; step = turns.next_step world.now router })) ++ 10 ∷ [])) }
+        (printed printer.now
+        (Next (record { router = router; links = links.entry; step = turns.next_step world.now router })))) }
 {
     let step = world.next_step(router);
     let next = NextLine {
@@ -113,7 +113,7 @@ fn print_items<W: Write>(
     out: &mut W,
 ) -> io::Result<()>
     ensures { OnOk result (Appends (W.contents out.old) (W.contents out.new)
-        (queued_lines printer.now.format printer.now.directory.now router port session items.now)) }
+        (queued_lines printer.now router port session items.now)) }
 {
     for &item in items {
         let queued = Waiting::Queued {
@@ -152,7 +152,7 @@ fn print_notices<W: Write>(
     out: &mut W,
 ) -> io::Result<()>
     ensures { OnOk result (Appends (W.contents out.old) (W.contents out.new)
-        (noticed_lines printer.now.format printer.now.directory.now router notices.now)) }
+        (noticed_lines printer.now router notices.now)) }
 {
     for &notice in notices {
         let noticed = Waiting::Noticed { router, notice };
@@ -203,7 +203,7 @@ fn print_held<W: Write>(
     out: &mut W,
 ) -> io::Result<()>
     ensures { OnOk result (Appends (W.contents out.old) (W.contents out.new)
-        (held_lines printer.now.format printer.now.directory.now router ripe messages.now)) }
+        (held_lines printer.now router ripe messages.now)) }
 {
     for &held in messages {
         let kept = Waiting::Kept { router, ripe, held };

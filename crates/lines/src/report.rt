@@ -117,7 +117,7 @@ fn print_machine<W: Write>(
     prefix: Prefix,
     out: &mut W,
 ) -> io::Result<()>
-    ensures { OnOk result (PrintsMachine printer.now.format printer.now.directory.now number router.now prefix
+    ensures { OnOk result (PrintsMachine printer.now number router.now prefix
         (W.contents out.old) (W.contents out.new)) }
 {
     match machine_line(number, router, prefix) {
@@ -179,7 +179,7 @@ fn print_table<W: Write>(
     out: &mut W,
 ) -> io::Result<()>
     ensures { OnOk result (Appends (W.contents out.old) (W.contents out.new)
-        (rows_text printer.now.format printer.now.directory.now router (table.now).table.published)) }
+        (rows_text printer.now router (table.now).table.published)) }
 {
     for (prefix, entry) in table.published_rows() {
         let row = Asked::Row {

@@ -1,8 +1,8 @@
 //! Lines as they are told: as text for people, or as objects of JSON.
 
-ghost use Rattle.std.specs.Prelude.{◌∷◌, ◌++◌, [], OnOk, Some};
+ghost use Rattle.std.specs.Prelude.{OnOk, Some};
 ghost use Rattle.std.specs.Io.KnownBytes.{Appends};
-ghost use Rattle.lines.specs.Formats.{line_in};
+ghost use Rattle.lines.specs.Formats.{line_in, printed};
 
 use crate::line::Line;
 use command_line::Format;
@@ -15,15 +15,21 @@ use std::{fmt, io};
 pub struct Printer<'a> {
     pub directory: &'a Directory,
     pub format: Format,
+    /// Whether lines are the elements of a list, each behind a comma, and not on lines of their own.
+    pub listed: bool,
 }
 
 impl Printer<'_> {
     /// Prints a line.
     pub fn print<W: Write>(&self, line: &Line<'_>, out: &mut W) -> io::Result<()>
         ensures { OnOk result (Appends (W.contents out.old) (W.contents out.new)
-            (line_in self.now.format self.now.directory.now line.now ++ 10 ∷ [])) }
+            (printed self.now line.now)) }
     {
-        writeln!(out, "{}", Told(*self, *line))
+        let told = Told(*self, *line);
+        if self.listed {
+            return write!(out, ",{told}");
+        }
+        writeln!(out, "{told}")
     }
 }
 

@@ -9,7 +9,7 @@ use plans::{Fault, refuse};
 use std::io::Write;
 use std::{fmt, io};
 
-/// Prints a text, as JSON in an object of this kind.
+/// Prints a text, as JSON in an object of this kind, which is an element of a list.
 pub(crate) fn print_text<W: Write>(
     format: Format,
     kind: &str,
@@ -20,7 +20,7 @@ pub(crate) fn print_text<W: Write>(
         Format::Text => writeln!(out, "{text}"),
         Format::Json => {
             let text = Escaped { text };
-            writeln!(out, "{{\"kind\":\"{kind}\",\"text\":\"{text}\"}}")
+            write!(out, ",{{\"kind\":\"{kind}\",\"text\":\"{text}\"}}")
         }
     }
 }
@@ -94,37 +94,30 @@ impl fmt::Display for Escaped<'_> {
     }
 }
 
-/// A writer that makes of lines the elements of a list: a comma stands between two, and no line feed.
+/// What writes the elements of a list, each of them behind a comma. The first comma is left out.
 #[derive(Drop)]
-pub(crate) struct Listed<'a, W> {
+pub(crate) struct Elements<'a, W> {
     out: &'a mut W,
-    // Whether a line has ended, so that a comma comes before the next.
-    has_ended: bool,
+    has_begun: bool,
 }
 
-impl<'a, W: Write> Listed<'a, W> {
+impl<'a, W: Write> Elements<'a, W> {
     /// The list that goes on behind what `out` was given.
-    pub(crate) fn new(out: &'a mut W) -> Listed<'a, W> {
-        Listed {
+    pub(crate) fn new(out: &'a mut W) -> Elements<'a, W> {
+        Elements {
             out,
-            has_ended: false,
+            has_begun: false,
         }
     }
 }
 
-impl<W: Write> Write for Listed<'_, W> {
+impl<W: Write> Write for Elements<'_, W> {
     fn write(&mut self, buf: &[u8]) -> io::Result<usize> {
-        let end = buf.iter().position(|byte| *byte == b'\n');
-        if end == Some(0) {
-            self.has_ended = true;
-            return Ok(1);
+        if self.has_begun || buf.is_empty() {
+            return self.out.write(buf);
         }
-        if self.has_ended {
-            self.out.write_all(b",")?;
-            self.has_ended = false;
-        }
-        let line = &buf[..end.unwrap_or(buf.len())];
-        self.out.write(line)
+        self.has_begun = true;
+        Ok(1)
     }
 
     fn flush(&mut self) -> io::Result<()> {

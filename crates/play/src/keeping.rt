@@ -71,6 +71,7 @@ fn add_journal<B: FabricName, W: Write>(
     let printer = Printer {
         directory,
         format: Format::Text,
+        listed: false,
     };
     if write_steps(directory, links, fabric.journal(), kept).is_err()
         || print_report(fabric.world(), &printer, kept).is_err()

@@ -15,7 +15,7 @@ use interpreter::{
     Counted, Crew, Host, Interpreter, Kept, Live, PrintStyle, Staffed, Threaded, TurnGate,
     do_commands, end_line,
 };
-use lines::{Ended, Line};
+use lines::{Ended, Line, Printer};
 use plans::{Fault, Plan};
 use script::{Command, Directory};
 use std::io::{Read, Write};
@@ -225,6 +225,10 @@ where
         }
     }
     let done = Ended::Done { steps: net.steps() };
-    let _ = interpreter.printer().print(&Line::Ended(done), streams.out);
+    let printer = Printer {
+        listed: false,
+        ..interpreter.printer()
+    };
+    let _ = printer.print(&Line::Ended(done), streams.out);
     Ok(())
 }

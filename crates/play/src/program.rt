@@ -102,6 +102,7 @@ fn do_words<H: Host, G: TurnGate + Sync, R: Read + Drop, J: Read + Drop, W: Writ
                 moves: false,
                 format,
                 progress,
+                listed: false,
             };
             if no_journal {
                 return count(by, scenario, style, None::<J>, streams);
@@ -120,6 +121,7 @@ fn do_words<H: Host, G: TurnGate + Sync, R: Read + Drop, J: Read + Drop, W: Writ
                 moves: false,
                 format,
                 progress,
+                listed: false,
             };
             replay(by.alloc, scenario, journal, style, streams)
         }
@@ -142,6 +144,7 @@ fn do_words<H: Host, G: TurnGate + Sync, R: Read + Drop, J: Read + Drop, W: Writ
                 moves: explain,
                 format,
                 progress: false,
+                listed: matches!(format, Format::Json),
             };
             let typed = Some(journal);
             if no_journal {
@@ -245,6 +248,7 @@ pub fn run_quietly<H: Host, K: Keeper, V: Write>(
         moves: false,
         format: Format::Text,
         progress: false,
+        listed: false,
     };
     let mut out = io::sink();
     let mut err = io::sink();

@@ -189,6 +189,7 @@ fn compare<W: Write, E: Write>(
     let kept = Printer {
         directory: interpreter.directory,
         format: Format::Text,
+        listed: false,
     };
     if print_report(world, &kept, &mut printed).is_err() {
         return Err(Fault::from(NoMemory));

@@ -3,7 +3,7 @@
 ghost use Rattle.std.specs.Prelude.{IfErr};
 ghost use Rattle.play.specs.Works.{CannotReadOn, WereTried};
 
-use crate::answers::{Listed, begin_answer, end_answer, print_fault, print_text};
+use crate::answers::{Elements, begin_answer, end_answer, print_fault, print_text};
 use crate::program::Streams;
 use advice::Typed;
 use command_line::{Format, SHELL_COMMANDS};
@@ -118,7 +118,7 @@ where
         Format::Text => answer(interpreter, net, line, out),
         Format::Json => {
             let _ = begin_answer(number, out);
-            answer(interpreter, net, line, &mut Listed::new(out))
+            answer(interpreter, net, line, &mut Elements::new(out))
         }
     }
 }

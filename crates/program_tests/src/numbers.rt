@@ -26,7 +26,11 @@ fn is_line(
     object: &str,
 ) {
     for (format, wanted) in [(Format::Text, text), (Format::Json, object)] {
-        let printer = Printer { directory, format };
+        let printer = Printer {
+            directory,
+            format,
+            listed: false,
+        };
         is_written(rt, alloc, &Told(printer, *line), wanted);
     }
 }

@@ -1,6 +1,8 @@
 -- Lines that are written one after another.
 use Rattle.std.proofs.Common.{◌≡◌, ℕ, ◌+◌, ◌<◌, List, [], ◌∷◌, ◌++◌, length, take, Option, Some, None, refl, sym, ap, subst, ◌∙◌, add-one, append_assoc, append-nil, get_or}
 use Rattle.std.specs.Io.KnownBytes.{Appends}
+use Rattle.std.specs.List.{flat_map}
+use Rattle.std.proofs.lemmas.List.{flat_map_more}
 use Rattle.std.proofs.Math.Seq.{take-suc}
 use Rattle.texts.specs.Words.{Text}
 use Rattle.texts.specs.Lines.{lines_text}
@@ -11,6 +13,19 @@ Appends-append None mid new a b first second = tt
 Appends-append (Some xs) None new a b first second = absurd first
 Appends-append (Some xs) (Some ys) None a b first second = absurd second
 Appends-append (Some xs) (Some ys) (Some zs) a b first second = second ∙ ap (λ t. t ++ b) first ∙ append_assoc xs a b
+
+module _ {A : Type 0} (part : A → Text) where
+  -- one part more
+  pub part_more : (xs : List A) (x : A) (old mid new : Option Text) → Appends old mid (flat_map part xs) → Appends mid new (part x) → Appends old new (flat_map part (xs ++ x ∷ []))
+  part_more xs x old mid new before more = subst (Appends old new) (flat_map_more part [] xs x) (Appends-append old mid new (flat_map part xs) (part x) before more)
+
+  -- the part of the next element of a list
+  pub part_next : (xs : List A) (k : ℕ) (x : A) (old mid new : Option Text) → k < length xs → x ≡ get_or xs k x
+      → Appends old mid (flat_map part (take k xs)) → Appends mid new (part x) → Appends old new (flat_map part (take (k + 1) xs))
+  part_next xs k x old mid new within is before more =
+      subst (λ ys. Appends old new (flat_map part ys))
+      (sym (ap (λ n. take n xs) (add-one k) ∙ take-suc xs k x within ∙ ap (λ y. take k xs ++ y ∷ []) (sym is)))
+      (part_more (take k xs) x old mid new before more)
 
 module _ {A : Type 0} (line : A → Text) where
   -- lines before lines

@@ -85,6 +85,7 @@ fn run<W: Write>(
     let printer = Printer {
         directory,
         format: options.format,
+        listed: false,
     };
     let links = recording.timed().simulation().network().links();
     print_changes(&printer, links, &begun, end, recording.report(), out);

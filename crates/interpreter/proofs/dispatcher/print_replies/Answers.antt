@@ -1,21 +1,20 @@
-use Rattle.std.proofs.Common.{◌≡◌, [], ◌∷◌, ◌++◌, ap, subst, ◌∙◌, arith}
+use Rattle.std.proofs.Common.{◌≡◌, ap, subst, ◌∙◌, arith}
 use Rattle.std.specs.Io.KnownBytes.{Appends}
-use Rattle.texts.proofs.Printed.{line_next}
+use Rattle.texts.proofs.Printed.{part_next}
 use Rattle.lines.specs.declared.answers.Asked.TheVariants.{Packet}
 use Rattle.lines.specs.declared.line.Line.TheVariants.{Asked}
-use Rattle.lines.specs.Formats.{line_in}
+use Rattle.lines.specs.Formats.{printed}
 use Rattle.interpreter.specs.Dispatching.{reply_text}
 use Rattle.interpreter.proofs.dispatcher.print_replies.Goals as goal
 
 pub loop-reply-preserved : goal.loop-reply-preserved
 loop-reply-preserved g c =
     let reply = c.reply-item.result in
-    let format = c.args.printer.now.format in
-    let d = c.args.printer.now.directory.now in
+    let p = c.args.printer.now in
     let mid = g.W.Write.contents c.loop-reply.out in
     let new = g.W.Write.contents c.print.new.out in
     let router : c.router.result ≡ ((reply.job).told).router = c.router.ensures.router ∙ ap (λ j. (j.told).router) c.job-job.ensures in
-    let text : line_in format d (Asked (Packet c.job-job.result.now.number (record { router = c.router.result; addr = c.job-job.result.now.addr; found = c.answer-found.result.matched }))) ≡ reply_text format d reply
-    = λ i. line_in format d (Asked (Packet (c.job-job.ensures i).number (record { router = router i; addr = (c.job-job.ensures i).addr; found = (c.answer-found.ensures.answer i).matched }))) in
-    line_next (reply_text format d) c.args.replies.now c.loop-reply.reply-index reply (g.W.Write.contents c.args.out.now) mid new (omega arith) c.reply-item.is c.loop-reply.invariant
-    (subst (λ t. Appends mid new (t ++ 10 ∷ [])) text c.in_ok-print.ensures)
+    let text : printed p (Asked (Packet c.job-job.result.now.number (record { router = c.router.result; addr = c.job-job.result.now.addr; found = c.answer-found.result.matched }))) ≡ reply_text p reply
+    = λ i. printed p (Asked (Packet (c.job-job.ensures i).number (record { router = router i; addr = (c.job-job.ensures i).addr; found = (c.answer-found.ensures.answer i).matched }))) in
+    part_next (reply_text p) c.args.replies.now c.loop-reply.reply-index reply (g.W.Write.contents c.args.out.now) mid new (omega arith) c.reply-item.is c.loop-reply.invariant
+    (subst (Appends mid new) text c.in_ok-print.ensures)

@@ -5,6 +5,6 @@ use Rattle.lines.proofs.report.print_table.Given as goal
 
 abbrev pub invariant-loop-prefix : goal.invariant-loop-prefix
 invariant-loop-prefix g l = record {
-  printed : Appends (g.W.Write.contents l.initial.out) (g.W.Write.contents l.out) (rows_text l.printer.format l.printer.directory.now l.router l.yielded);
+  told : Appends (g.W.Write.contents l.initial.out) (g.W.Write.contents l.out) (rows_text l.printer l.router l.yielded);
   rows : l.yielded ++ l.prefix-iterator ≡ l.table.table.published;
 }
