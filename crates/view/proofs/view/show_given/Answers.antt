@@ -14,5 +14,5 @@ returns g c = λ done.
       c.in_ok-text.ensures.whole,
       subst (λ b. IsShown b (is_some c.args.words.now.times) json other old new text) (sym c.if-is_some.false ∙ c.is_some.ensures)
           (subst (λ b. IsShown false b json other old new text) (sym c.if-is_some-2.false ∙ c.is_some-2.ensures)
-          (subst (IsRunToEnd (λ d f. IsRunShown json d f old new)) c.as_str.ensures.value c.in_ok-show_script.ensures)),
+          (subst (IsRunToEnd (λ d f. IsRunShown json d f old new)) c.as_str-text.ensures.value c.in_ok-show_script.ensures)),
     )
