@@ -34,7 +34,7 @@ fn form_of_shell(verb: &str) -> Option<&'static str> {
 }
 
 fn wrong_words<'a>(form: &'static str) -> Why<'a> {
-    Why::of("wrong number of words: write `", Word::Text(form), "`")
+    Why::of("wrong number of words: write `_`", Word::Text(form))
 }
 
 /// Why a line of the script is no command on this network.
@@ -66,8 +66,8 @@ pub fn why_spaces(line: &str) -> Option<Why<'_>> {
         return Some(Why::plain("the line is empty"));
     }
     if let Some(letter) = odd_space(line) {
-        let after = "` cannot stand here: write single spaces between words";
-        return Some(Why::of("`", Word::Letter(letter), after));
+        let why = "`_` cannot stand here: write single spaces between words";
+        return Some(Why::of(why, Word::Letter(letter)));
     }
     if line.split(' ').any(|word| word.is_empty()) {
         let why = "write single spaces between words, and none at an end";
@@ -105,22 +105,17 @@ fn why_unknown(alloc: Global, verb: &str) -> io::Result<Why<'_>> {
         return Ok(Why::plain("a command cannot be a comment"));
     }
     if form_of_shell(verb).is_some() {
-        return Ok(Why::of("`", Word::Text(verb), "` is a command of the shell alone"));
+        return Ok(Why::of("`_` is a command of the shell alone", Word::Text(verb)));
     }
     let mut nearest = ("", 3);
     for form in FORMS.split('|') {
         nearest = nearer(alloc, verb, form, nearest)?;
     }
     let unknown = Word::Text(verb);
+    let near = "unknown command `_`: did you mean `_`?";
     Ok(match nearest.0 {
-        "" => Why::of("unknown command `", unknown, "`"),
-        word => Why::of_two(
-            "unknown command `",
-            unknown,
-            "`: did you mean `",
-            Word::Text(word),
-            "`?",
-        ),
+        "" => Why::of("unknown command `_`", unknown),
+        word => Why::of_two(near, unknown, Word::Text(word)),
     })
 }
 
@@ -153,7 +148,7 @@ fn why_no_words<'a>(
         match wanted {
             "A" | "B" => {
                 let Some(router) = names.number(word) else {
-                    return Why::of("unknown router `", Word::Text(word), "`");
+                    return Why::of("unknown router `_`", Word::Text(word));
                 };
                 if let Some(other) = first
                     && !links.iter().any(|link| link.joins(other, router))
@@ -177,7 +172,7 @@ fn why_no_words<'a>(
         }
     }
     match prefix {
-        Some(prefix) => Why::of("the scenario has no prefix `", Word::Text(prefix), "`"),
-        None => Why::of("write `", Word::Text(form), "`"),
+        Some(prefix) => Why::of("the scenario has no prefix `_`", Word::Text(prefix)),
+        None => Why::of("write `_`", Word::Text(form)),
     }
 }

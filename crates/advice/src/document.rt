@@ -1,12 +1,12 @@
 //! Why a file is no text, or its text no scenario.
 
 use crate::position::File;
-use crate::why::{Why, Word};
+use crate::shown::shown;
 use faults::FaultKind;
 use std::alloc::Global;
 use std::io;
 use std::io::Write;
-use toml::{Table, Value};
+use toml::Value;
 
 const KEYS: [&str; 4] = ["routers", "links", "prefixes", "script"];
 
@@ -67,32 +67,22 @@ pub fn explain_keys<W: Write>(alloc: Global, file: File<'_>, out: &mut W) -> io:
         return Ok(());
     };
     for key in KEYS {
-        explain_key(&table, key, file, out)?;
+        match table.get(key) {
+            None => writeln!(out, "  the key `{key}` is missing")?,
+            Some(value) if !is_list(value) => {
+                let at = file.at_key(key);
+                writeln!(out, "  {at}: `{key}` is not an array of strings")?;
+            }
+            Some(_) => {}
+        }
     }
     for (key, _) in table.iter() {
         let key = key.as_str();
         if !KEYS.contains(&key) {
-            let why = Why::of("unknown key `", Word::Text(key), "`");
-            writeln!(out, "  {}: {why}", file.at_key(key))?;
+            writeln!(out, "  {}: unknown key `{}`", file.at_key(key), shown(key))?;
         }
     }
     Ok(())
-}
-
-fn explain_key<W: Write>(
-    table: &Table,
-    key: &str,
-    file: File<'_>,
-    out: &mut W,
-) -> io::Result<()> {
-    match table.get(key) {
-        None => writeln!(out, "  the key `{key}` is missing"),
-        Some(value) if !is_list(value) => {
-            let why = Why::of("`", Word::Text(key), "` is not an array of strings");
-            writeln!(out, "  {}: {why}", file.at_key(key))
-        }
-        Some(_) => Ok(()),
-    }
 }
 
 fn is_list(value: &Value) -> bool {

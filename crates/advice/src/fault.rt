@@ -120,7 +120,8 @@ pub fn explain_line<W: Write>(
         return Ok(());
     };
     let line = line.as_str();
-    writeln!(out, "  {}: {}", file.at_string(key, place.position), shown(line))?;
+    let at = file.at_string(key, place.position);
+    writeln!(out, "  {at}: {}", shown(line))?;
     match why(alloc, kind, lines, place, line)? {
         Some(why) => writeln!(out, "  {why}"),
         None => Ok(()),

@@ -16,8 +16,8 @@ pub fn why_no_name(names: &[String], position: usize) -> Option<Why<'_>> {
     let name = names.get(position)?.as_str();
     for letter in name.chars() {
         if !matches!(letter, 'a'..='z' | '0'..='9') {
-            let after = "` is not a small letter a to z, and not a digit";
-            return Some(Why::of("`", Word::Letter(letter), after));
+            let why = "`_` is not a small letter a to z, and not a digit";
+            return Some(Why::of(why, Word::Letter(letter)));
         }
     }
     match name.chars().next() {
@@ -27,18 +27,15 @@ pub fn why_no_name(names: &[String], position: usize) -> Option<Why<'_>> {
     }
     let count = name.chars().count();
     if count > MOST_CHARACTERS {
-        let after = " characters: a name has at most 16";
-        return Some(Why::of("it has ", Word::Number(count), after));
+        let why = "it has _ characters: a name has at most 16";
+        return Some(Why::of(why, Word::Number(count)));
     }
     let before = names
         .iter()
         .take(position)
         .position(|other| other.as_str() == name)?;
-    Some(Why::of(
-        "an earlier router has this name: routers ",
-        Word::Number(before),
-        "",
-    ))
+    let why = "an earlier router has this name: routers _";
+    Some(Why::of(why, Word::Number(before)))
 }
 
 /// Why the line of this number is no link of these routers.
@@ -57,7 +54,7 @@ pub fn why_no_link<'a>(names: &Names, links: &'a [String], position: usize) -> O
     }
     for word in line.split(' ').take(2) {
         if names.number(word).is_none() {
-            return Some(Why::of("unknown router `", Word::Text(word), "`"));
+            return Some(Why::of("unknown router `_`", Word::Text(word)));
         }
     }
     let (a, b) = ends(line);
@@ -80,8 +77,8 @@ fn why_no_place<'a>(links: &[String], position: usize, a: &'a str, b: &'a str) -
     for (place, line) in links.iter().take(position).enumerate() {
         let (c, d) = ends(line.as_str());
         if (a, b) == (c, d) || (a, b) == (d, c) {
-            let before = "an earlier link joins these two routers: links ";
-            return Why::of(before, Word::Number(place), "");
+            let why = "an earlier link joins these two routers: links _";
+            return Why::of(why, Word::Number(place));
         }
         at_a = at_a.saturating_add(usize::from(a == c || a == d));
         at_b = at_b.saturating_add(usize::from(b == c || b == d));
@@ -90,7 +87,7 @@ fn why_no_place<'a>(links: &[String], position: usize, a: &'a str, b: &'a str) -
         return Why::plain("there are 1024 links already");
     }
     let full = if at_a >= MOST_LINKS { a } else { b };
-    Why::of("`", Word::Text(full), "` has 32 links already")
+    Why::of("`_` has 32 links already", Word::Text(full))
 }
 
 /// Why the line of this number attaches no router to a prefix.
@@ -118,7 +115,7 @@ pub fn why_no_prefix<'a>(
             let form = "the prefix comes first: `PREFIX ROUTER COST`";
             return Some(Why::plain(form));
         }
-        return Some(Why::of("unknown router `", Word::Text(router), "`"));
+        return Some(Why::of("unknown router `_`", Word::Text(router)));
     }
     if let Some(cost) = cost
         && let Some(why) = why_no_cost(cost)
@@ -127,8 +124,8 @@ pub fn why_no_prefix<'a>(
     }
     for (place, other) in prefixes.iter().take(position).enumerate() {
         if ends(other.as_str()) == (prefix, router) {
-            let before = "this router has the prefix already: prefixes ";
-            return Some(Why::of(before, Word::Number(place), ""));
+            let why = "this router has the prefix already: prefixes _";
+            return Some(Why::of(why, Word::Number(place)));
         }
     }
     Some(Why::plain("there are as many prefixes as there can be"))
@@ -153,14 +150,14 @@ fn why_outside(word: &str, least: u32, most: u32) -> Option<Why<'_>> {
     let are_digits = !word.is_empty() && word.bytes().all(|byte| byte.is_ascii_digit());
     let shown = Word::Text(word);
     Some(if digits.is_some() {
-        Why::of("`", shown, "` has a sign: write only digits")
+        Why::of("`_` has a sign: write only digits", shown)
     } else if !are_digits {
-        Why::of("`", shown, "` is not a whole number")
+        Why::of("`_` is not a whole number", shown)
     } else if word == "0" {
-        Why::of("`0` is below ", Word::Number(least as usize), "")
+        Why::of("`0` is below _", Word::Number(least as usize))
     } else if word.starts_with('0') {
-        Why::of("`", shown, "` begins with a zero")
+        Why::of("`_` begins with a zero", shown)
     } else {
-        Why::of_two("`", shown, "` is above ", Word::Number(most as usize), "")
+        Why::of_two("`_` is above _", shown, Word::Number(most as usize))
     })
 }

@@ -22,15 +22,20 @@ pub fn explain_others<W: Write>(
     first: Place,
     out: &mut W,
 ) -> io::Result<()> {
-    match first.key {
-        Key::Routers => {
-            explain_list(alloc, file, lines, Key::Routers, first, MOST_OTHERS, out)?;
+    let none: &[String] = &[];
+    let Ok(reading) = read_script(alloc, &lines.routers, &lines.links, &lines.prefixes, none) else {
+        return Ok(());
+    };
+    let script = &reading.script;
+    let mut left = MOST_OTHERS;
+    for key in [Key::Routers, Key::Links, Key::Prefixes, Key::Script] {
+        let is_told = match first.key {
+            Key::Links | Key::Prefixes => matches!(key, Key::Links | Key::Prefixes),
+            _ => key == first.key,
+        };
+        if is_told {
+            left = explain_list(alloc, file, lines, script, key, first, left, out)?;
         }
-        Key::Links | Key::Prefixes => {
-            let left = explain_list(alloc, file, lines, Key::Links, first, MOST_OTHERS, out)?;
-            explain_list(alloc, file, lines, Key::Prefixes, first, left, out)?;
-        }
-        Key::Script => explain_commands(alloc, file, lines, first, out)?,
     }
     Ok(())
 }
@@ -40,6 +45,7 @@ fn explain_list<W: Write>(
     alloc: Global,
     file: File<'_>,
     lines: &Lines,
+    script: &Script,
     key: Key,
     first: Place,
     most: u8,
@@ -51,22 +57,34 @@ fn explain_list<W: Write>(
         let place = Place { key, position };
         if left > 0
             && place != first
-            && let Some(fault) = fault_alone(alloc, lines, key, one)
+            && let Some(fault) = fault_alone(alloc, lines, script, key, one)
         {
-            explain_other(alloc, file, lines, fault, place, out)?;
+            let located = Located {
+                fault,
+                place: Some(place),
+            };
+            writeln!(out, "dualnet: {located}")?;
+            explain_line(alloc, file, lines, FaultKind::from(fault), place, out)?;
             left = left.saturating_sub(1);
         }
     }
     Ok(left)
 }
 
-// The fault of a list of one line.
-fn fault_alone(alloc: Global, lines: &Lines, key: Key, one: &[String]) -> Option<LineFault> {
+// The fault of a list of one line; of a command in the network of what was read beside the script.
+fn fault_alone(
+    alloc: Global,
+    lines: &Lines,
+    script: &Script,
+    key: Key,
+    one: &[String],
+) -> Option<LineFault> {
     let none: &[String] = &[];
     let read = match key {
         Key::Routers => read_script(alloc, one, none, none, none),
         Key::Links => read_script(alloc, &lines.routers, one, none, none),
-        _ => read_script(alloc, &lines.routers, none, one, none),
+        Key::Prefixes => read_script(alloc, &lines.routers, none, one, none),
+        Key::Script => return command_fault(script, one.first()?.as_str()),
     };
     match read {
         Ok(reading) => {
@@ -77,33 +95,6 @@ fn fault_alone(alloc: Global, lines: &Lines, key: Key, one: &[String]) -> Option
     }
 }
 
-// Tells of the faults of other commands.
-fn explain_commands<W: Write>(
-    alloc: Global,
-    file: File<'_>,
-    lines: &Lines,
-    first: Place,
-    out: &mut W,
-) -> io::Result<()> {
-    let none: &[String] = &[];
-    let Ok(reading) = read_script(alloc, &lines.routers, &lines.links, &lines.prefixes, none) else {
-        return Ok(());
-    };
-    let key = Key::Script;
-    let mut left = MOST_OTHERS;
-    for (position, line) in lines.script.iter().enumerate() {
-        let place = Place { key, position };
-        if left > 0
-            && place != first
-            && let Some(fault) = command_fault(&reading.script, line.as_str())
-        {
-            explain_other(alloc, file, lines, fault, place, out)?;
-            left = left.saturating_sub(1);
-        }
-    }
-    Ok(())
-}
-
 fn command_fault(script: &Script, line: &str) -> Option<LineFault> {
     // Names the type of a command's step, without which the checker has no plan for it.
     let _step: Option<Step> = None;
@@ -111,20 +102,4 @@ fn command_fault(script: &Script, line: &str) -> Option<LineFault> {
         Ok(_) => None,
         Err(fault) => Some(fault),
     }
-}
-
-fn explain_other<W: Write>(
-    alloc: Global,
-    file: File<'_>,
-    lines: &Lines,
-    fault: LineFault,
-    place: Place,
-    out: &mut W,
-) -> io::Result<()> {
-    let located = Located {
-        fault,
-        place: Some(place),
-    };
-    writeln!(out, "dualnet: {located}")?;
-    explain_line(alloc, file, lines, FaultKind::from(fault), place, out)
 }

@@ -12,12 +12,32 @@ pub struct File<'a> {
 impl<'a> File<'a> {
     /// Where a byte stands.
     pub fn at_byte(&self, byte: usize) -> At<'a> {
-        At(self.name, Some(position_at(self.text, byte)))
+        let (mut line, mut column) = (1_usize, 1_usize);
+        for (place, letter) in self.text.char_indices() {
+            if place >= byte {
+                break;
+            }
+            if letter == '\n' {
+                line = line.saturating_add(1);
+                column = 1;
+            } else {
+                column = column.saturating_add(1);
+            }
+        }
+        At(self.name, Some((line, column)))
     }
 
     /// Where a key begins its line. Nowhere if it begins none: if it stands in a table, or in quotes.
     pub fn at_key(&self, key: &str) -> At<'a> {
-        At(self.name, key_at(self.text, key))
+        for (place, line) in self.text.lines().enumerate() {
+            if is_at_key(line, key) {
+                let rest = line.trim_start().chars().count();
+                let before = line.chars().count().saturating_sub(rest);
+                let at = (place.saturating_add(1), before.saturating_add(1));
+                return At(self.name, Some(at));
+            }
+        }
+        At(self.name, None)
     }
 
     /// Where the string of this number, from 0, stands in the array at a key.
@@ -39,23 +59,6 @@ impl fmt::Display for At<'_> {
     }
 }
 
-// The line and the column of a byte of a text.
-fn position_at(text: &str, byte: usize) -> (usize, usize) {
-    let (mut line, mut column) = (1_usize, 1_usize);
-    for (place, letter) in text.char_indices() {
-        if place >= byte {
-            break;
-        }
-        if letter == '\n' {
-            line = line.saturating_add(1);
-            column = 1;
-        } else {
-            column = column.saturating_add(1);
-        }
-    }
-    (line, column)
-}
-
 // Where the string of this number, from 0, stands in the array at a key. None where the text is
 // written in a way that is not looked through: by strings of several lines or in quoted keys.
 fn string_at(text: &str, key: &str, number: usize) -> Option<(usize, usize)> {
@@ -73,17 +76,6 @@ fn string_at(text: &str, key: &str, number: usize) -> Option<(usize, usize)> {
         }
         if let Some(column) = scan.column(line) {
             return Some((place.saturating_add(1), column));
-        }
-    }
-    None
-}
-
-fn key_at(text: &str, key: &str) -> Option<(usize, usize)> {
-    for (place, line) in text.lines().enumerate() {
-        if is_at_key(line, key) {
-            let rest = line.trim_start().chars().count();
-            let before = line.chars().count().saturating_sub(rest);
-            return Some((place.saturating_add(1), before.saturating_add(1)));
         }
     }
     None

@@ -3,7 +3,7 @@
 use crate::shown::{show, shown};
 use std::fmt;
 
-/// What stands between the texts of a reason.
+/// What stands in a reason: a word of the file, or a number.
 #[derive(Clone, Copy)]
 pub enum Word<'a> {
     Nothing,
@@ -23,52 +23,38 @@ impl fmt::Display for Word<'_> {
     }
 }
 
-/// A reason: texts of this crate, and between them words of the file, which are shown safe for a terminal. One form
-/// for all of them, so that a function that looks for a reason holds nothing that it would have to write to.
+/// A reason: a text with a `_` for each of two words at most, which are shown safe for a terminal. One form for all of
+/// them, so that a function that looks for a reason holds nothing that it would have to write to.
 #[derive(Clone, Copy)]
-pub struct Why<'a> {
-    head: &'static str,
-    word: Word<'a>,
-    middle: &'static str,
-    second: Word<'a>,
-    tail: &'static str,
-}
+pub struct Why<'a>(&'static str, Word<'a>, Word<'a>);
 
 impl<'a> Why<'a> {
     /// A reason that names nothing of the file.
-    pub fn plain(head: &'static str) -> Why<'a> {
-        Why::of(head, Word::Nothing, "")
+    pub fn plain(text: &'static str) -> Why<'a> {
+        Why(text, Word::Nothing, Word::Nothing)
     }
 
     /// A reason that names one word.
-    pub fn of(head: &'static str, word: Word<'a>, middle: &'static str) -> Why<'a> {
-        Why::of_two(head, word, middle, Word::Nothing, "")
+    pub fn of(text: &'static str, word: Word<'a>) -> Why<'a> {
+        Why(text, word, Word::Nothing)
     }
 
     /// A reason that names two.
-    pub fn of_two(
-        head: &'static str,
-        word: Word<'a>,
-        middle: &'static str,
-        second: Word<'a>,
-        tail: &'static str,
-    ) -> Why<'a> {
-        Why {
-            head,
-            word,
-            middle,
-            second,
-            tail,
-        }
+    pub fn of_two(text: &'static str, word: Word<'a>, second: Word<'a>) -> Why<'a> {
+        Why(text, word, second)
     }
 }
 
 impl fmt::Display for Why<'_> {
     fn fmt<W: fmt::Write>(&self, f: &mut fmt::Formatter<W>) -> fmt::Result {
-        write!(
-            f,
-            "{}{}{}{}{}",
-            self.head, self.word, self.middle, self.second, self.tail
-        )
+        let Why(text, first, second) = *self;
+        for (place, part) in text.split('_').enumerate() {
+            match place {
+                0 => write!(f, "{part}")?,
+                1 => write!(f, "{first}{part}")?,
+                _ => write!(f, "{second}{part}")?,
+            }
+        }
+        Ok(())
     }
 }

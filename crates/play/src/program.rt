@@ -182,7 +182,16 @@ fn keep<H: Host, G: TurnGate + Sync, R: Read + Drop, J: Read + Drop, W: Write, E
     let plan = read_plan(by.alloc, text.as_str())?;
     let mut keeper = JournalText { wanted };
     let mut made = Vec::new(by.alloc);
-    with_fabric(by, plan, hands, style, typed, streams, &mut keeper, &mut made)?;
+    with_fabric(
+        by,
+        plan,
+        hands,
+        style,
+        typed,
+        streams,
+        &mut keeper,
+        &mut made,
+    )?;
     add(kept, made)?;
     Ok(Outcome::Done)
 }
@@ -259,5 +268,14 @@ pub fn run_quietly<H: Host, K: Keeper, V: Write>(
         out: &mut out,
         err: &mut err,
     };
-    with_fabric(&by, plan, hands, style, None::<Empty>, &mut streams, keeper, kept)
+    with_fabric(
+        &by,
+        plan,
+        hands,
+        style,
+        None::<Empty>,
+        &mut streams,
+        keeper,
+        kept,
+    )
 }

@@ -76,8 +76,9 @@ fn do_journal<W: Write, E: Write>(
         (live.old).simulation.world (live.new).simulation.world) }
     ensures fault { IfErr result IsWantOfMemory }
 {
-    let ran = do_steps(live, &journal.steps, interpreter.style.progress, streams.err);
-    end_line(interpreter.style.progress, streams.err);
+    let progress = interpreter.style.progress;
+    let ran = do_steps(live, &journal.steps, progress, streams.err);
+    end_line(progress, streams.err);
     let printer = interpreter.printer();
     if let Some(refusal) = ran.refusal {
         let step = ran.done + 1;
