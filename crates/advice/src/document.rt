@@ -1,7 +1,7 @@
 //! Why a file is no text, or its text no scenario.
 
 use crate::position::File;
-use crate::shown::shown;
+use crate::shown::Shown;
 use faults::FaultKind;
 use std::alloc::Global;
 use std::io;
@@ -79,7 +79,7 @@ pub fn explain_keys<W: Write>(alloc: Global, file: File<'_>, out: &mut W) -> io:
     for (key, _) in table.iter() {
         let key = key.as_str();
         if !KEYS.contains(&key) {
-            writeln!(out, "  {}: unknown key `{}`", file.at_key(key), shown(key))?;
+            writeln!(out, "  {}: unknown key `{}`", file.at_key(key), Shown(key))?;
         }
     }
     Ok(())

@@ -7,7 +7,7 @@ use crate::line::{why_no_link, why_no_name, why_no_prefix};
 use crate::others::explain_others;
 use crate::page::Brief;
 use crate::position::File;
-use crate::shown::shown;
+use crate::shown::Shown;
 use crate::times::explain_times;
 use crate::why::Why;
 use command_line::Words;
@@ -73,7 +73,7 @@ fn explain_journal<W: Write>(
     out: &mut W,
 ) -> io::Result<()> {
     match text.split('\n').nth(line.saturating_sub(1)) {
-        Some(found) if !found.is_empty() => writeln!(out, "  {file}:{line}:1: {}", shown(found))?,
+        Some(found) if !found.is_empty() => writeln!(out, "  {file}:{line}:1: {}", Shown(found))?,
         _ => writeln!(out, "  {file}:{line}:1: there is no such line")?,
     }
     if line == 1 {
@@ -121,7 +121,7 @@ pub fn explain_line<W: Write>(
     };
     let line = line.as_str();
     let at = file.at_string(key, place.position);
-    writeln!(out, "  {at}: {}", shown(line))?;
+    writeln!(out, "  {at}: {}", Shown(line))?;
     match why(alloc, kind, lines, place, line)? {
         Some(why) => writeln!(out, "  {why}"),
         None => Ok(()),

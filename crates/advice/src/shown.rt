@@ -9,13 +9,11 @@ const MOST_SHOWN: usize = 60;
 /// that a terminal takes as a command, or that looks like a space or like nothing, is shown by its number in
 /// Unicode: a tab is `\u{9}`.
 #[derive(Clone, Copy)]
-pub struct SafeText<'a> {
-    pub text: &'a str,
-}
+pub struct Shown<'a>(pub &'a str);
 
-impl fmt::Display for SafeText<'_> {
+impl fmt::Display for Shown<'_> {
     fn fmt<W: fmt::Write>(&self, f: &mut fmt::Formatter<W>) -> fmt::Result {
-        for (place, letter) in self.text.chars().enumerate() {
+        for (place, letter) in self.0.chars().enumerate() {
             if place == MOST_SHOWN {
                 return write!(f, "..");
             }
@@ -32,11 +30,6 @@ pub fn show<W: fmt::Write>(letter: char, f: &mut fmt::Formatter<W>) -> fmt::Resu
     } else {
         write!(f, "{letter}")
     }
-}
-
-/// A text of a file, to be shown.
-pub fn shown(text: &str) -> SafeText<'_> {
-    SafeText { text }
 }
 
 // Whether a character is none that can be seen, and no space: a control, another kind of space, or one that

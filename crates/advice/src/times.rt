@@ -3,7 +3,7 @@
 use crate::document::{explain_document, read_file};
 use crate::page::Brief;
 use crate::position::File;
-use crate::shown::shown;
+use crate::shown::Shown;
 use faults::FaultKind;
 use plans::TimesKey;
 use std::alloc::Global;
@@ -45,7 +45,7 @@ fn explain_string<W: Write>(
         return Ok(());
     };
     let line = value.as_str().unwrap_or("");
-    writeln!(out, "  {}: {}", file.at_string(key, position), shown(line))
+    writeln!(out, "  {}: {}", file.at_string(key, position), Shown(line))
 }
 
 fn value_at<'a>(table: &'a Table, key: &str, position: usize) -> Option<&'a Value> {

@@ -2,7 +2,7 @@
 
 use crate::command::{why_no_command, why_not_of_shell};
 use crate::page::Brief;
-use crate::shown::shown;
+use crate::shown::Shown;
 use faults::FaultKind;
 use network_model::LinkSpec;
 use script::Names;
@@ -31,7 +31,7 @@ pub fn explain_typed<W: Write>(
     let number = typed.number;
     match str::from_utf8(typed.line) {
         Ok(line) => {
-            writeln!(out, "  line {number}: {}", shown(line))?;
+            writeln!(out, "  line {number}: {}", Shown(line))?;
             if matches!(kind, FaultKind::BadCommand | FaultKind::BadCost) {
                 let why = match why_not_of_shell(line) {
                     Some(why) => why,

@@ -1,6 +1,6 @@
 //! Why a text of a file cannot be taken.
 
-use crate::shown::{show, shown};
+use crate::shown::{Shown, show};
 use std::fmt;
 
 /// What stands in a reason: a word of the file, or a number.
@@ -16,7 +16,7 @@ impl fmt::Display for Word<'_> {
     fn fmt<W: fmt::Write>(&self, f: &mut fmt::Formatter<W>) -> fmt::Result {
         match *self {
             Word::Nothing => Ok(()),
-            Word::Text(text) => write!(f, "{}", shown(text)),
+            Word::Text(text) => write!(f, "{}", Shown(text)),
             Word::Letter(letter) => show(letter, f),
             Word::Number(number) => write!(f, "{number}"),
         }

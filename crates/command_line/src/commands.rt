@@ -9,6 +9,13 @@ use clap::error::ErrorKind;
 use clap::{Command, Error};
 use std::alloc::{AllocError, Global};
 
+// A command: its name, what it does, an example, and its arguments.
+macro_rules! command_with {
+    ($alloc:ident $name:literal $about:literal $example:literal $($argument:ident)*) => {
+        command_of($alloc, $name, $about, $example, &[$($argument),*])
+    };
+}
+
 /// The error of a command line of which a word is not UTF-8.
 pub fn not_utf8(alloc: Global) -> Result<Error, AllocError>
     ensures { IfOk result (λ e. kind_of e ≡ ErrorKind.InvalidValue) }
@@ -113,75 +120,51 @@ pub(crate) fn program_command<'a>(alloc: Global) -> Result<Command<'a>, AllocErr
 fn check_command<'a>(alloc: Global) -> Result<Command<'a>, AllocError>
     ensures { IfOk result (IsProgramCommand check_app) }
 {
-    command_of(
-        alloc,
-        "check",
-        "Checks a scenario, and prints its size or its first fault",
-        "Example:\n  dualnet check examples/two-routers.toml",
-        &[FILE, EXPLAIN],
-    )
+    command_with!(alloc "check" "Checks a scenario, and prints its size or its first fault"
+        "Example:\n  dualnet check examples/two-routers.toml"
+        FILE EXPLAIN)
 }
 
 fn run_command<'a>(alloc: Global) -> Result<Command<'a>, AllocError>
     ensures { IfOk result (IsProgramCommand run_app) }
 {
-    command_of(
-        alloc,
-        "run",
-        "Opens the network of a scenario, and does the commands of its script",
-        "Example:\n  dualnet run examples/two-routers.toml --threads 4 --journal two-routers.journal",
-        &[
-            FILE, THREADS, WORKERS, JOURNAL, NO_JOURNAL, EXPLAIN, FORMAT, PROGRESS,
-        ],
-    )
+    command_with!(alloc "run" "Opens the network of a scenario, and does the commands of its script"
+        "Example:\n  dualnet run examples/two-routers.toml --threads 4 --journal two-routers.journal"
+        FILE THREADS WORKERS JOURNAL NO_JOURNAL EXPLAIN FORMAT PROGRESS)
 }
 
 fn replay_command<'a>(alloc: Global) -> Result<Command<'a>, AllocError>
     ensures { IfOk result (IsProgramCommand replay_app) }
 {
-    command_of(
-        alloc,
-        "replay",
-        "Does the steps of a journal again, and compares how the network ends",
-        "Example:\n  dualnet replay examples/two-routers.toml two-routers.journal",
-        &[FILE, GIVEN_JOURNAL, EXPLAIN, FORMAT, PROGRESS],
-    )
+    command_with!(alloc "replay" "Does the steps of a journal again, and compares how the network ends"
+        "Example:\n  dualnet replay examples/two-routers.toml two-routers.journal"
+        FILE GIVEN_JOURNAL EXPLAIN FORMAT PROGRESS)
 }
 
 fn time_command<'a>(alloc: Global) -> Result<Command<'a>, AllocError>
     ensures { IfOk result (IsProgramCommand time_app) }
 {
-    command_of(
-        alloc,
-        "time",
-        "Runs the network of a scenario in simulated time, and prints a line for each change",
-        "Example:\n  dualnet time examples/ring.toml examples/ring-times.toml --spells",
-        &[FILE, TIMES, SPELLS, EXPLAIN, FORMAT],
-    )
+    command_with!(alloc "time"
+        "Runs the network of a scenario in simulated time, and prints a line for each change"
+        "Example:\n  dualnet time examples/ring.toml examples/ring-times.toml --spells"
+        FILE TIMES SPELLS EXPLAIN FORMAT)
 }
 
 fn explain_command<'a>(alloc: Global) -> Result<Command<'a>, AllocError>
     ensures { IfOk result (IsProgramCommand explain_app) }
 {
-    command_of(
-        alloc,
-        "explain",
-        "Explains a number that the program prints: when it comes, and what to do",
-        "Example:\n  dualnet explain 45",
-        &[NUMBER],
-    )
+    command_with!(alloc "explain"
+        "Explains a number that the program prints: when it comes, and what to do"
+        "Example:\n  dualnet explain 45"
+        NUMBER)
 }
 
 fn shell_command<'a>(alloc: Global) -> Result<Command<'a>, AllocError>
     ensures { IfOk result (IsProgramCommand shell_app) }
 {
-    command_of(
-        alloc,
-        "shell",
-        "Opens the network of a scenario, and does the commands that you type",
-        "Example:\n  dualnet shell examples/ring.toml",
-        &[FILE, JOURNAL, NO_JOURNAL, EXPLAIN, FORMAT],
-    )
+    command_with!(alloc "shell" "Opens the network of a scenario, and does the commands that you type"
+        "Example:\n  dualnet shell examples/ring.toml"
+        FILE JOURNAL NO_JOURNAL EXPLAIN FORMAT)
 }
 
 // ---- their arguments

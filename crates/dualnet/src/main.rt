@@ -6,7 +6,7 @@
 //!
 //! ```text
 //!   arguments  -->  read_words  -->  Words
-//!   files      -->  open_file   -->  Source, kept as it is read  --.
+//!   files      -->  open_file   -->  Input, kept as it is read   --.
 //!                                                                   +-->  play  -->  status, output, fault
 //!   standard input (commands of a shell)  -------------------------'
 //!   journal    <--  fs::write   <--  what `play` kept, if the status is 0
@@ -35,9 +35,7 @@ mod pages;
 
 use advice::{explain, file_to_explain};
 use command_line::{Words, read_words};
-use play::{
-    Fault, FaultKind, Host, NoGate, Platform, Source, Streams, THRESHOLDS, play, refuse,
-};
+use play::{Fault, FaultKind, Host, NoGate, Platform, Streams, THRESHOLDS, play, refuse};
 use program_files::{
     Input, exit_code, explain_unreadable, given_words, is_input, is_one_file, kept_path, open_file,
     print_error, scenario_path, second_path,
@@ -168,20 +166,20 @@ fn keep_journal(rt: &HostRuntime, words: &Words<'_>, status: u8, journal: &[u8])
 }
 
 // The scenario.
-fn first_input(rt: &HostRuntime, words: &Words<'_>) -> Source<Input> {
+fn first_input(rt: &HostRuntime, words: &Words<'_>) -> Input {
     match scenario_path(words) {
         Some(path) => open_file(rt, path),
-        None => Source::Missing,
+        None => Input::Missing,
     }
 }
 
 // The journal that is replayed, the document of times, or the commands of a shell.
-fn second_input(rt: &HostRuntime, words: &Words<'_>) -> Source<Input> {
+fn second_input(rt: &HostRuntime, words: &Words<'_>) -> Input {
     match *words {
-        Words::Shell { .. } => Source::Open(Input::Standard(rt.stdin())),
+        Words::Shell { .. } => Input::Standard(rt.stdin()),
         _ => match second_path(words) {
             Some(path) if path != "-" || !is_scenario_from_input(words) => open_file(rt, path),
-            _ => Source::Missing,
+            _ => Input::Missing,
         },
     }
 }
@@ -234,14 +232,14 @@ fn refuse_journal<D: fmt::Display + Drop>(
 // A reader, and what was read by it, where that is kept.
 #[derive(Drop)]
 struct Kept {
-    file: Source<Input>,
+    file: Input,
     keeps: bool,
     bytes: Vec<u8>,
 }
 
 impl Kept {
     // Nothing is read yet.
-    fn of(rt: &HostRuntime, file: Source<Input>, keeps: bool) -> Kept {
+    fn of(rt: &HostRuntime, file: Input, keeps: bool) -> Kept {
         Kept {
             file,
             keeps,

@@ -12,8 +12,8 @@
 //! If a step of the journal is refused, the states before it are written nevertheless, and the status is 2.
 
 use command_line::{ViewWords, read_view_words};
-use play::{Fault, FaultKind, Host, Source, refuse};
-use program_files::{is_input, is_read, open_file, print_error};
+use play::{Fault, FaultKind, Host, refuse};
+use program_files::{Input, is_input, is_read, open_file, print_error};
 use std::io::{BufWriter, Write};
 use std::{fs, io};
 use view::show;
@@ -84,7 +84,7 @@ fn write_to<H: Host>(
     let scenario = open_file(rt, words.file);
     let other = match second_path(words) {
         Some(path) if path != "-" || words.file != "-" => open_file(rt, path),
-        _ => Source::Missing,
+        _ => Input::Missing,
     };
     show(wait, rt.alloc(), words, scenario, other, &mut out, &mut err)
 }

@@ -29,18 +29,9 @@ pub struct Counted {
     saved: Option<Simulation>,
     // The number of the last job, and the jobs that were answered since the last `drain`.
     last: u64,
-    answers: Vec<JobAnswer>,
+    answers: Vec<(u64, Answer)>,
     // What was done until it was counted last.
     counted: Counts,
-}
-
-// A job, and the row that its router's image answered.
-#[derive(Clone, Copy)]
-struct JobAnswer {
-    number: u64,
-    router: u16,
-    addr: u32,
-    found: Option<(Prefix, Entry)>,
 }
 
 impl Model for Counted {
@@ -107,13 +98,13 @@ impl Counted {
     {
         let found = self.look_up(router, addr)?;
         let number = self.last.saturating_add(1);
-        let answer = JobAnswer {
-            number,
+        let answer = Answer {
             router,
             addr,
             found,
         };
-        self.answers.push(answer).map_err(|_| Refusal::NoMemory)?;
+        let answered = (number, answer);
+        self.answers.push(answered).map_err(|_| Refusal::NoMemory)?;
         self.last = number;
         Ok(())
     }
@@ -232,13 +223,8 @@ impl Live for Counted {
     }
 
     fn drain<W: Write>(&mut self, printer: &Printer<'_>, out: &mut W) -> Result<(), FaultKind> {
-        for job in &self.answers {
-            let answer = Answer {
-                router: job.router,
-                addr: job.addr,
-                found: job.found,
-            };
-            let packet = Asked::Packet(job.number, answer);
+        for (number, answer) in &self.answers {
+            let packet = Asked::Packet(*number, *answer);
             let _ = printer.print(&Line::Asked(packet), out);
         }
         self.answers.clear();

@@ -25,16 +25,15 @@ use std::io::Write;
 /// What is told of a script or a shell, and how.
 #[derive(Clone, Copy)]
 pub struct PrintStyle {
-    /// Whether more is told of a machine's state, and of what cannot be done.
+    /// Whether more is told of a machine's state and of what cannot be done, and in a shell of what each step takes or
+    /// sends.
     pub explain: bool,
-    /// Whether it is told what each step takes or sends.
-    pub moves: bool,
     /// How what is printed is written.
     pub format: Format,
     /// Whether it is told how far a script is.
     pub progress: bool,
-    /// Whether the lines are the elements of a list.
-    pub listed: bool,
+    /// Whether commands are typed: then lines of JSON are the elements of lists.
+    pub is_shell: bool,
 }
 
 /// How commands are done, and told of.
@@ -54,7 +53,7 @@ impl<'a, G> Interpreter<'a, G> {
         Printer {
             directory: self.directory,
             format: self.style.format,
-            listed: self.style.listed,
+            listed: self.style.is_shell && matches!(self.style.format, Format::Json),
         }
     }
 }
@@ -140,7 +139,8 @@ where
     let alloc = interpreter.alloc;
     match command {
         Command::Step(step) => {
-            let done = do_step(net, &printer, interpreter.style.moves, step, out);
+            let moves = interpreter.style.is_shell && interpreter.style.explain;
+            let done = do_step(net, &printer, moves, step, out);
             into_kind(done)
         }
         Command::Try(step) => {
@@ -161,8 +161,7 @@ where
         Command::Table { router } => into_kind(show_table(net.world(), &printer, router, out)),
         Command::Next { router } => {
             let links = net.network().links();
-            let done = show_next(net.world(), links, &printer, router, out);
-            into_kind(done)
+            into_kind(show_next(net.world(), links, &printer, router, out))
         }
         Command::Queue { router, port } => {
             let done = show_queue(alloc, net.world(), &printer, router, port, out);

@@ -4,7 +4,7 @@ use crate::line::Line;
 use crate::reasons::{AwaitsLine, Known, KnownLine};
 use crate::told::Printer;
 use diffusing_replies::PortSet;
-use dual_machine::{Machine, Mode};
+use dual_machine::Mode;
 use ipv4_prefix::Prefix;
 use router_core::Router;
 use std::io;
@@ -34,7 +34,14 @@ pub fn print_reasons<W: Write>(
     if let Some(cost) = machine.attachment() {
         print_known(printer, number, prefix, Known::Attached(cost), out)?;
     }
-    print_neighbours(printer, number, prefix, machine, out)
+    for port in 0..32 {
+        if let Some(known) = machine.neighbour(port) {
+            let neighbour = printer.directory.neighbour(number, port);
+            let known = Known::AtNeighbour(neighbour, known);
+            print_known(printer, number, prefix, known, out)?;
+        }
+    }
+    Ok(())
 }
 
 // Prints something else that it knows.
@@ -78,22 +85,4 @@ fn print_awaited<W: Write>(
         neighbours: &neighbours[..count.min(32)],
     };
     printer.print(&Line::Awaits(line), out)
-}
-
-// Prints what is known of each neighbour.
-fn print_neighbours<W: Write>(
-    printer: &Printer<'_>,
-    number: u16,
-    prefix: Prefix,
-    machine: &Machine,
-    out: &mut W,
-) -> io::Result<()> {
-    for port in 0..32 {
-        if let Some(known) = machine.neighbour(port) {
-            let neighbour = printer.directory.neighbour(number, port);
-            let known = Known::AtNeighbour(neighbour, known);
-            print_known(printer, number, prefix, known, out)?;
-        }
-    }
-    Ok(())
 }

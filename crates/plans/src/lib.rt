@@ -37,14 +37,12 @@
 #![tactic(auto)]
 
 mod fault;
-mod files;
 mod outcome;
 mod place;
 mod plan;
 mod read;
 
 pub use fault::{Fault, refuse};
-pub use files::Source;
 pub use outcome::Outcome;
 pub use place::{TimesKey, Where};
 pub use plan::{Plan, read_plan};

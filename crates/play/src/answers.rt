@@ -19,7 +19,7 @@ pub(crate) fn print_text<W: Write>(
     match format {
         Format::Text => writeln!(out, "{text}"),
         Format::Json => {
-            let text = Escaped { text };
+            let text = Escaped(text);
             write!(out, ",{{\"kind\":\"{kind}\",\"text\":\"{text}\"}}")
         }
     }
@@ -63,8 +63,7 @@ pub(crate) fn end_answer<G, W: Write>(
                 let mut bytes = Vec::new(interpreter.alloc);
                 // Where there is no memory for all of it, what there is memory for is told.
                 let _ = explain_typed(interpreter.alloc, typed, kind, &mut bytes);
-                let text = str::from_utf8(&bytes).unwrap_or("");
-                let text = Escaped { text };
+                let text = Escaped(str::from_utf8(&bytes).unwrap_or(""));
                 write!(out, ",\"told\":\"{text}\"")?;
             }
         }
@@ -75,13 +74,11 @@ pub(crate) fn end_answer<G, W: Write>(
 
 /// A text inside the quotes of JSON.
 #[derive(Clone, Copy)]
-pub(crate) struct Escaped<'a> {
-    pub text: &'a str,
-}
+pub(crate) struct Escaped<'a>(pub &'a str);
 
 impl fmt::Display for Escaped<'_> {
     fn fmt<W: fmt::Write>(&self, f: &mut fmt::Formatter<W>) -> fmt::Result {
-        for letter in self.text.chars() {
+        for letter in self.0.chars() {
             match letter {
                 '"' => write!(f, "\\\"")?,
                 '\\' => write!(f, "\\\\")?,

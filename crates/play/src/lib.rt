@@ -64,5 +64,5 @@ mod shell;
 pub use faults::FaultKind;
 pub use interpreter::{Host, NO_THRESHOLDS, NoGate, THRESHOLDS, Thresholds, TurnGate};
 pub use keeping::Keeper;
-pub use plans::{Fault, Outcome, Plan, Source, read_bytes, read_plan, read_text, refuse};
+pub use plans::{Fault, Outcome, Plan, read_bytes, read_plan, read_text, refuse};
 pub use program::{Platform, Streams, play, run_quietly};

@@ -20,7 +20,7 @@ use plans::{Fault, Outcome, Plan, read_plan, read_text, refuse};
 use std::alloc::Global;
 use std::io;
 use std::io::{Empty, Read, Write};
-use timing::{TimeOptions, time};
+use timing::time;
 
 /// By what the program works.
 #[derive(Drop)]
@@ -99,10 +99,9 @@ fn do_words<H: Host, G: TurnGate + Sync, R: Read + Drop, J: Read + Drop, W: Writ
         } => {
             let style = PrintStyle {
                 explain,
-                moves: false,
                 format,
                 progress,
-                listed: false,
+                is_shell: false,
             };
             if no_journal {
                 return count(by, scenario, style, None::<J>, streams);
@@ -118,16 +117,14 @@ fn do_words<H: Host, G: TurnGate + Sync, R: Read + Drop, J: Read + Drop, W: Writ
         } => {
             let style = PrintStyle {
                 explain,
-                moves: false,
                 format,
                 progress,
-                listed: false,
+                is_shell: false,
             };
             replay(by.alloc, scenario, journal, style, streams)
         }
         Words::Time { spells, format, .. } => {
-            let options = TimeOptions { format, spells };
-            time(by.alloc, scenario, journal, options, streams.out)
+            time(by.alloc, scenario, journal, format, spells, streams.out)
         }
         Words::Explain { kind } => {
             let _ = write!(streams.out, "{}", Page(kind));
@@ -141,10 +138,9 @@ fn do_words<H: Host, G: TurnGate + Sync, R: Read + Drop, J: Read + Drop, W: Writ
         } => {
             let style = PrintStyle {
                 explain,
-                moves: explain,
                 format,
                 progress: false,
-                listed: matches!(format, Format::Json),
+                is_shell: true,
             };
             let typed = Some(journal);
             if no_journal {
@@ -254,10 +250,9 @@ pub fn run_quietly<H: Host, K: Keeper, V: Write>(
     };
     let style = PrintStyle {
         explain: false,
-        moves: false,
         format: Format::Text,
         progress: false,
-        listed: false,
+        is_shell: false,
     };
     let mut out = io::sink();
     let mut err = io::sink();

@@ -2,7 +2,6 @@
 
 ghost use Rattle.std.specs.Prelude.{◌≡◌, true};
 
-use plans::Source;
 use std::io::{Read, Write};
 use std::os::unix::fs::MetadataExt;
 use std::{fs, io};
@@ -10,11 +9,12 @@ use std::{fs, io};
 // By this path Linux shows what the standard input reads.
 const INPUT: &str = "/dev/stdin";
 
-/// A file, or the standard input.
+/// A file, the standard input, or a file that could not be opened, of which each read fails.
 #[derive(Drop)]
 pub enum Input {
     File(fs::File),
     Standard(io::Stdin),
+    Missing,
 }
 
 impl Read for Input {
@@ -22,18 +22,19 @@ impl Read for Input {
         match self {
             Input::File(file) => file.read(buf),
             Input::Standard(input) => input.read(buf),
+            Input::Missing => Err(io::Error::from(io::ErrorKind::NotFound)),
         }
     }
 }
 
 /// Opens a file; a hyphen is the standard input.
-pub fn open_file(rt: &HostRuntime, path: &str) -> Source<Input> {
+pub fn open_file(rt: &HostRuntime, path: &str) -> Input {
     if path == "-" {
-        return Source::Open(Input::Standard(rt.stdin()));
+        return Input::Standard(rt.stdin());
     }
     match fs::open(rt, path) {
-        Ok(file) => Source::Open(Input::File(file)),
-        Err(_) => Source::Missing,
+        Ok(file) => Input::File(file),
+        Err(_) => Input::Missing,
     }
 }
 

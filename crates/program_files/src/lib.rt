@@ -13,7 +13,7 @@
 //!
 //! - `scenario_path`, `second_path` and `kept_path` say which file is which: the scenario, the journal or the document
 //!   of times that is read beside it, and the journal that is written. [`is_read`] says so for `dualnet-view`.
-//! - [`open_file`] never fails. A file that cannot be opened is `Source::Missing`, of which each read fails,
+//! - [`open_file`] never fails. A file that cannot be opened is `Input::Missing`, of which each read fails,
 //!   so `plans` finds that it is unreadable, as it finds all other faults of a scenario.
 //! - [`explain_unreadable`] says why, in the system's words.
 //! - [`print_error`] prints an error of the command line, or the help that was asked for, and answers the status.

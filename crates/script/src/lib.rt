@@ -59,4 +59,4 @@ pub use fault::LineFault;
 pub use names::Names;
 pub use place::{Key, Located, Place};
 pub use reading::{Reading, Script, read_script};
-pub use step::parse_step;
+pub use step::{parse_step, place_between};

@@ -201,8 +201,8 @@ fn link_between(links: &[LinkSpec], a: u16, b: u16) -> Option<u16>
     Some(link as u16)
 }
 
-// The place of the first link that joins the two routers.
-fn place_between(links: &[LinkSpec], a: u16, b: u16) -> Option<usize>
+/// The place of the first link that joins the two routers.
+pub fn place_between(links: &[LinkSpec], a: u16, b: u16) -> Option<usize>
     ensures value { result ≡ position (joins a b) links.now }
     ensures within { IfSome result (λ link. link < length links.now) }
 {

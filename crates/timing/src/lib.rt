@@ -14,7 +14,7 @@
 //! ```
 //!
 //! ```text
-//! let end = time(alloc, scenario, times, options, &mut out)?;
+//! let end = time(alloc, scenario, times, Format::Text, false, &mut out)?;
 //!
 //!   0 up a b: at rest 1760 later, 9 steps, 2 updates 0 queries 0 replies
 //!   1000000 down a b: ..
@@ -48,5 +48,5 @@ mod times;
 
 pub use snapshot::{Begun, Snapshot};
 pub use steps::{SteppedRun, run_in_steps};
-pub use timed::{TimeOptions, time};
+pub use timed::time;
 pub use times::{Times, read_times, read_times_text};

@@ -1,8 +1,7 @@
 //! The lines of a document of times.
 
-ghost use Rattle.std.specs.Prelude.{◌≡◌, ◌<◌, [], IfErr, IfOk, IfSome, OnOk, length, position};
+ghost use Rattle.std.specs.Prelude.{◌≡◌, [], IfErr, IfOk, OnOk, length};
 ghost use Rattle.std.specs.List.{AllZip};
-ghost use Rattle.network_model.specs.Network.{joins};
 ghost use Rattle.texts.specs.Words.{texts};
 ghost use Rattle.script.specs.Kinds.{line_kind};
 ghost use Rattle.timing.specs.Lines.{delays_from, SaysChange, SaysLink, SaysRouter};
@@ -15,7 +14,7 @@ use ipv4_prefix::Prefix;
 use metric::Cost;
 use network_model::{LinkSpec, Step};
 use plans::{Fault, TimesKey, Where};
-use script::{LineFault, Names, parse_step};
+use script::{LineFault, Names, parse_step, place_between};
 use texts::{first_word, four_words, two_words};
 use timed_simulation::{Change, LinkDelays, is_change};
 
@@ -100,20 +99,12 @@ fn read_link(names: &Names, links: &[LinkSpec], line: &str) -> Result<Given<Link
     let (name, neighbour, there, back) = four_words(line).ok_or(LineFault::BadLine)?;
     let router = names.number(name).ok_or(LineFault::BadLine)?;
     let far = names.number(neighbour).ok_or(LineFault::BadLine)?;
-    let number = link_between(links, router, far).ok_or(LineFault::BadLine)?;
+    let number = place_between(links, router, far).ok_or(LineFault::BadLine)?;
     let there = read_moment(there).ok_or(LineFault::BadLine)?;
     let back = read_moment(back).ok_or(LineFault::BadLine)?;
     let link = &links[number];
     let value = delays_from(router, link, there, back);
     Ok(Given { number, value })
-}
-
-// The first link that joins two routers.
-fn link_between(links: &[LinkSpec], a: u16, b: u16) -> Option<usize>
-    ensures value { result ≡ position (joins a b) links.now }
-    ensures within { IfSome result (λ link. link < length links.now) }
-{
-    links.iter().position(|link| link.joins(a, b))
 }
 
 // The delays of a link on which an item is so long on its way from a router, and so long back.

@@ -3,7 +3,7 @@
 use crate::snapshot::{Begun, Snapshot};
 use crate::tally::{Span, began_in, count_spells};
 use faults::FaultKind;
-use lines::{ChangeLine, Effect, Ended, Line, Printer, SpellLine};
+use lines::{ChangeLine, Effect, Line, Printer, SpellLine};
 use network_model::LinkSpec;
 use std::io::Write;
 use timed_reports::{Report, Spell};
@@ -92,13 +92,4 @@ fn print_spells<W: Write>(
             let _ = printer.print(&Line::Spell(line), out);
         }
     }
-}
-
-/// Prints the last line of a run that came to rest.
-pub fn print_end<W: Write>(printer: &Printer<'_>, end: Snapshot, out: &mut W) {
-    let ended = Ended::AtRest {
-        steps: end.counts.steps,
-        moment: end.now,
-    };
-    let _ = printer.print(&Line::Ended(ended), out);
 }

@@ -6,12 +6,12 @@ ghost use Rattle.plans.specs.Faults.{OfBytes};
 ghost use Rattle.timing.specs.Ends.{IsTimedToEnd, RunsTimes, StopsTime};
 ghost use Rattle.timing.specs.Runs.{IsOfEvents};
 
-use crate::printing::{print_changes, print_end};
+use crate::printing::print_changes;
 use crate::run::{give, run_changes};
 use crate::snapshot::Snapshot;
 use crate::times::{Times, read_times, read_times_text};
 use command_line::Format;
-use lines::Printer;
+use lines::{Ended, Line, Printer};
 use plans::{Fault, Outcome, Plan, read_plan, read_text};
 use script::Directory;
 use std::alloc::Global;
@@ -20,23 +20,15 @@ use timed_reports::Recording;
 use timed_simulation::Change;
 use world::Network;
 
-/// How a run in simulated time is told of.
-#[derive(Clone, Copy)]
-pub struct TimeOptions {
-    /// How what is printed is written.
-    pub format: Format,
-    /// Whether each computation and each outage is told.
-    pub spells: bool,
-}
-
 /// Reads a scenario and a document of times, runs the network until it is at rest, and tells what came of each
-/// change. Both are read whole before the first event is done, and the scenario's script is not done. A write
-/// that fails is lost.
+/// change, in this format, and if that is asked for of each computation and each outage. Both are read whole before
+/// the first event is done, and the scenario's script is not done. A write that fails is lost.
 pub fn time<R: Read + Drop, J: Read + Drop, W: Write>(
     alloc: Global,
     scenario: R,
     times: J,
-    options: TimeOptions,
+    format: Format,
+    spells: bool,
     out: &mut W,
 ) -> Result<Outcome, Fault>
     ensures ok { IfOk result (λ end. (end ≡ Outcome.Done) × OfBytes (R.remaining scenario) (λ bytes.
@@ -52,7 +44,7 @@ pub fn time<R: Read + Drop, J: Read + Drop, W: Write>(
     } = read_plan(alloc, text.as_str())?;
     let lines = read_times_text(alloc, times)?;
     let times = read_times(alloc, directory.names(), &network, lines.as_str())?;
-    run(alloc, network, &directory, &times, options, out)?;
+    run(alloc, network, &directory, &times, format, spells, out)?;
     Ok(Outcome::Done)
 }
 
@@ -62,7 +54,8 @@ fn run<W: Write>(
     network: Network,
     directory: &Directory,
     times: &Times,
-    options: TimeOptions,
+    format: Format,
+    spells: bool,
     out: &mut W,
 ) -> Result<(), Fault>
     requires links { length times.now.links.items ≡ length network.links }
@@ -71,25 +64,23 @@ fn run<W: Write>(
     ensures ok { OnOk result (RunsTimes network times.now) }
     ensures fault { IfErr result IsOfEvents }
 {
-    let mut recording = Recording::open(
-        alloc,
-        options.spells,
-        network,
-        &times.links,
-        &times.routers,
-    )?;
+    let mut recording = Recording::open(alloc, spells, network, &times.links, &times.routers)?;
     give(&mut recording, &times.changes)?;
     let mut begun = Vec::new(alloc);
     let ran = run_changes(&mut recording, &mut begun);
     let end = Snapshot::of(recording.timed());
     let printer = Printer {
         directory,
-        format: options.format,
+        format,
         listed: false,
     };
     let links = recording.timed().simulation().network().links();
     print_changes(&printer, links, &begun, end, recording.report(), out);
     ran?;
-    print_end(&printer, end, out);
+    let ended = Ended::AtRest {
+        steps: end.counts.steps,
+        moment: end.now,
+    };
+    let _ = printer.print(&Line::Ended(ended), out);
     Ok(())
 }

@@ -18,8 +18,8 @@ returns c =
           ∙ ap (λ t. c.in_ok-name.name.now ∷ c.in_ok-name.neighbour.now ∷ decimal c.in_ok-there.there ∷ t ∷ []) back.1;
       known = sym c.number.ensures.value ∙ c.in_ok-router.ensures.ok_part;
       far_known = sym c.number-2.ensures.value ∙ c.in_ok-far.ensures.ok_part;
-      joined = sym c.link_between.ensures.value ∙ c.in_ok-number.ensures.ok_part;
+      joined = sym c.place_between.ensures.value ∙ c.in_ok-number.ensures.ok_part;
       link = c.index-links-number.result;
-      at = slice_get_read c.args.links.now (length c.args.links.now) c.in_ok-number.number c.index-links-number.result refl (rw c.in_ok-number.ensures.ok_part at c.link_between.ensures.within) c.index-links-number.is;
+      at = slice_get_read c.args.links.now (length c.args.links.now) c.in_ok-number.number c.index-links-number.result refl (rw c.in_ok-number.ensures.ok_part at c.place_between.ensures.within) c.index-links-number.is;
       delays = c.delays_from-value.ensures;
     }
