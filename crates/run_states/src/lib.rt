@@ -41,7 +41,6 @@
 //! below 20 MB. Members come in the order of their names, because the crate for JSON keeps objects so.
 #![tactic(auto)]
 
-mod fault;
 mod link_book;
 mod queue;
 mod recorder;
@@ -50,5 +49,4 @@ mod shown;
 mod states;
 mod values;
 
-pub use fault::StatesFault;
 pub use states::{run_from_opening, write_states};

@@ -20,11 +20,11 @@ ghost use Rattle.run_states.specs.Recorders.{RecorderFollows, IsCurrent, IsRecor
 ghost use Rattle.run_states.specs.Told.{IsStatesText, Tell, is_told as told_of, moment_told, numbers_from, stride as stride_of};
 ghost use Rattle.run_states.specs.Values.{count_value as number_of, value_line, list, opening_data, put_moment as with_moment, put_step as with_step, state_data, word};
 
-use crate::fault::StatesFault;
 use crate::recorder::{Changes, Recorder};
 use crate::values::{
     link_values, machine_values, put_array, put_list, queue_values, router_values,
 };
+use faults::FaultKind;
 use ipv4_prefix::Prefix;
 use journal::StepText;
 use network_model::{LinkSpec, NoMemory, Step};
@@ -49,7 +49,8 @@ pub fn run_from_opening(alloc: Global, network: &Network, steps: &[Step]) -> Res
 
 /// Writes what a network opens with, and its state at the opening, after each step whose number is a
 /// multiple of `every` (each step where that is 0), and after the last: a line of JSON each. The steps are lawful,
-/// one after another from the opening. Of each whose moment is given the line says that.
+/// one after another from the opening. Of each whose moment is given the line says that. Refused with `NoMemory`, and
+/// with `Unwritable` where a write fails.
 pub fn write_states<'n, W: Write>(
     alloc: Global,
     network: &'n Network,
@@ -58,20 +59,21 @@ pub fn write_states<'n, W: Write>(
     moments: &[u64],
     every: usize,
     out: &mut W,
-) -> Result<(), StatesFault>
+) -> Result<(), FaultKind>
     requires { (w : model.World) × Runs (model.opening network.now) steps.now w }
     ensures { OnOk result ((text : Text)
         × IsStatesText network.now directory.now steps.now moments.now (stride_of every) text
         × Appends (W.contents out.old) (W.contents out.new) text) }
 {
-    write_done(
-        alloc,
-        network,
-        directory,
-        steps,
-        moments,
-        stride(every),
-        out,
+    let told = stride(every);
+    let world = World::open(alloc, network)?;
+    let mut recorder = Recorder::new(alloc, network)?;
+    let prefixes = &recorder.prefixes;
+    let opening = opening_value(alloc, network, directory, prefixes, steps.len(), told)?;
+    write_value(alloc, &opening, out)?;
+    write_state(alloc, &world, &mut recorder, 0, None, None, out)?;
+    write_steps(
+        alloc, network, directory, steps, moments, told, world, recorder, out,
     )
 }
 
@@ -97,31 +99,6 @@ fn is_told(number: usize, every: usize, last: usize) -> bool
     number % every == 0 || number == last
 }
 
-// Writes the opening's line and the states of steps, up to the last.
-fn write_done<'n, W: Write>(
-    alloc: Global,
-    network: &'n Network,
-    directory: &'n Directory,
-    steps: &[Step],
-    moments: &[u64],
-    every: usize,
-    out: &mut W,
-) -> Result<(), StatesFault>
-    requires { 0 < every }
-    ensures { OnOk result ((text : Text) × IsStatesText network.now directory.now steps.now moments.now every text
-        × Appends (W.contents out.old) (W.contents out.new) text) }
-{
-    let world = World::open(alloc, network)?;
-    let mut recorder = Recorder::new(alloc, network)?;
-    let prefixes = &recorder.prefixes;
-    let opening = opening_value(alloc, network, directory, prefixes, steps.len(), every)?;
-    write_value(alloc, &opening, out)?;
-    write_state(alloc, &world, &mut recorder, 0, None, None, out)?;
-    write_steps(
-        alloc, network, directory, steps, moments, every, world, recorder, out,
-    )
-}
-
 // Does steps from the opening, whose state was shown, and writes the states after them.
 fn write_steps<'n, W: Write>(
     alloc: Global,
@@ -133,7 +110,7 @@ fn write_steps<'n, W: Write>(
     mut world: World,
     mut recorder: Recorder,
     out: &mut W,
-) -> Result<(), StatesFault>
+) -> Result<(), FaultKind>
     requires every { 0 < every }
     requires opens { world ≡ model.opening network.now }
     requires of { IsRecorderOf world recorder }
@@ -146,7 +123,7 @@ fn write_steps<'n, W: Write>(
     let links = network.links();
     for (before, step) in steps.iter().enumerate() {
         if let Err(_refusal) = recorder.step(&mut world, *step) {
-            return Err(StatesFault::NoMemory);
+            return Err(FaultKind::NoMemory);
         }
         let number = before + 1;
         if is_told(number, every, steps.len()) {
@@ -195,7 +172,7 @@ fn write_state<W: Write>(
     step: Option<String>,
     moment: Option<u64>,
     out: &mut W,
-) -> Result<(), StatesFault>
+) -> Result<(), FaultKind>
     requires of { IsRecorderOf world.now recorder.old }
     requires current { IsCurrent world.now recorder.old }
     ensures of { IsRecorderOf world.now recorder.new }
@@ -218,17 +195,17 @@ fn write_state<W: Write>(
 }
 
 // Writes a value on a line of its own.
-fn write_value<W: Write>(alloc: Global, value: &Value, out: &mut W) -> Result<(), StatesFault>
+fn write_value<W: Write>(alloc: Global, value: &Value, out: &mut W) -> Result<(), FaultKind>
     requires { has_float (view value.now) ≡ false }
     ensures { OnOk result (Appends (W.contents out.old) (W.contents out.new) (value_line (view value.now))) }
 {
     let Ok(text) = value.to_string(alloc) else {
-        return Err(StatesFault::NoMemory);
+        return Err(FaultKind::NoMemory);
     };
     match writeln!(out, "{text}") {
         Ok(()) => Ok(()),
-        Err(error) if error.kind() == ErrorKind::OutOfMemory => Err(StatesFault::NoMemory),
-        Err(_) => Err(StatesFault::Unwritten),
+        Err(error) if error.kind() == ErrorKind::OutOfMemory => Err(FaultKind::NoMemory),
+        Err(_) => Err(FaultKind::Unwritable),
     }
 }
 

@@ -17,7 +17,7 @@ use Rattle.plans.specs.declared.plan.Plan.{Plan}
 use Rattle.plans.specs.Scenarios.{network_read}
 use Rattle.plans.proofs.Planned.{IsPlanned}
 use Rattle.play.specs.Replays.{IsJournalOf}
-use Rattle.run_states.specs.declared.fault.StatesFault.{StatesFault}
+use Rattle.faults.specs.declared.kind.FaultKind.{FaultKind}
 use Rattle.run_states.specs.Told.{IsStatesText}
 use Rattle.view.specs.Page.{page_text}
 use Rattle.view.specs.Shown.{IsJournalShown, IsShort, IsShownInTime, IsTimesShown, IsWritten}
@@ -31,7 +31,7 @@ pub whole_of : (n : Network) (steps : List Step) (ran : Ran) → CameTo n steps 
 whole_of n steps ran came none = subst (λ o. MatchOption o (ran.done ≡ length steps) (StopsAt (refusal came.0) steps ran.done)) none came.2
 
 -- states were written as lines
-pub lines_written : (n : Network) (d : Directory) (steps : List Step) (moments : List ℕ) (json : Bool) (old new : Option Text) (r : Result ⊤ StatesFault) → json ≡ true
+pub lines_written : (n : Network) (d : Directory) (steps : List Step) (moments : List ℕ) (json : Bool) (old new : Option Text) (r : Result ⊤ FaultKind) → json ≡ true
     → OnOk r ((text : Text) × IsStatesText n d steps moments 1 text × Appends old new text) → OnOk r (IsWritten json n d steps moments old new)
 lines_written n d steps moments json old new (Err e) is told = tt
 lines_written n d steps moments json old new (Ok x) is told = record {

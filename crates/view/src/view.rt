@@ -23,7 +23,7 @@ use play::{
     Fault, FaultKind, Host, Keeper, Outcome, Plan, read_bytes, read_plan, read_text, refuse,
     run_quietly,
 };
-use run_states::{StatesFault, run_from_opening, write_states};
+use run_states::{run_from_opening, write_states};
 use script::Directory;
 use std::alloc::Global;
 use std::io::{Read, Write};
@@ -106,10 +106,8 @@ fn show_journal<J: Read + Drop, W: Write, E: Write>(
     )?;
     let ran = run_from_opening(alloc, &network, &journal.steps)?;
     let lawful = &journal.steps[..ran.done];
-    match write_steps(alloc, json, &network, &directory, lawful, &[], out) {
-        Ok(()) => Ok(end_of(ran, err)),
-        Err(fault) => Err(fault_of(fault)),
-    }
+    write_steps(alloc, json, &network, &directory, lawful, &[], out)?;
+    Ok(end_of(ran, err))
 }
 
 // How a run of a journal's steps ended. If one was refused, it is told.
@@ -179,7 +177,7 @@ fn show_run<W: Write>(
 {
     let run = run_in_steps(alloc, network, times)?;
     let network = run.network();
-    match write_steps(
+    write_steps(
         alloc,
         json,
         network,
@@ -187,18 +185,8 @@ fn show_run<W: Write>(
         &run.steps,
         &run.moments,
         out,
-    ) {
-        Ok(()) => Ok(()),
-        Err(fault) => Err(fault_of(fault)),
-    }
-}
-
-// Why states were not written, as a fault.
-fn fault_of(fault: StatesFault) -> Fault {
-    match fault {
-        StatesFault::NoMemory => Fault::from(NoMemory),
-        StatesFault::Unwritten => Fault::from(FaultKind::Unwritable),
-    }
+    )?;
+    Ok(())
 }
 
 // Does the script of a scenario, and writes the states of its steps.
@@ -251,11 +239,11 @@ impl Keeper for States {
         let steps = fabric.journal();
         match write_steps(self.alloc, self.json, network, directory, steps, &[], kept) {
             Ok(()) => Ok(()),
-            Err(StatesFault::NoMemory) => Err(NoMemory),
-            Err(StatesFault::Unwritten) => {
+            Err(FaultKind::Unwritable) => {
                 self.is_unwritten = true;
                 Ok(())
             }
+            Err(_) => Err(NoMemory),
         }
     }
 }
@@ -269,7 +257,7 @@ fn write_steps<W: Write>(
     steps: &[Step],
     moments: &[u64],
     out: &mut W,
-) -> Result<(), StatesFault>
+) -> Result<(), FaultKind>
     requires { (w : model.World) × Runs (model.opening network.now) steps.now w }
     ensures { OnOk result
         (IsWritten json network.now directory.now steps.now moments.now (W.contents out.old) (W.contents out.new)) }
@@ -280,7 +268,7 @@ fn write_steps<W: Write>(
     let states = states_of_page(alloc, network, directory, steps, moments)?;
     match write_page(&states, out) {
         Ok(()) => Ok(()),
-        Err(_) => Err(StatesFault::Unwritten),
+        Err(_) => Err(FaultKind::Unwritable),
     }
 }
 
@@ -292,7 +280,7 @@ fn states_of_page(
     directory: &Directory,
     steps: &[Step],
     moments: &[u64],
-) -> Result<Vec<u8>, StatesFault>
+) -> Result<Vec<u8>, FaultKind>
     requires { (w : model.World) × Runs (model.opening network.now) steps.now w }
     ensures { IfOk result (λ states. (every : ℕ)
         × IsStatesText network.now directory.now steps.now moments.now every states.items
@@ -314,8 +302,8 @@ fn states_of_page(
             &mut states,
         ) {
             Ok(()) => return Ok(states.bytes),
-            Err(StatesFault::NoMemory) => return Err(StatesFault::NoMemory),
-            Err(StatesFault::Unwritten) => every = every.saturating_mul(2),
+            Err(FaultKind::Unwritable) => every = every.saturating_mul(2),
+            Err(fault) => return Err(fault),
         }
     }
     let mut states = Vec::new(alloc);

@@ -5,8 +5,8 @@ use Rattle.view.specs.Shown.{IsWritten}
 use Rattle.view.proofs.Written.{CameTo, shown_whole}
 use Rattle.view.proofs.view.show_journal.Goals as goal
 
-pub returns-in-Ok : goal.returns-in-Ok
-returns-in-Ok g c = λ done.
+pub returns : goal.returns
+returns g c = λ done.
     let none = c.end_of.ensures done in
     let plan = c.in_ok-network.field-0 in
     let text = c.args.text.now in
@@ -23,5 +23,5 @@ returns-in-Ok g c = λ done.
       lines,
       c.in_ok-lines.ensures.whole,
       shown_whole c.args.json text lines plan planned read.version steps old new ran journal came
-          (subst (λ ss. IsWritten c.args.json plan.network plan.directory (take ran.done ss) [] old new) c.deref-3.ensures.value c.in-Ok.ensures) none,
+          (subst (λ ss. IsWritten c.args.json plan.network plan.directory (take ran.done ss) [] old new) c.deref-3.ensures.value c.in_ok-write_steps.ensures) none,
     )

@@ -18,8 +18,8 @@ write_steps-requires g c =
           (subst (λ ss. Runs (opening n) ss (world_of end)) (sym c.deref.ensures.value) (steps_run n c.args.times.now run.steps.items run.moments.items end c.in_ok-run.ensures)),
     )
 
-pub returns-in-Ok : goal.returns-in-Ok
-returns-in-Ok g c =
+pub returns : goal.returns
+returns g c =
     let run = c.in_ok-run.run' in
     let end = timed_in run.recording in
     let d = c.args.directory.now in
@@ -32,5 +32,5 @@ returns-in-Ok g c =
       c.in_ok-run.ensures,
       subst (λ m. IsWritten c.args.json m d run.steps.items run.moments.items old new) same
           (subst (λ ss. IsWritten c.args.json c.network-network.result.now d ss run.moments.items old new) c.deref.ensures.value
-          (subst (λ ms. IsWritten c.args.json c.network-network.result.now d c.deref.result.now ms old new) c.deref-2.ensures.value c.in-Ok.ensures)),
+          (subst (λ ms. IsWritten c.args.json c.network-network.result.now d c.deref.result.now ms old new) c.deref-2.ensures.value c.in_ok-write_steps.ensures)),
     )

@@ -1,4 +1,4 @@
-use Rattle.std.proofs.Common.{◌≡◌, ◌∙◌, ◌++◌, [], ◌∷◌, None, ap, length, refl, subst, sym}
+use Rattle.std.proofs.Common.{◌≡◌, ◌∙◌, ◌++◌, [], ◌∷◌, None, OnOk, ap, length, refl, subst, sym}
 use Rattle.std.specs.Io.KnownBytes.{Appends}
 use Rattle.std.proofs.lemmas.Result.{on_ok_weaker}
 use Rattle.serde_json.specs.View.{view}
@@ -7,14 +7,14 @@ use Rattle.texts.specs.Lines.{lines_text}
 use Rattle.texts.specs.Words.{Text}
 use Rattle.texts.proofs.Printed.{Appends-append}
 use Rattle.run_states.specs.Recorders.{IsCurrent}
-use Rattle.run_states.specs.Told.{IsStateLine}
+use Rattle.run_states.specs.Told.{IsStateLine, IsStatesText}
 use Rattle.run_states.specs.Values.{value_line, opening_data, state_data}
 use Rattle.run_states.proofs.Plain.{opening_plain}
 use Rattle.run_states.proofs.Telling.{states_text}
-use Rattle.run_states.proofs.states.write_done.Goals as goal
+use Rattle.run_states.proofs.states.write_states.Goals as goal
 
 pub write_value-requires : goal.write_value-requires
-write_value-requires g c = ap has_float c.in_ok-opening.ensures ∙ opening_plain c.args.network.now c.args.directory.now c.deref.result.now (length c.args.steps.now) c.args.every
+write_value-requires g c = ap has_float c.in_ok-opening.ensures ∙ opening_plain c.args.network.now c.args.directory.now c.deref.result.now (length c.args.steps.now) c.stride-told.result
 
 pub write_state-requires-clause-current : goal.write_state-requires-clause-current
 write_state-requires-clause-current g c = subst (λ w. IsCurrent w c.in_ok-recorder.recorder) (sym c.in_ok-world.ensures) c.in_ok-recorder.ensures.current
@@ -29,17 +29,18 @@ returns g c =
     let blank = c.in_ok-recorder.recorder in
     let after = c.write_state.new.recorder in
     let told = c.in_ok-write_state.ensures.told in
-    let opening = opening_data n d (blank.prefixes).items (length steps) c.args.every in
-    let opening_is : view c.in_ok-opening.opening ≡ opening = c.in_ok-opening.ensures ∙ ap (λ ps. opening_data n d ps (length steps) c.args.every) c.deref.ensures.value in
+    let opening = opening_data n d (blank.prefixes).items (length steps) c.stride-told.result in
+    let opening_is : view c.in_ok-opening.opening ≡ opening = c.in_ok-opening.ensures ∙ ap (λ ps. opening_data n d ps (length steps) c.stride-told.result) c.deref.ensures.value in
     let line : Text = compact_text (state_data c.in_ok-world.world (after.prefixes).items 0 None None told.0) in
     let is_line : IsStateLine n d steps moments 0 blank after line
     = record { world = c.in_ok-world.world; runs = sym c.in_ok-world.ensures; changes = told.0; follows = told.1; shows = c.in_ok-write_state.ensures.shows; text = refl } in
     let first = subst (λ x. Appends (out c.args.out.now) (out c.write_value.new.out) (value_line x)) opening_is c.in_ok-write_value.ensures in
-    on_ok_weaker c.write_steps.result
+    subst (λ e. OnOk c.write_steps.result ((text : Text) × IsStatesText n d steps moments e text × Appends (out c.args.out.now) (out c.write_steps.new.out) text)) c.stride-told.ensures.exact
+    (on_ok_weaker c.write_steps.result
     (λ rest. (
       lines_text (λ (t : Text). t) (compact_text opening ∷ line ∷ rest.0),
-      states_text n d steps moments c.args.every blank after line rest.0 c.requires c.in_ok-recorder.ensures.blank c.in_ok-recorder.ensures.of c.in_ok-recorder.ensures.prefixes is_line rest.1,
+      states_text n d steps moments c.stride-told.result blank after line rest.0 c.stride-told.ensures.positive c.in_ok-recorder.ensures.blank c.in_ok-recorder.ensures.of c.in_ok-recorder.ensures.prefixes is_line rest.1,
       Appends-append (out c.args.out.now) (out c.write_value.new.out) (out c.write_steps.new.out) (value_line opening) ((line ++ 10 ∷ []) ++ lines_text (λ (t : Text). t) rest.0) first
           (Appends-append (out c.write_value.new.out) (out c.write_state.new.out) (out c.write_steps.new.out) (line ++ 10 ∷ []) (lines_text (λ (t : Text). t) rest.0) told.2 rest.2),
     ))
-    c.write_steps.ensures
+    c.write_steps.ensures)
