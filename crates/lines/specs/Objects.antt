@@ -23,8 +23,6 @@ use Rattle.lines.specs.declared.answers.Asked.TheVariants.{Row, Lookup, Packet}
 use Rattle.lines.specs.declared.states.LinkLine.{LinkLine}
 use Rattle.lines.specs.declared.states.RouterLine.{RouterLine}
 use Rattle.lines.specs.declared.states.MachineLine.{MachineLine}
-use Rattle.lines.specs.declared.states.State.{State}
-use Rattle.lines.specs.declared.states.State.TheVariants.{Link, Router, Machine, Unheard}
 use Rattle.lines.specs.declared.reasons.Known.{Known}
 use Rattle.lines.specs.declared.reasons.Known.TheVariants.{Owes, Attached, AtNeighbour}
 use Rattle.lines.specs.declared.waiting.Waiting.{Waiting}
@@ -122,12 +120,9 @@ machine_json d m =
     ++ codes "\",\"active\":" ++ number_json (m.at).origin ++ codes ",\"rd\":" ++ distance_json (m.at).rd ++ codes ",\"fd\":" ++ distance_json (m.at).fd
     ++ codes "," ++ entry_json d m.router m.entry ++ codes "}"
 
--- what is told of a network: also a prefix that a router has not heard of
-abbrev pub state_json : Directory → State → Text
-state_json d (Link l) = link_json d l
-state_json d (Router r) = router_json d r
-state_json d (Machine m) = machine_json d m
-state_json d (Unheard router prefix) =
+-- a prefix that a router has not heard of
+abbrev pub unheard_json : Directory → ℕ → Prefix → Text
+unheard_json d router prefix =
     codes "{\"kind\":\"unheard\",\"router\":\"" ++ name_text d (Some router) ++ codes "\",\"prefix\":\"" ++ prefix_text prefix ++ codes "\"}"
 
 -- ---- what a machine knows

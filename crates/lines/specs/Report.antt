@@ -13,10 +13,9 @@ use Rattle.lines.specs.States.{link_state, IsMachineState}
 use Rattle.texts.specs.Words.{Text}
 use Rattle.lines.specs.declared.answers.Asked.TheVariants.{Row}
 use Rattle.lines.specs.declared.line.Line.{Line}
-use Rattle.lines.specs.declared.line.Line.TheVariants.{Asked, State}
+use Rattle.lines.specs.declared.line.Line.TheVariants.{Asked, Machine as OfMachine, Unheard}
 use Rattle.lines.specs.declared.states.LinkLine.{LinkLine}
 use Rattle.lines.specs.declared.states.MachineLine.{MachineLine}
-use Rattle.lines.specs.declared.states.State.TheVariants.{Machine as OfMachine, Unheard}
 use Rattle.lines.specs.declared.told.Printer.{Printer}
 use Rattle.lines.specs.Formats.{printed}
 
@@ -52,8 +51,8 @@ IsMachineLine number r p (Some line) = TellsOfMachine number r p line
 
 -- what is told of a router's machine for a prefix, or that the router has not heard of the prefix
 abbrev pub state_line : ℕ → Prefix → Option MachineLine → Line
-state_line number p None = State (Unheard number p)
-state_line number p (Some line) = State (OfMachine line)
+state_line number p None = Unheard number p
+state_line number p (Some line) = OfMachine line
 
 -- rows of a router, a line each
 abbrev pub rows_text : Printer → ℕ → List (Prefix × Entry) → Text

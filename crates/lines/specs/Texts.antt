@@ -26,8 +26,6 @@ use Rattle.lines.specs.declared.answers.Asked.TheVariants.{Row, Lookup, Packet}
 use Rattle.lines.specs.declared.states.LinkLine.{LinkLine}
 use Rattle.lines.specs.declared.states.RouterLine.{RouterLine}
 use Rattle.lines.specs.declared.states.MachineLine.{MachineLine}
-use Rattle.lines.specs.declared.states.State.{State}
-use Rattle.lines.specs.declared.states.State.TheVariants.{Link, Router, Machine, Unheard}
 use Rattle.lines.specs.declared.reasons.Known.{Known}
 use Rattle.lines.specs.declared.reasons.Known.TheVariants.{Owes, Attached, AtNeighbour}
 use Rattle.lines.specs.declared.waiting.Waiting.{Waiting}
@@ -131,12 +129,9 @@ machine_text d m =
     ++ codes " RD " ++ distance_text (m.at).rd ++ codes " FD " ++ distance_text (m.at).fd
     ++ codes " " ++ entry_text d m.router m.entry
 
--- what is told of a network: also a prefix that a router has not heard of
-abbrev pub state_text : Directory → State → Text
-state_text d (Link l) = link_text d l
-state_text d (Router r) = router_text d r
-state_text d (Machine m) = machine_text d m
-state_text d (Unheard router prefix) = name_text d (Some router) ++ codes " " ++ prefix_text prefix ++ codes " unheard"
+-- a prefix that a router has not heard of
+abbrev pub unheard_text : Directory → ℕ → Prefix → Text
+unheard_text d router prefix = name_text d (Some router) ++ codes " " ++ prefix_text prefix ++ codes " unheard"
 
 -- ---- what a machine knows
 

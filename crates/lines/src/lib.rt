@@ -86,7 +86,7 @@ pub use queues::{queue_at, show_held, show_next, show_queue};
 pub use reasons::{AwaitsLine, Known, KnownLine};
 pub use records::{LinkState, MachineState, RouterState};
 pub use report::{print_report, print_state, show_table};
-pub use states::{LinkLine, MachineLine, RouterLine, State};
+pub use states::{LinkLine, MachineLine, RouterLine};
 pub use times::{ChangeLine, Effect, SpellLine, Tally};
 pub use told::{Printer, Told};
 pub use values::kind_words;

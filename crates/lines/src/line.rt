@@ -3,10 +3,11 @@
 use crate::answers::{Asked, TraceLine};
 use crate::ends::{Counts, Ended, NextLine};
 use crate::reasons::{AwaitsLine, KnownLine};
-use crate::states::State;
+use crate::states::{LinkLine, MachineLine, RouterLine};
 use crate::times::{ChangeLine, SpellLine};
 use crate::waiting::Waiting;
 use faults::FaultKind;
+use ipv4_prefix::Prefix;
 
 /// A line that is printed, as text for people or as an object of JSON.
 #[derive(Clone, Copy)]
@@ -16,7 +17,11 @@ pub enum Line<'a> {
     /// `trace A ADDR: A B C END`: the routers that the packet passes, and why it ends.
     Traced(TraceLine<'a>),
     /// What a link, a router or a machine is at.
-    State(State),
+    Link(LinkLine),
+    Router(RouterLine),
+    Machine(MachineLine),
+    /// `A PREFIX unheard`.
+    Unheard { router: u16, prefix: Prefix },
     /// The neighbours whose replies a router's machine for a prefix awaits. For people, this and the next are
     /// two columns to the right.
     Awaits(AwaitsLine<'a>),

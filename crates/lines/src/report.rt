@@ -9,7 +9,7 @@ use crate::answers::Asked;
 use crate::explained::print_reasons;
 use crate::line::Line;
 use crate::records::{LinkState, MachineState, RouterState};
-use crate::states::{LinkLine, MachineLine, RouterLine, State};
+use crate::states::{LinkLine, MachineLine, RouterLine};
 use crate::told::Printer;
 use ipv4_prefix::Prefix;
 use link_fifo::Links;
@@ -69,8 +69,8 @@ fn print_links<W: Write>(printer: &Printer<'_>, links: &Links, out: &mut W) -> i
 {
     let count = u16::try_from(links.len()).unwrap_or(u16::MAX);
     for link in 0..count {
-        let state = State::Link(link_line(links, link));
-        printer.print(&Line::State(state), out)?;
+        let line = link_line(links, link);
+        printer.print(&Line::Link(line), out)?;
     }
     Ok(())
 }
@@ -102,7 +102,7 @@ fn print_router<W: Write>(
         router: number,
         at: RouterState::of(router, notices),
     };
-    printer.print(&Line::State(State::Router(line)), out)?;
+    printer.print(&Line::Router(line), out)?;
     for (prefix, _) in router.table().rows() {
         print_machine(printer, number, router, prefix, out)?;
     }
@@ -121,10 +121,10 @@ fn print_machine<W: Write>(
         (W.contents out.old) (W.contents out.new)) }
 {
     match machine_line(number, router, prefix) {
-        Some(line) => printer.print(&Line::State(State::Machine(line)), out),
+        Some(line) => printer.print(&Line::Machine(line), out),
         None => {
             let router = number;
-            printer.print(&Line::State(State::Unheard { router, prefix }), out)
+            printer.print(&Line::Unheard { router, prefix }, out)
         }
     }
 }

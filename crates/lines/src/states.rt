@@ -2,8 +2,8 @@
 
 ghost use Rattle.std.specs.Prelude.{◌≡◌, Some};
 ghost use Rattle.lines.specs.Formats.{in_format};
-ghost use Rattle.lines.specs.Texts.{link_text, machine_text, origin_text, router_text, state_text, up_text};
-ghost use Rattle.lines.specs.Objects.{link_json, machine_json, number_json, router_json, state_json};
+ghost use Rattle.lines.specs.Texts.{link_text, machine_text, origin_text, router_text, up_text};
+ghost use Rattle.lines.specs.Objects.{link_json, machine_json, number_json, router_json};
 
 use crate::records::{LinkState, MachineState, RouterState};
 use crate::told::Told;
@@ -11,7 +11,8 @@ use ipv4_prefix::Prefix;
 use network_model::Entry;
 use std::fmt;
 
-/// What is told of a link.
+/// What is told of a link: `link A B up SESSION C1 C2 queued Q1 Q2`, or `down` in place of `up`, with the costs from the
+/// ends A and B, and the items that they have yet to take.
 #[derive(Clone, Copy)]
 pub struct LinkLine {
     /// The router at its end A.
@@ -25,7 +26,7 @@ pub struct LinkLine {
     pub queued_b: usize,
 }
 
-/// What is told of a router.
+/// What is told of a router: `A gen G held H ripe R attach Q`.
 #[derive(Clone, Copy)]
 pub struct RouterLine {
     /// Its number.
@@ -33,7 +34,8 @@ pub struct RouterLine {
     pub at: RouterState,
 }
 
-/// What is told of a router's machine for a prefix.
+/// What is told of a router's machine for a prefix: `A PREFIX passive RD d FD d ENTRY`, or `active S` in place of
+/// `passive`. A distance is a number or `inf`, and the entry is written as in a row that was published.
 #[derive(Clone, Copy)]
 pub struct MachineLine {
     /// The router's number.
@@ -42,21 +44,6 @@ pub struct MachineLine {
     pub at: MachineState,
     /// The entry that the router chose.
     pub entry: Entry,
-}
-
-/// What a link, a router or a machine is at.
-#[derive(Clone, Copy)]
-pub enum State {
-    /// `link A B up SESSION C1 C2 queued Q1 Q2`, or `down` in place of `up`: the costs from the ends A
-    /// and B, and the items that they have yet to take.
-    Link(LinkLine),
-    /// `A gen G held H ripe R attach Q`.
-    Router(RouterLine),
-    /// `A PREFIX passive RD d FD d ENTRY`, or `active S` in place of `passive`. A distance is a number or
-    /// `inf`, and the entry is written as in a row that was published.
-    Machine(MachineLine),
-    /// `A PREFIX unheard`.
-    Unheard { router: u16, prefix: Prefix },
 }
 
 // Whether a link is up, for people.
@@ -129,25 +116,5 @@ impl fmt::Display for Told<'_, MachineLine> {
         write_either!(f, by;
             "{name} {prefix} {origin} RD {rd} FD {fd} {entry}",
             "{{\"kind\":\"machine\",\"router\":\"{name}\",\"prefix\":\"{prefix}\",\"active\":{origin},\"rd\":{rd},\"fd\":{fd},{entry}}}")
-    }
-}
-
-impl fmt::Display for Told<'_, State> {
-    ghost output = { λ t. Some (in_format t.0.format
-        (state_text t.0.directory.now t.1) (state_json t.0.directory.now t.1)) };
-
-    fn fmt<W: fmt::Write>(&self, f: &mut fmt::Formatter<W>) -> fmt::Result {
-        let Told(by, state) = *self;
-        match state {
-            State::Link(line) => write!(f, "{}", Told(by, line)),
-            State::Router(line) => write!(f, "{}", Told(by, line)),
-            State::Machine(line) => write!(f, "{}", Told(by, line)),
-            State::Unheard { router, prefix } => {
-                let name = by.directory.name(Some(router));
-                write_either!(f, by;
-                    "{name} {prefix} unheard",
-                    "{{\"kind\":\"unheard\",\"router\":\"{name}\",\"prefix\":\"{prefix}\"}}")
-            }
-        }
     }
 }

@@ -45,7 +45,15 @@ impl fmt::Display for Told<'_, Line<'_>> {
         match line {
             Line::Asked(asked) => write!(f, "{}", Told(by, asked)),
             Line::Traced(line) => write!(f, "{}", Told(by, line)),
-            Line::State(state) => write!(f, "{}", Told(by, state)),
+            Line::Link(line) => write!(f, "{}", Told(by, line)),
+            Line::Router(line) => write!(f, "{}", Told(by, line)),
+            Line::Machine(line) => write!(f, "{}", Told(by, line)),
+            Line::Unheard { router, prefix } => {
+                let name = by.directory.name(Some(router));
+                write_either!(f, by;
+                    "{name} {prefix} unheard",
+                    "{{\"kind\":\"unheard\",\"router\":\"{name}\",\"prefix\":\"{prefix}\"}}")
+            }
             Line::Awaits(line) => write!(f, "{}", Told(by, line)),
             Line::Known(line) => write!(f, "{}", Told(by, line)),
             Line::Waiting(waiting) => write!(f, "{}", Told(by, waiting)),

@@ -4,7 +4,7 @@ use crate::written::is_written;
 use command_line::Format;
 use lines::{
     Answer, Asked, Line, LinkLine, LinkState, MachineLine, MachineState, Printer, RouterLine,
-    RouterState, State, Told,
+    RouterState, Told,
 };
 use metric::{Cost, Distance};
 use network_model::{Entry, Prefix};
@@ -100,7 +100,7 @@ fn numbers_that_no_run_reaches(rt: HostRuntime) {
         &rt,
         alloc,
         directory,
-        &Line::State(State::Link(link(&rt))),
+        &Line::Link(link(&rt)),
         "link b a down 65535 1 65535 queued 0 70000",
         "{\"kind\":\"link\",\"a\":\"b\",\"b\":\"a\",\"up\":false,\"session\":65535,\
         \"costs\":[1,65535],\"queued\":[0,70000]}",
@@ -109,7 +109,7 @@ fn numbers_that_no_run_reaches(rt: HostRuntime) {
         &rt,
         alloc,
         directory,
-        &Line::State(State::Router(ROUTER)),
+        &Line::Router(ROUTER),
         "b gen 18446744073709551615 held 3 ripe 2 attach 70000",
         "{\"kind\":\"router\",\"router\":\"b\",\"generation\":18446744073709551615,\
         \"held\":3,\"ripe\":2,\"notices\":70000}",
@@ -118,7 +118,7 @@ fn numbers_that_no_run_reaches(rt: HostRuntime) {
         &rt,
         alloc,
         directory,
-        &Line::State(State::Machine(machine(prefix))),
+        &Line::Machine(machine(prefix)),
         "b 10.0.0.0/8 active 3 RD 4294967294 FD inf unreachable",
         "{\"kind\":\"machine\",\"router\":\"b\",\"prefix\":\"10.0.0.0/8\",\"active\":3,\
         \"rd\":4294967294,\"fd\":null,\"entry\":\"unreachable\"}",
