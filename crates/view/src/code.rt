@@ -438,11 +438,6 @@ function machineNoteWords({ before, machine }) {
   return `${name}: ${words.join(', ')}`;
 }
 
-// Gives a note in words.
-function noteWords(what) {
-  return what.how === 'machine' ? machineNoteWords(what) : messageNoteWords(what);
-}
-
 const LOG_SIGNS = { active: '◆', passive: '◇', query: '▲', reply: '■', update: '●', row: '·' };
 
 // Gives the sign that stands for notes in the log, and its class.
@@ -870,13 +865,12 @@ function drawRouter(router) {
     home: svg('rect', { x: -half, y: -half, width: 2 * half, height: 2 * half, rx: 2.5, class: 'home' }),
     disc: svg('circle', { r, class: 'disc' }),
     distance: svg('text', { class: 'distance', y: 0 }),
-    name: svg('text', { class: 'name', x: name.x, y: name.y, style: `text-anchor: ${name.anchor}` }),
+    name: svg('text', { class: 'name', x: name.x, y: name.y, style: `text-anchor: ${name.anchor}` }, nameOf(router)),
     badge: svg('g', { class: 'badge', transform: `translate(${badgeSpot(router, r * 1.25, name).join(' ')})` }),
   };
   const b = Math.max(5, 8 * drawing.scale);
   parts.digit = svg('text', { class: 'digit' });
   parts.badge.append(svg('circle', { r: b }), parts.digit);
-  parts.name.textContent = nameOf(router);
   parts.title = svg('title');
   const { title, home, disc, distance, badge } = parts;
   const kind = { transform: `translate(${x} ${y})`, 'data-router': router, class: 'router' };
@@ -1085,8 +1079,7 @@ function drawAwait(link, end) {
   const size = Math.max(4.2, 7.5 * drawing.scale);
   const way = wayFrom(link, end);
   const [x, y] = along(way, drawing.radius + size + 6 * Math.max(0.5, drawing.scale), size * 0.95);
-  const text = svg('text', {});
-  text.textContent = '?';
+  const text = svg('text', {}, '?');
   const box = svg('rect', { x: -size, y: -size, width: 2 * size, height: 2 * size, rx: size / 2.5 });
   return svg('g', { transform: `translate(${x} ${y})`, 'data-of': run.opening.links[link][end] }, box, text);
 }
@@ -1100,11 +1093,7 @@ function shapeOf(item, size) {
   if (kind === 'query') group.append(svg('path', { d: `M0 ${-half}L${half} ${low}L${-half} ${low}Z` }));
   else if (kind === 'reply') group.append(svg('rect', { x: -size, y: -size, width: 2 * size, height: 2 * size }));
   else group.append(svg('circle', { r: size * 1.05 }));
-  if (kind === 'notice') {
-    const text = svg('text', {});
-    text.textContent = { up: '+', down: '−', cost: '=' }[item[0]];
-    group.append(text);
-  }
+  if (kind === 'notice') group.append(svg('text', {}, { up: '+', down: '−', cost: '=' }[item[0]]));
   return group;
 }
 
@@ -1143,9 +1132,7 @@ function queueShapes(link, end, items) {
   });
   if (count < items.length) {
     const [x, y] = itemSpot(link, end, count);
-    const text = svg('text', { x, y, class: 'count' });
-    text.textContent = `+${items.length - count}`;
-    shapes.push(text);
+    shapes.push(svg('text', { x, y, class: 'count' }, `+${items.length - count}`));
   }
   return shapes;
 }
@@ -1215,13 +1202,7 @@ function setView(view) {
   showView();
   const factor = Math.max(1, WIDTH / view.width) ** 0.45;
   clearTimeout(drawing.timer);
-  if (Math.abs(factor / drawing.factor - 1) > 0.03) drawing.timer = setTimeout(drawAnew, 90, factor);
-}
-
-// Draws all anew with the ways between the routers stretched by a factor.
-function drawAnew(factor) {
-  drawNetwork(factor);
-  show();
+  if (Math.abs(factor / drawing.factor - 1) > 0.03) drawing.timer = setTimeout(() => { drawNetwork(factor); show(); }, 90);
 }
 
 // Shows the part of the layout that is to be seen.
@@ -1289,7 +1270,7 @@ function showActivity() {
   const { places, counts } = run.scan.activity[shown.prefix];
   const seen = run.scan.state.place;
   const last = Math.max(1, run.places - 1);
-  const most = Math.max(1, ...sampled(counts, 4000));
+  const peak = counts.reduce((top, count) => Math.max(top, count), 0);
   const columns = new Float64Array(1001);
   places.forEach((place, at) => {
     const from = Math.floor(share(place) * 1000);
@@ -1297,25 +1278,13 @@ function showActivity() {
     for (let x = from; x <= to; x += 1) columns[x] = Math.max(columns[x], counts[at]);
   });
   let path = 'M0 36';
-  columns.forEach((count, x) => { path += `L${x} ${(36 - 28 * count / most).toFixed(1)}`; });
+  columns.forEach((count, x) => { path += `L${x} ${(36 - 28 * count / Math.max(1, peak)).toFixed(1)}`; });
   setAttribute(byId('activity-active'), 'd', `${path}L1000 36Z`);
   showAsked();
   const words = isScanned() ? '' : ` ${Math.floor(100 * seen / last)} per cent of the run has been looked through.`;
-  const peak = counts.reduce((top, count) => Math.max(top, count), 0);
   const above = `Above the slider: how many routers are active for the prefix (at most ${peak})`;
   const ticks = 'and ticks where a query or a reply moves or a router’s mode changes.';
   setText(byId('activity-words'), `${above}, ${ticks}${words}`);
-}
-
-// Gives at most about so many of a list's numbers, the greatest of each stretch.
-function sampled(numbers, most) {
-  const stretch = Math.ceil(numbers.length / most);
-  if (stretch <= 1) return numbers;
-  const found = [];
-  for (let at = 0; at < numbers.length; at += stretch) {
-    found.push(numbers.slice(at, at + stretch).reduce((top, number) => Math.max(top, number), 0));
-  }
-  return found;
 }
 
 // Shows ticks where something of a diffusing computation happens.
@@ -1382,7 +1351,7 @@ function showLog(place) {
 // Shows one event in a line of the log.
 function showLogLine(line, at, notes, place) {
   const { kind, sign } = signOf(notes);
-  const words = notes.map(noteWords).join('; ');
+  const words = notes.map((it) => (it.how === 'machine' ? machineNoteWords(it) : messageNoteWords(it))).join('; ');
   line.button.dataset.place = at;
   setText(line.number, String(numberAt(at)));
   setText(line.sign, sign);
@@ -1553,21 +1522,23 @@ function goPlace(place) {
   const to = Math.max(0, Math.min(run.places - 1, place));
   const isNext = to === shown.place + 1 && mayMove();
   const before = run.now.queues.slice();
-  try {
-    seek(to);
-  } catch (fault) {
-    tellFault(fault);
-  }
+  isDone(() => seek(to));
   shown.place = run.now.place;
   byId('layer-moving').replaceChildren();
   show();
   if (isNext && shown.place === to) moveItems(before, readChange(to));
 }
 
-// Tells that the states cannot be read, and why.
-function tellFault(fault) {
-  byId('fault').hidden = false;
-  setText(byId('fault'), `The states cannot be read: ${fault.message}`);
+// Does something with the states, and tells whether it could be done; where they cannot be read, the page says why.
+function isDone(act) {
+  try {
+    act();
+    return true;
+  } catch (fault) {
+    byId('fault').hidden = false;
+    setText(byId('fault'), `The states cannot be read: ${fault.message}`);
+    return false;
+  }
 }
 
 // Tells whether items may move: the reader has not asked for less motion, and nothing plays fast.
@@ -1764,21 +1735,14 @@ function lineSign(kind, head) {
 // Gives a router as a sign, with its origin state where it is active.
 function routerSign(kind, origin = '') {
   const home = svg('rect', { x: -11, y: -11, width: 22, height: 22, rx: 2, class: 'home' });
-  const digit = svg('text', { class: 'digit' });
-  digit.textContent = origin;
+  const digit = svg('text', { class: 'digit' }, origin);
   const badge = svg('g', { class: 'badge', transform: 'translate(9 -4)' }, svg('circle', { r: 7 }), digit);
   return svg('g', { class: `router ${kind}` }, home, svg('circle', { r: 8, class: 'disc' }), badge);
 }
 
-// Gives the mark of an awaited reply as a sign.
-function awaitSign() {
-  const text = svg('text');
-  text.textContent = '?';
-  return svg('g', { class: 'await origin-1' }, svg('rect', { x: -7, y: -7, width: 14, height: 14, rx: 3 }), text);
-}
-
 // Gives the signs of lines and routers, and what they mean.
 function networkSigns() {
+  const box = svg('rect', { x: -7, y: -7, width: 14, height: 14, rx: 3 });
   return [
     [lineSign('link up'), 'a link that is up; the number near a router is the cost from there'],
     [lineSign('link down'), 'a link that is down'],
@@ -1792,7 +1756,7 @@ function networkSigns() {
     [routerSign('active origin-0', 0), 'active 0: so, and its distance rose or its successor was lost since'],
     [routerSign('active origin-3', 3), 'active 3: its successor’s query began it, and it owes a reply'],
     [routerSign('active origin-2', 2), 'active 2: it owes a reply, and its distance rose or its successor asked since'],
-    [awaitSign(), 'the reply over this link is awaited'],
+    [svg('g', { class: 'await origin-1' }, box, svg('text', {}, '?')), 'the reply over this link is awaited'],
   ];
 }
 
@@ -1841,12 +1805,7 @@ function fillControls() {
 
 // Looks through the run in short stretches, and shows what it found now and then.
 function scanOn() {
-  try {
-    scanFor(16);
-  } catch (fault) {
-    tellFault(fault);
-    return;
-  }
+  if (!isDone(() => scanFor(16))) return;
   const now = performance.now();
   if (isScanned() || now - (page.scanShown ?? 0) > 400) {
     page.scanShown = now;
@@ -1886,13 +1845,7 @@ const view = {
 // Begins, or says why it cannot.
 function begin() {
   page.still = matchMedia('(prefers-reduced-motion: reduce)');
-  try {
-    readRun(byId('states').textContent);
-    readNetwork();
-  } catch (fault) {
-    tellFault(fault);
-    return;
-  }
+  if (!isDone(() => { readRun(byId('states').textContent); readNetwork(); })) return;
   placeNetwork();
   makeLog();
   fillControls();
