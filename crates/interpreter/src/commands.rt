@@ -90,11 +90,3 @@ pub fn show_trace<N: Live, W: Write>(
     let _ = printer.print(&Line::Traced(line), out);
     Ok(())
 }
-
-/// Counts what was done since the last time, and prints it. What it prints may be lost.
-pub fn show_count<N: Live, W: Write>(net: &mut N, printer: &Printer<'_>, out: &mut W)
-    ensures { net.new ≡ net.old }
-{
-    let counts = net.count();
-    let _ = printer.print(&Line::Counted(counts), out);
-}

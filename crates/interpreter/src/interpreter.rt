@@ -4,7 +4,7 @@ ghost use Rattle.std.specs.Prelude.{◌≡◌, IfErr, IsOk, MatchResult, OnOk, E
 ghost use Rattle.network_model.specs.Kinds.{refusal_kind};
 ghost use Rattle.interpreter.specs.Commands.{AreDone, IsDone, IsRefused, StopsAtCommand};
 
-use crate::commands::{do_step, look_up, show_count, show_trace, try_step};
+use crate::commands::{do_step, look_up, show_trace, try_step};
 use crate::host::Host;
 use crate::kept::Staffed;
 use crate::live::Live;
@@ -15,7 +15,9 @@ use command_line::Format;
 use control::{Progress, TurnGate};
 use fabric::FabricName;
 use faults::FaultKind;
-use lines::{Printer, print_report, print_state, show_held, show_next, show_queue, show_table};
+use lines::{
+    Line, Printer, print_report, print_state, show_held, show_next, show_queue, show_table,
+};
 use network_model::Refusal;
 use plans::{Fault, Where};
 use script::{Command, Directory, Key, Place};
@@ -181,7 +183,8 @@ where
         Command::Inject { router, addr } => inject(net, router, addr),
         Command::Drain => drain(net, &printer, out),
         Command::Count => {
-            show_count(net, &printer, out);
+            let counts = net.count();
+            let _ = printer.print(&Line::Counted(counts), out);
             Ok(())
         }
         Command::Save => net.save(),

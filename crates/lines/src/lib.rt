@@ -67,7 +67,6 @@ macro_rules! write_either {
 
 mod answers;
 mod ends;
-mod explained;
 mod line;
 mod queues;
 mod reasons;

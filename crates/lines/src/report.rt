@@ -6,11 +6,13 @@ ghost use Rattle.world.specs.Steps.{CanBeRefused};
 ghost use Rattle.lines.specs.Report.{link_line as line_of_link, unknown_router, rows_text, IsMachineLine, Prints, PrintsMachine};
 
 use crate::answers::Asked;
-use crate::explained::print_reasons;
 use crate::line::Line;
+use crate::reasons::{AwaitsLine, Known, KnownLine};
 use crate::records::{LinkState, MachineState, RouterState};
 use crate::states::{LinkLine, MachineLine, RouterLine};
 use crate::told::Printer;
+use diffusing_replies::PortSet;
+use dual_machine::Mode;
 use ipv4_prefix::Prefix;
 use link_fifo::Links;
 use network_model::{End, Refusal};
@@ -190,4 +192,81 @@ fn print_table<W: Write>(
         printer.print(&Line::Asked(row), out)?;
     }
     Ok(())
+}
+
+// Prints what a router's machine for a prefix knows: whose replies it awaits and to whom it owes one, where
+// it is active; the router's own attachment; then each neighbour, with the cost of the link and what was
+// reported there last. Nothing, where the router has not heard of the prefix.
+fn print_reasons<W: Write>(
+    printer: &Printer<'_>,
+    number: u16,
+    router: &Router,
+    prefix: Prefix,
+    out: &mut W,
+) -> io::Result<()> {
+    let Some(machine) = router.machine(prefix) else {
+        return Ok(());
+    };
+    if let Mode::Active { awaited, debt, .. } = machine.mode() {
+        print_awaited(printer, number, prefix, &awaited, out)?;
+        let owed = match debt {
+            Some(port) => printer.directory.neighbour(number, port),
+            None => None,
+        };
+        print_known(printer, number, prefix, Known::Owes(owed), out)?;
+    }
+    if let Some(cost) = machine.attachment() {
+        print_known(printer, number, prefix, Known::Attached(cost), out)?;
+    }
+    for port in 0..32 {
+        if let Some(known) = machine.neighbour(port) {
+            let neighbour = printer.directory.neighbour(number, port);
+            let known = Known::AtNeighbour(neighbour, known);
+            print_known(printer, number, prefix, known, out)?;
+        }
+    }
+    Ok(())
+}
+
+// Prints something else that it knows.
+fn print_known<W: Write>(
+    printer: &Printer<'_>,
+    router: u16,
+    prefix: Prefix,
+    known: Known,
+    out: &mut W,
+) -> io::Result<()> {
+    let line = KnownLine {
+        router,
+        prefix,
+        known,
+    };
+    printer.print(&Line::Known(line), out)
+}
+
+// Prints whose replies are awaited, by ascending port.
+fn print_awaited<W: Write>(
+    printer: &Printer<'_>,
+    number: u16,
+    prefix: Prefix,
+    awaited: &PortSet,
+    out: &mut W,
+) -> io::Result<()> {
+    let mut neighbours = [0_u16; 32];
+    let mut count = 0_usize;
+    for port in 0..32 {
+        if awaited.has(port)
+            && let Some(neighbour) = printer.directory.neighbour(number, port)
+            && let Some(place) = neighbours.get_mut(count)
+        {
+            *place = neighbour;
+            count = count.saturating_add(1);
+        }
+    }
+    let line = AwaitsLine {
+        router: number,
+        prefix,
+        neighbours: &neighbours[..count.min(32)],
+    };
+    printer.print(&Line::Awaits(line), out)
 }

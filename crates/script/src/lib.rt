@@ -37,8 +37,6 @@
 //! - `deliver a a` asks for the port of a's own attachments, which has the number after its last link's.
 //! - `up a` and `down a` ask for all links of a, and are no steps, so `try up a` is a `45 BadCommand`.
 //!
-//! An unknown name in a command, or a link that is not there, is 45, and comes before the 5 of a cost. An
-//! unreadable address is 2, after the 45 of the router, and an unknown prefix is 45 after all other tests.
 //! Lines of a journal are tested in the same order.
 #![tactic(auto)]
 

@@ -1,15 +1,11 @@
 //! Writes the states of a run.
 
-ghost use Rattle.std.specs.Prelude.{◌≡◌, ◌≤◌, ℕ, All, IfOk, List, None, OnOk, false, is_some, length};
-ghost use Rattle.network_model.specs.declared.step.Step.{Step};
+ghost use Rattle.std.specs.Prelude.{◌≡◌, ◌≤◌, ℕ, IfOk, None, OnOk, is_some, length};
 ghost use Rattle.network_model.specs.World as model;
 ghost use Rattle.network_model.specs.Run.{Runs};
 ghost use Rattle.texts.specs.Words.{Text};
 ghost use Rattle.plans.specs.Faults.{Gives, OfBytes, most_bytes};
 ghost use Rattle.play.specs.Works.{IsRunToEnd};
-ghost use Rattle.coming_to_rest.specs.Worlds.{is_own};
-ghost use Rattle.timed_simulation.specs.Timed.{Timed};
-ghost use Rattle.timing.specs.Steps.{RunsInSteps};
 ghost use Rattle.run_states.specs.Told.{IsStatesText};
 ghost use Rattle.view.specs.Shown.{IsJournalShown, IsRunShown, IsShort, IsShown, IsShownInTime, IsTimesShown, IsWritten};
 
@@ -27,7 +23,7 @@ use run_states::{run_from_opening, write_states};
 use script::Directory;
 use std::alloc::Global;
 use std::io::{Read, Write};
-use timing::{Times, read_times, read_times_text, run_in_steps};
+use timing::{read_times, read_times_text, run_in_steps};
 use world::{Network, Ran};
 
 /// Writes what the words ask for, and answers the exit status: 0, or 2 where a step of the journal is refused,
@@ -156,26 +152,7 @@ fn show_in_time<J: Read + Drop, W: Write>(
 {
     let lines = read_times_text(alloc, times)?;
     let times = read_times(alloc, directory.names(), &network, lines.as_str())?;
-    show_run(alloc, json, network, directory, &times, out)
-}
-
-// Runs a network with these delays and changes, and writes the states of its steps.
-fn show_run<W: Write>(
-    alloc: Global,
-    json: bool,
-    network: Network,
-    directory: &Directory,
-    times: &Times,
-    out: &mut W,
-) -> Result<(), Fault>
-    requires links { length times.now.links.items ≡ length network.links }
-    requires routers { length times.now.routers.items ≡ network.routers }
-    requires changes { All (λ c. is_own c.step ≡ false) times.now.changes.items }
-    ensures { OnOk result ((steps : List Step) × (moments : List ℕ) × (end : Timed)
-        × RunsInSteps network times.now steps moments end
-        × IsWritten json network directory.now steps moments (W.contents out.old) (W.contents out.new)) }
-{
-    let run = run_in_steps(alloc, network, times)?;
+    let run = run_in_steps(alloc, network, &times)?;
     let network = run.network();
     write_steps(
         alloc,
