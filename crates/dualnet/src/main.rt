@@ -37,8 +37,8 @@ use advice::{explain, file_to_explain};
 use command_line::{Words, read_words};
 use play::{Fault, FaultKind, Host, NoGate, Platform, Streams, THRESHOLDS, play, refuse};
 use program_files::{
-    Input, exit_code, explain_unreadable, given_words, is_input, is_one_file, kept_path, open_file,
-    print_error, scenario_path, second_path,
+    Input, exit_code, explain_unreadable, given_words, is_input, is_one_file, kept_path,
+    open_beside, open_file, print_error, scenario_path, second_path,
 };
 use std::io::{BufWriter, IsTerminal, LineWriter, Read, Write};
 use std::process::ExitCode;
@@ -95,7 +95,7 @@ fn run_words<H: Host>(
         return refuse_journal(rt, words, path, "it is read, or is the standard output");
     }
     let keeps = file_to_explain(words).is_some();
-    let mut scenario = Kept::of(rt, first_input(rt, words), keeps);
+    let mut scenario = Kept::of(rt, open_file(rt, scenario_path(words)), keeps);
     let mut second = Kept::of(rt, second_input(rt, words), keeps);
     run_over(rt, wait, words, &mut scenario, &mut second, out, err)
 }
@@ -165,28 +165,12 @@ fn keep_journal(rt: &HostRuntime, words: &Words<'_>, status: u8, journal: &[u8])
     }
 }
 
-// The scenario.
-fn first_input(rt: &HostRuntime, words: &Words<'_>) -> Input {
-    match scenario_path(words) {
-        Some(path) => open_file(rt, path),
-        None => Input::Missing,
-    }
-}
-
 // The journal that is replayed, the document of times, or the commands of a shell.
 fn second_input(rt: &HostRuntime, words: &Words<'_>) -> Input {
     match *words {
         Words::Shell { .. } => Input::Standard(rt.stdin()),
-        _ => match second_path(words) {
-            Some(path) if path != "-" || !is_scenario_from_input(words) => open_file(rt, path),
-            _ => Input::Missing,
-        },
+        _ => open_beside(rt, scenario_path(words), second_path(words)),
     }
-}
-
-// Whether the scenario is read from the standard input. Then no other file can be, because it is read once.
-fn is_scenario_from_input(words: &Words<'_>) -> bool {
-    scenario_path(words) == Some("-")
 }
 
 // Tells why the files that are read cannot be read.
@@ -200,7 +184,7 @@ fn explain_files(rt: &HostRuntime, words: &Words<'_>) {
 
 // Whether the standard input is read: by a shell, or as the scenario.
 fn reads_input(words: &Words<'_>) -> bool {
-    matches!(words, Words::Shell { .. }) || is_scenario_from_input(words)
+    matches!(words, Words::Shell { .. }) || scenario_path(words) == Some("-")
 }
 
 // The path of the journal, if that is the standard output, which has the lines, or a file that is read.

@@ -13,7 +13,7 @@
 
 use command_line::{ViewWords, read_view_words};
 use play::{Fault, FaultKind, Host, refuse};
-use program_files::{Input, is_input, is_read, open_file, print_error};
+use program_files::{is_input, is_read, open_beside, open_file, print_error};
 use std::io::{BufWriter, Write};
 use std::{fs, io};
 use view::show;
@@ -81,20 +81,14 @@ fn write_to<H: Host>(
     mut out: &mut dyn Write,
     mut err: &mut dyn Write,
 ) -> u8 {
-    let scenario = open_file(rt, words.file);
-    let other = match second_path(words) {
-        Some(path) if path != "-" || words.file != "-" => open_file(rt, path),
-        _ => Input::Missing,
-    };
+    let scenario = open_file(rt, Some(words.file));
+    let other = open_beside(rt, Some(words.file), second_path(words));
     show(wait, rt.alloc(), words, scenario, other, &mut out, &mut err)
 }
 
-// The file that is read beside the scenario. The standard input is read once, so both cannot be that (47).
+// The file that is read beside the scenario.
 fn second_path<'a>(words: &ViewWords<'a>) -> Option<&'a str> {
-    match words.journal {
-        Some(path) => Some(path),
-        None => words.times,
-    }
+    words.journal.or(words.times)
 }
 
 // Whether the standard input is read.

@@ -27,8 +27,11 @@ impl Read for Input {
     }
 }
 
-/// Opens a file; a hyphen is the standard input.
-pub fn open_file(rt: &HostRuntime, path: &str) -> Input {
+/// Opens a file, if one is named; a hyphen is the standard input.
+pub fn open_file(rt: &HostRuntime, path: Option<&str>) -> Input {
+    let Some(path) = path else {
+        return Input::Missing;
+    };
     if path == "-" {
         return Input::Standard(rt.stdin());
     }
@@ -36,6 +39,15 @@ pub fn open_file(rt: &HostRuntime, path: &str) -> Input {
         Ok(file) => Input::File(file),
         Err(_) => Input::Missing,
     }
+}
+
+/// Opens the file that is read beside the scenario, if one is named. The standard input is read once, so both cannot be
+/// that (47).
+pub fn open_beside(rt: &HostRuntime, scenario: Option<&str>, path: Option<&str>) -> Input {
+    if path == Some("-") && scenario == Some("-") {
+        return Input::Missing;
+    }
+    open_file(rt, path)
 }
 
 /// Tells why a file cannot be read, if it cannot: its path, and the system's words. A write that fails is lost.

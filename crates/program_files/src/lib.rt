@@ -6,7 +6,7 @@
 //!
 //! ```text
 //! let words = given_words(&rt)?;                   // Err(status) if a word is not UTF-8
-//! let scenario = open_file(&rt, path);             // `-` is the standard input
+//! let scenario = open_file(&rt, Some(path));       // `-` is the standard input
 //! if is_one_file(&rt, path, journal) { .. }        // by whatever spelling, or a link
 //! exit_code(&rt, status)                           // the end of `main`
 //! ```
@@ -31,6 +31,6 @@ mod files;
 mod given;
 mod paths;
 
-pub use files::{Input, explain_unreadable, is_input, is_one_file, open_file};
+pub use files::{Input, explain_unreadable, is_input, is_one_file, open_beside, open_file};
 pub use given::{exit_code, given_words, print_error};
 pub use paths::{is_read, kept_path, scenario_path, second_path};
