@@ -109,29 +109,17 @@ fn why_unknown(alloc: Global, verb: &str) -> io::Result<Why<'_>> {
     }
     let mut nearest = ("", 3);
     for form in FORMS.split('|') {
-        nearest = nearer(alloc, verb, form, nearest)?;
+        let word = word_at(form, 0);
+        let distance = levenshtein(alloc, verb, word)?;
+        if distance < nearest.1 {
+            nearest = (word, distance);
+        }
     }
     let unknown = Word::Text(verb);
     let near = "unknown command `_`: did you mean `_`?";
     Ok(match nearest.0 {
         "" => Why::of("unknown command `_`", unknown),
         word => Why::of_two(near, unknown, Word::Text(word)),
-    })
-}
-
-// The first word of the form, where it is nearer to the verb than the word before.
-fn nearer(
-    alloc: Global,
-    verb: &str,
-    form: &'static str,
-    before: (&'static str, usize),
-) -> io::Result<(&'static str, usize)> {
-    let word = word_at(form, 0);
-    let distance = levenshtein(alloc, verb, word)?;
-    Ok(if distance < before.1 {
-        (word, distance)
-    } else {
-        before
     })
 }
 

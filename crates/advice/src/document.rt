@@ -4,8 +4,7 @@ use crate::position::File;
 use crate::shown::Shown;
 use faults::FaultKind;
 use std::alloc::Global;
-use std::io;
-use std::io::Write;
+use std::io::{self, Write};
 use toml::Value;
 
 const KEYS: [&str; 4] = ["routers", "links", "prefixes", "script"];

@@ -16,8 +16,7 @@ use plans::{Fault, Where};
 use scenario::{Lines, read_scenario};
 use script::{Key, Place, read_script};
 use std::alloc::Global;
-use std::io;
-use std::io::Write;
+use std::io::{self, Write};
 
 /// Tells more of the fault for which the program stops, if these words ask for it: where it stands, what was
 /// expected, when the fault comes, and what to do. If a scenario was to be checked alone, also its other faults, as

@@ -7,8 +7,7 @@ use network_model::Step;
 use scenario::Lines;
 use script::{Key, LineFault, Located, Place, Script, read_command, read_script};
 use std::alloc::Global;
-use std::io;
-use std::io::Write;
+use std::io::{self, Write};
 
 // How many are told beside the first.
 const MOST_OTHERS: u8 = 19;
@@ -86,20 +85,13 @@ fn fault_alone(
         Key::Prefixes => read_script(alloc, &lines.routers, none, one, none),
         Key::Script => return command_fault(script, one.first()?.as_str()),
     };
-    match read {
-        Ok(reading) => {
-            let at = reading.fault?;
-            Some(at.fault)
-        }
-        Err(_) => None,
-    }
+    let reading = read.ok()?;
+    let at = reading.fault?;
+    Some(at.fault)
 }
 
 fn command_fault(script: &Script, line: &str) -> Option<LineFault> {
     // Names the type of a command's step, without which the checker has no plan for it.
     let _step: Option<Step> = None;
-    match read_command(&script.names, &script.links, &script.attachments, line) {
-        Ok(_) => None,
-        Err(fault) => Some(fault),
-    }
+    read_command(&script.names, &script.links, &script.attachments, line).err()
 }

@@ -7,8 +7,7 @@ use crate::shown::Shown;
 use faults::FaultKind;
 use plans::TimesKey;
 use std::alloc::Global;
-use std::io;
-use std::io::Write;
+use std::io::{self, Write};
 use toml::{Table, Value};
 
 /// Tells where a document of times is at fault, in which of its strings if it is one, when the fault comes, and what

@@ -7,8 +7,7 @@ use faults::FaultKind;
 use network_model::LinkSpec;
 use script::Names;
 use std::alloc::Global;
-use std::io;
-use std::io::Write;
+use std::io::{self, Write};
 
 /// A line that was typed into a shell.
 #[derive(Clone, Copy)]

@@ -9,8 +9,7 @@ use crate::read::{ENDING, HEADING};
 use crate::step_text::StepText;
 use network_model::{LinkSpec, Step};
 use script::Directory;
-use std::io;
-use std::io::Write;
+use std::io::{self, Write};
 
 /// Writes the text of a journal up to its report: the heading, a line for each step, and `end`, up to
 /// the first write that fails.

@@ -20,8 +20,7 @@ use metric::Cost;
 use network_model::{End, Held, Item, LinkSpec, NoMemory, Notice, Refusal};
 use router_core::Router;
 use std::alloc::Global;
-use std::io;
-use std::io::Write;
+use std::io::{self, Write};
 use world::World;
 
 /// Prints what a router has to do next, in a network of these links. Refused with `UnknownRouter`. A write that fails is lost.

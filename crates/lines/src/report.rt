@@ -18,8 +18,7 @@ use link_fifo::Links;
 use network_model::{End, Refusal};
 use route_table::RouteTable;
 use router_core::Router;
-use std::io;
-use std::io::Write;
+use std::io::{self, Write};
 use world::World;
 
 /// Prints what a router's machine for a prefix is at, on a line, and why, where more is to be told.

@@ -7,8 +7,7 @@ ghost use Rattle.plans.specs.Faults.{Gives, IsUnread, IsUnreadFrom, CannotRead, 
 
 use faults::FaultKind;
 use std::alloc::Global;
-use std::io;
-use std::io::{ErrorKind, Read};
+use std::io::{self, ErrorKind, Read};
 
 /// The most bytes that the file of a scenario may have.
 const MOST_BYTES: usize = 4_194_304;

@@ -18,8 +18,7 @@ use interpreter::{Host, NoGate, PrintStyle, THRESHOLDS, Thresholds, TurnGate};
 use network_model::NoMemory;
 use plans::{Fault, Outcome, Plan, read_plan, read_text, refuse};
 use std::alloc::Global;
-use std::io;
-use std::io::{Empty, Read, Write};
+use std::io::{self, Empty, Read, Write};
 use timing::time;
 
 /// By what the program works.
@@ -176,18 +175,10 @@ fn keep<H: Host, G: TurnGate + Sync, R: Read + Drop, J: Read + Drop, W: Write, E
 {
     let text = read_text(by.alloc, scenario)?;
     let plan = read_plan(by.alloc, text.as_str())?;
-    let mut keeper = JournalText { wanted };
     let mut made = Vec::new(by.alloc);
-    with_fabric(
-        by,
-        plan,
-        hands,
-        style,
-        typed,
-        streams,
-        &mut keeper,
-        &mut made,
-    )?;
+    let mut keeper = JournalText { wanted };
+    let keeper = &mut keeper;
+    with_fabric(by, plan, hands, style, typed, streams, keeper, &mut made)?;
     add(kept, made)?;
     Ok(Outcome::Done)
 }
@@ -263,14 +254,6 @@ pub fn run_quietly<H: Host, K: Keeper, V: Write>(
         out: &mut out,
         err: &mut err,
     };
-    with_fabric(
-        &by,
-        plan,
-        hands,
-        style,
-        None::<Empty>,
-        &mut streams,
-        keeper,
-        kept,
-    )
+    let typed: Option<Empty> = None;
+    with_fabric(&by, plan, hands, style, typed, &mut streams, keeper, kept)
 }

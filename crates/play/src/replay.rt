@@ -21,8 +21,7 @@ use network_model::{LinkSpec, NoMemory, Refusal, Step};
 use plans::{Fault, Outcome, read_bytes, read_plan, read_text};
 use script::Directory;
 use std::alloc::Global;
-use std::io;
-use std::io::{Read, Write};
+use std::io::{self, Read, Write};
 use world::{Ran, World};
 
 /// Where it is told how far a replay is, after how many steps each time.
@@ -87,15 +86,8 @@ fn do_journal<W: Write, E: Write>(
         let _ = printer.print(&Line::Ended(refused), streams.out);
         if interpreter.style.explain {
             let _ = streams.out.flush();
-            let links = live.network().links();
-            let _ = explain_refusal(
-                interpreter.directory,
-                links,
-                journal,
-                ran.done,
-                refusal,
-                streams.err,
-            );
+            let (directory, links) = (interpreter.directory, live.network().links());
+            let _ = explain_refusal(directory, links, journal, ran.done, refusal, streams.err);
         }
         return Ok(Outcome::Refused);
     }

@@ -129,15 +129,8 @@ fn write_steps<'n, W: Write>(
         if is_told(number, every, steps.len()) {
             let text = text_of(alloc, directory, links, step)?;
             let moment = moment_of(moments, before);
-            write_state(
-                alloc,
-                &world,
-                &mut recorder,
-                number,
-                Some(text),
-                moment,
-                out,
-            )?;
+            let words = Some(text);
+            write_state(alloc, &world, &mut recorder, number, words, moment, out)?;
         }
     }
     Ok(())
@@ -182,15 +175,8 @@ fn write_state<W: Write>(
         (value_line (state_data world.now recorder.new.prefixes.items number (option_map string_bytes step) moment c))) }
 {
     let changes = recorder.changes(alloc, world)?;
-    let state = state_value(
-        alloc,
-        world,
-        &recorder.prefixes,
-        number,
-        step,
-        moment,
-        &changes,
-    )?;
+    let prefixes = &recorder.prefixes;
+    let state = state_value(alloc, world, prefixes, number, step, moment, &changes)?;
     write_value(alloc, &state, out)
 }
 

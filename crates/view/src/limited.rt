@@ -4,8 +4,7 @@ ghost use Rattle.std.specs.Prelude.{◌≡◌, ◌≤◌, [], length};
 ghost use Rattle.view.specs.Page.{most_page_bytes};
 
 use std::alloc::Global;
-use std::io;
-use std::io::{ErrorKind, Write};
+use std::io::{self, ErrorKind, Write};
 
 /// The most bytes of states that a page has, where fewer states make them fewer.
 const MOST_BYTES: usize = 20_000_000;

@@ -7,8 +7,7 @@ ghost use Rattle.view.specs.Page.{page_text};
 use crate::code::SCRIPT;
 use crate::markup::{BODY, END, FOOT, HEAD};
 use crate::style::STYLE;
-use std::io;
-use std::io::Write;
+use std::io::{self, Write};
 
 /// Writes a page that shows these states, lines of JSON. They stand in the page as they are, so no `<` may
 /// be among them: names of routers, prefixes, words and numbers have none.

@@ -154,15 +154,8 @@ fn show_in_time<J: Read + Drop, W: Write>(
     let times = read_times(alloc, directory.names(), &network, lines.as_str())?;
     let run = run_in_steps(alloc, network, &times)?;
     let network = run.network();
-    write_steps(
-        alloc,
-        json,
-        network,
-        directory,
-        &run.steps,
-        &run.moments,
-        out,
-    )?;
+    let (steps, moments) = (&run.steps, &run.moments);
+    write_steps(alloc, json, network, directory, steps, moments, out)?;
     Ok(())
 }
 
@@ -268,30 +261,15 @@ fn states_of_page(
         if every >= steps.len() {
             break;
         }
-        let mut states = Limited::new(alloc);
-        match write_states(
-            alloc,
-            network,
-            directory,
-            steps,
-            moments,
-            every,
-            &mut states,
-        ) {
-            Ok(()) => return Ok(states.bytes),
+        let mut page = Limited::new(alloc);
+        match write_states(alloc, network, directory, steps, moments, every, &mut page) {
+            Ok(()) => return Ok(page.bytes),
             Err(FaultKind::Unwritable) => every = every.saturating_mul(2),
             Err(fault) => return Err(fault),
         }
     }
-    let mut states = Vec::new(alloc);
-    write_states(
-        alloc,
-        network,
-        directory,
-        steps,
-        moments,
-        steps.len(),
-        &mut states,
-    )?;
-    Ok(states)
+    let mut page = Vec::new(alloc);
+    let last = steps.len();
+    write_states(alloc, network, directory, steps, moments, last, &mut page)?;
+    Ok(page)
 }
