@@ -1,4 +1,3 @@
 mod Joined
 mod Rows
-pub mod Fronts
 pub mod Printed

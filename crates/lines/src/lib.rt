@@ -81,7 +81,7 @@ mod waiting;
 pub use answers::{Answer, Asked, TraceLine};
 pub use ends::{Counts, Ended, NextLine};
 pub use line::Line;
-pub use queues::{queue_at, show_held, show_next, show_queue};
+pub use queues::{show_held, show_next, show_queue};
 pub use reasons::{AwaitsLine, Known, KnownLine};
 pub use records::{LinkState, MachineState, RouterState};
 pub use report::{print_report, print_state, show_table};

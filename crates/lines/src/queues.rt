@@ -1,8 +1,7 @@
 //! Prints what routers have to do and to take, and what they hold.
 
-ghost use Rattle.std.specs.Prelude.{◌≡◌, ◌<◌, IfErr, IfOk, IfSome, OnOk, length, slice_get};
+ghost use Rattle.std.specs.Prelude.{IfErr, OnOk};
 ghost use Rattle.std.specs.Io.KnownBytes.{Appends};
-ghost use Rattle.network_model.specs.World as model;
 ghost use Rattle.world.specs.Steps.{CanBeRefused};
 ghost use Rattle.network_model.specs.Turns as turns;
 ghost use Rattle.lines.specs.Report.{unknown_router};
@@ -15,13 +14,12 @@ use crate::line::Line;
 use crate::report::known_router;
 use crate::told::Printer;
 use crate::waiting::Waiting;
-use link_fifo::Links;
-use metric::Cost;
-use network_model::{End, Held, Item, LinkSpec, NoMemory, Notice, Refusal};
-use router_core::Router;
+use link_fifo::queue_at;
+use network_model::{Held, Item, LinkSpec, Notice, Refusal};
+use router_core::held_messages;
 use std::alloc::Global;
 use std::io::{self, Write};
-use world::World;
+use world::{World, notices_at};
 
 /// Prints what a router has to do next, in a network of these links. Refused with `UnknownRouter`. A write that fails is lost.
 pub fn show_next<W: Write>(
@@ -87,21 +85,6 @@ pub fn show_queue<W: Write>(
     Ok(())
 }
 
-/// The items that an end of a link has yet to take, oldest first.
-pub fn queue_at(alloc: Global, links: &Links, link: u16, to: End) -> Result<Vec<Item>, NoMemory>
-    requires { link < length links.now.links }
-    ensures { IfOk result (λ v. IfSome (slice_get links.now.links link)
-        (λ k. v.items ≡ (model.side to k).inbox)) }
-{
-    let mut items = Vec::new(alloc);
-    for place in 0..links.queued(link, to) {
-        if let Some(item) = links.item(link, to, place) {
-            items.push(item)?;
-        }
-    }
-    Ok(items)
-}
-
 // Prints items that a router has yet to take from its port, on a link in this session.
 fn print_items<W: Write>(
     printer: &Printer<'_>,
@@ -124,23 +107,6 @@ fn print_items<W: Write>(
         printer.print(&Line::Waiting(queued), out)?;
     }
     Ok(())
-}
-
-// The notices of its own attachments that a router has yet to take, oldest first.
-fn notices_at(alloc: Global, world: &World, router: u16) -> Result<Vec<Notice>, NoMemory>
-    requires { router < length (world.now).routers }
-    ensures { IfOk result (λ v. IfSome (slice_get (world.now).attachments router)
-        (λ a. v.items ≡ a.notices)) }
-{
-    let mut notices = Vec::new(alloc);
-    // A notice has a cost. The prover does not meet that type here unless it is named.
-    let _cost: Option<Cost> = None;
-    for place in 0..world.notices(router) {
-        if let Some(notice) = world.notice(router, place) {
-            notices.push(notice)?;
-        }
-    }
-    Ok(notices)
 }
 
 // Prints notices of its own attachments that a router has yet to take.
@@ -178,19 +144,6 @@ pub fn show_held<W: Write>(
         let _ = print_held(printer, router, false, others, out);
     }
     Ok(())
-}
-
-// The messages that a router holds, oldest first.
-fn held_messages(alloc: Global, router: &Router) -> Result<Vec<Held>, NoMemory>
-    ensures { IfOk result (λ v. v.items ≡ (router.now).gate.held) }
-{
-    let mut messages = Vec::new(alloc);
-    for place in 0..router.held() {
-        if let Some(message) = router.message(place) {
-            messages.push(message)?;
-        }
-    }
-    Ok(messages)
 }
 
 // Prints messages that a router holds, and whether they may leave, up to the first write that fails.

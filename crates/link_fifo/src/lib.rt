@@ -39,8 +39,10 @@
 
 mod link;
 mod links;
+mod queue;
 mod refusal;
 
 pub use links::Links;
 pub use network_model::{End, Item, LinkSpec, Message};
+pub use queue::queue_at;
 pub use refusal::{LinkRefusal, Put};

@@ -1,4 +1,5 @@
 pub mod ListLaws
+pub mod Fronts
 pub mod Causes
 pub mod EntryLaws
 pub mod PortPlaces

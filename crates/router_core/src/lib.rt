@@ -52,8 +52,10 @@
 #![tactic(auto)]
 
 mod effects;
+mod holding;
 mod knowledge;
 mod router;
 
+pub use holding::held_messages;
 pub use network_model::{Cost, Entry, Held, Item, Message, NoMemory, Port, Prefix};
 pub use router::Router;

@@ -7,7 +7,7 @@ use Rattle.std.proofs.lemmas.List.{map-append}
 use Rattle.std.proofs.lemmas.Option.{slice_get_read}
 use Rattle.ipv4_prefix.specs.Prefix.{Prefix, prefix_cmp, prefix_eq}
 use Rattle.no_packet_loops.proofs.Common.{find-put, list_any-append, prefix_cmp_total}
-use Rattle.lines.proofs.Fronts.{take_next}
+use Rattle.network_model.proofs.Fronts.{take_next}
 
 -- one more attachment's prefix is put
 pub given_next : (attachments : List (Prefix × ℕ × ℕ)) (n : ℕ) (a : Prefix × ℕ × ℕ) (rows : List (Prefix × Unit {0})) (p : Prefix) → n < length attachments → a ≡ get_or attachments n a

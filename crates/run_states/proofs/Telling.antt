@@ -20,7 +20,7 @@ use Rattle.run_states.specs.declared.recorder.Recorder.{Recorder}
 use Rattle.run_states.specs.Recorders.{ArePrefixesOf, IsBlank, IsRecorderOf, ShowSame}
 use Rattle.run_states.specs.Told.{IsStateLine, IsStatesText, Tell, is_told, moment_told, numbers_from, step_told}
 use Rattle.run_states.specs.Values.{opening_data}
-use Rattle.lines.proofs.Fronts.{take_next}
+use Rattle.network_model.proofs.Fronts.{take_next}
 
 -- ---- numbers
 

@@ -5,8 +5,8 @@ ghost use Rattle.run_states.specs.Books.{LinkFollows, ShowsLink, link_shows};
 
 use crate::queue::{QueueChange, has_message, queue_change};
 use crate::shown::is_same_link;
-use lines::{LinkState, queue_at};
-use link_fifo::Links;
+use lines::LinkState;
+use link_fifo::{Links, queue_at};
 use network_model::{End, Item, NoMemory};
 use std::alloc::Global;
 

@@ -5,7 +5,7 @@ use Rattle.std.specs.Result.{OkIff, result_ok}
 use Rattle.std.proofs.lemmas.Bool.{cases_lt}
 use Rattle.std.proofs.lemmas.Fmt.{decimal_is_IsNumeral, decimal_digit, first_decimal, decimal-digits_value, decimal_injective, parse-decimal}
 use Rattle.std.proofs.lemmas.Str.Parse.{numerals_by_value, tells_digits, digit_at, parse_plain}
-use Rattle.texts.specs.Number.{Spells, HasCanonicalStart}
+use Rattle.texts.specs.Number.{Spells, SpellsLong, HasCanonicalStart}
 
 -- a text spells one number
 pub Spells_unique : (text : List ℕ) (m n : ℕ) → Spells text m → Spells text n → m ≡ n
@@ -47,3 +47,16 @@ spelled_some text r parsed n spells = ap result_ok (spelled_parses text r parsed
 -- a text that starts otherwise spells nothing
 pub HasCanonicalStart-spelled : (text : List ℕ) (n : ℕ) → Spells text n → HasCanonicalStart text
 HasCanonicalStart-spelled text n spells = rw spells.1 (HasCanonicalStart-decimal n (omega (arith, spells.0)))
+
+module _ {E : Type 0} (text : List ℕ) (r : Result ℕ E) (parsed : ParsesUnsigned 64 10 text r) where
+  -- what is read of 64 bits is spelled
+  long_spells : (n : ℕ) → r ≡ Ok n → HasCanonicalStart text → SpellsLong text n
+  long_spells n is start =
+      let own = numerals_by_value _ tells_digits in
+      let plain = parse_plain own 64 text r parsed start.0 in
+      let read = subst (λ q. OkIff q (AllDigits 10 text × (0 < length text) × (digits_value 10 text < 2 ^ 64)) (digits_value 10 text)) is plain in
+      (rw read.1 read.0.2, sym (ap decimal read.1 ∙ decimal-digits_value own text read.0.0 read.0.1 start.1 (omega (arith, read.0.2))))
+
+pub some_long : {E : Type 0} (text : List ℕ) (r : Result ℕ E) → ParsesUnsigned 64 10 text r → HasCanonicalStart text → IfSome (result_ok r) (SpellsLong text)
+some_long {E} text (Ok n) parsed start = long_spells {E = E} text (Ok n) parsed n refl start
+some_long {E} text (Err e) parsed start = tt

@@ -5,6 +5,10 @@ use Rattle.std.specs.Prelude.{◌≡◌, ◌≢◌, ℕ, ◌^◌, ◌<◌, List,
 abbrev pub Spells : List ℕ → ℕ → Type 0
 Spells text n = (n < 2 ^ 32) × (text ≡ decimal n)
 
+-- the same of a number of 64 bits
+abbrev pub SpellsLong : List ℕ → ℕ → Type 0
+SpellsLong text n = (n < 2 ^ 64) × (text ≡ decimal n)
+
 -- the byte `+`
 abbrev pub plus_sign : ℕ
 plus_sign = 43

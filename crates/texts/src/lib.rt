@@ -32,5 +32,5 @@ mod number;
 mod words;
 
 pub use lines::{next_line, next_line_of_bytes};
-pub use number::{has_canonical_start, read_number};
+pub use number::{has_canonical_start, read_long, read_number};
 pub use words::{first_word, four_words, three_words, two_words};

@@ -1,4 +1,3 @@
-pub mod Numbers
 pub mod Documents
 pub mod Listed
 pub mod Leading

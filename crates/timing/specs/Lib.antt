@@ -1,5 +1,4 @@
 pub mod Document
-pub mod Moments
 pub mod Given
 pub mod Lines
 pub mod Times

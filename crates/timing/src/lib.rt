@@ -37,7 +37,6 @@
 mod document;
 mod given;
 mod line_reading;
-mod moment;
 mod printing;
 mod run;
 mod snapshot;

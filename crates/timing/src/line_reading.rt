@@ -8,14 +8,13 @@ ghost use Rattle.timing.specs.Lines.{delays_from, SaysChange, SaysLink, SaysRout
 ghost use Rattle.timing.specs.Times.{StopsLines, of_times_line};
 
 use crate::given::Given;
-use crate::moment::read_moment;
 use faults::FaultKind;
 use ipv4_prefix::Prefix;
 use metric::Cost;
 use network_model::{LinkSpec, Step};
 use plans::{Fault, TimesKey, Where};
 use script::{LineFault, Names, parse_step, place_between};
-use texts::{first_word, four_words, two_words};
+use texts::{first_word, four_words, read_long, two_words};
 use timed_simulation::{Change, LinkDelays, is_change};
 
 /// Reads the lines of links.
@@ -100,8 +99,8 @@ fn read_link(names: &Names, links: &[LinkSpec], line: &str) -> Result<Given<Link
     let router = names.number(name).ok_or(LineFault::BadLine)?;
     let far = names.number(neighbour).ok_or(LineFault::BadLine)?;
     let number = place_between(links, router, far).ok_or(LineFault::BadLine)?;
-    let there = read_moment(there).ok_or(LineFault::BadLine)?;
-    let back = read_moment(back).ok_or(LineFault::BadLine)?;
+    let there = read_long(there).ok_or(LineFault::BadLine)?;
+    let back = read_long(back).ok_or(LineFault::BadLine)?;
     let link = &links[number];
     let value = delays_from(router, link, there, back);
     Ok(Given { number, value })
@@ -130,7 +129,7 @@ fn read_router(names: &Names, line: &str) -> Result<Given<u64>, LineFault>
 {
     let (name, delay) = two_words(line).ok_or(LineFault::BadLine)?;
     let router = names.number(name).ok_or(LineFault::BadLine)?;
-    let value = read_moment(delay).ok_or(LineFault::BadLine)?;
+    let value = read_long(delay).ok_or(LineFault::BadLine)?;
     Ok(Given {
         number: usize::from(router),
         value,
@@ -147,7 +146,7 @@ fn read_change(
     ensures { IfOk result (SaysChange names.now links.now attachments.now line.now) }
 {
     let (moment, step) = first_word(line).ok_or(LineFault::BadCommand)?;
-    let moment = read_moment(moment).ok_or(LineFault::BadCommand)?;
+    let moment = read_long(moment).ok_or(LineFault::BadCommand)?;
     let step = parse_step(names, links, attachments, step)?;
     if !is_change(&step) {
         return Err(LineFault::BadCommand);

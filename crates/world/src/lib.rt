@@ -61,6 +61,7 @@ mod copying;
 mod link_faults;
 mod network;
 mod opening;
+mod queue;
 mod touched;
 mod watched;
 mod world;
@@ -69,6 +70,7 @@ pub use network::Network;
 pub use network_model::{
     Cost, Limits, LinkSpec, MOST_PORTS, NetworkFault, Place, Prefix, Refusal, Step,
 };
+pub use queue::notices_at;
 pub use touched::Touched;
 pub use watched::WatchedWorld;
 pub use world::{Ran, World};

@@ -5,8 +5,8 @@ use Rattle.timing.proofs.line_reading.read_link.Goals as goal
 pub returns : goal.returns
 returns c =
     let words = rw c.in_ok-name.ensures.ok_part at c.four_words.ensures.some in
-    let there = rw c.in_ok-there.ensures.ok_part at c.read_moment.ensures in
-    let back = rw c.in_ok-back.ensures.ok_part at c.read_moment-2.ensures in record {
+    let there = rw c.in_ok-there.ensures.ok_part at c.read_long.ensures in
+    let back = rw c.in_ok-back.ensures.ok_part at c.read_long-2.ensures in record {
       name = c.in_ok-name.name.now;
       neighbour = c.in_ok-name.neighbour.now;
       router = c.in_ok-router.router;

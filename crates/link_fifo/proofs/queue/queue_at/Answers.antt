@@ -3,9 +3,9 @@ use Rattle.std.specs.Bool.{⊤}
 use Rattle.std.proofs.lemmas.Option.{MatchOption-at_some, none-some}
 use Rattle.network_model.specs.World.{side}
 use Rattle.network_model.proofs.ListLaws.{element_there}
-use Rattle.lines.proofs.Fronts.{take_next}
-use Rattle.lines.proofs.queues.queue_at.Goals as goal
-use Rattle.lines.proofs.queues.queue_at.Goals.{in-Some+in_ok-push, in_default}
+use Rattle.network_model.proofs.Fronts.{take_next}
+use Rattle.link_fifo.proofs.queue.queue_at.Goals as goal
+use Rattle.link_fifo.proofs.queue.queue_at.Goals.{in-Some+in_ok-push, in_default}
 
 pub loop-place-preserved : goal.loop-place-preserved
 loop-place-preserved c = λ k at.

@@ -5,9 +5,9 @@ use Rattle.std.proofs.lemmas.Option.{none-some}
 use Rattle.network_model.specs.World.{Attachments}
 use Rattle.network_model.proofs.ListLaws.{element_there}
 use Rattle.std.proofs.lemmas.List.{take_all}
-use Rattle.lines.proofs.Fronts.{if_some, take_next}
-use Rattle.lines.proofs.queues.notices_at.Goals as goal
-use Rattle.lines.proofs.queues.notices_at.Goals.{in-Some+in_ok-push, in_default}
+use Rattle.network_model.proofs.Fronts.{if_some, take_next}
+use Rattle.world.proofs.queue.notices_at.Goals as goal
+use Rattle.world.proofs.queue.notices_at.Goals.{in-Some+in_ok-push, in_default}
 
 -- so many notices wait
 counted : (all : List Attachments) (router : ℕ) (a : Attachments) (n : ℕ) → slice_get all router ≡ Some a → option_map (λ x. length x.notices) (slice_get all router) ≡ Some n → length a.notices ≡ n
