@@ -22,14 +22,9 @@ function lineStarts(text) {
   return starts;
 }
 
-// Gives the line of that number as what it says.
-function readLine(number) {
-  return JSON.parse(run.text.slice(run.starts[number], run.starts[number + 1]));
-}
-
-// Gives what the state at a place says, line 0 being the opening.
+// Gives what the state at a place says; at -1 is the opening.
 function readChange(place) {
-  return readLine(place + 1);
+  return JSON.parse(run.text.slice(run.starts[place + 1], run.starts[place + 2]));
 }
 
 // Reads the opening, and gives the run its first state.
@@ -37,7 +32,7 @@ function readRun(text) {
   run.text = text;
   run.starts = lineStarts(text);
   if (run.starts.length < 2) throw new Error('This page has no states.');
-  run.opening = readLine(0);
+  run.opening = readChange(-1);
   if (run.opening.kind !== 'opening' || run.opening.format !== 1) {
     throw new Error('The states of this page are of a format that it cannot read.');
   }
@@ -745,12 +740,12 @@ function svg(tag, attributes = {}, ...children) {
   return element;
 }
 
-// Gives a new element of the page with a text.
-function html(tag, text = '', kind = '') {
+// Gives a new element of the page with a text, and with these properties.
+function html(tag, text = '', kind = '', properties = {}) {
   const element = document.createElement(tag);
   if (text !== '') element.textContent = text;
   if (kind !== '') element.className = kind;
-  return element;
+  return Object.assign(element, properties);
 }
 
 // Sets a text only where it is another.
@@ -1307,8 +1302,7 @@ const LOG_SIDE = 8;
 function makeLog() {
   page.log = Array.from({ length: 2 * LOG_SIDE + 1 }, () => {
     const [number, sign, words] = ['number', 'sign', 'words'].map((kind) => html('span', '', kind));
-    const parts = { number, sign, words, button: html('button'), item: html('li') };
-    parts.button.type = 'button';
+    const parts = { number, sign, words, button: html('button', '', '', { type: 'button' }), item: html('li') };
     parts.sign.setAttribute('aria-hidden', 'true');
     parts.button.append(parts.number, parts.sign, parts.words);
     parts.item.append(parts.button);
@@ -1429,11 +1423,8 @@ function showTable(state) {
 // Gives the head of a router's table.
 function tableHead() {
   const row = html('tr');
-  for (const word of ['Prefix', 'RD', 'FD', 'In force', 'Chosen', 'Mode']) {
-    const cell = html('th', word);
-    cell.scope = 'col';
-    row.append(cell);
-  }
+  const words = ['Prefix', 'RD', 'FD', 'In force', 'Chosen', 'Mode'];
+  row.append(...words.map((word) => html('th', word, '', { scope: 'col' })));
   return row;
 }
 
@@ -1442,13 +1433,9 @@ function tableRow(state, prefix) {
   const router = shown.router;
   const machine = state.machines[router][prefix];
   const row = html('tr', '', prefix === shown.prefix ? 'chosen' : '');
-  const head = html('th', net.prefixes[prefix].text);
-  head.scope = 'row';
-  row.append(head);
+  row.append(html('th', net.prefixes[prefix].text, '', { scope: 'row' }));
   if (!machine) {
-    const cell = html('td', 'unheard', 'faint');
-    cell.colSpan = 5;
-    row.append(cell);
+    row.append(html('td', 'unheard', 'faint', { colSpan: 5 }));
     return row;
   }
   const isDead = isVia(machine.published) && !isLive(state, machine.published);
@@ -1466,9 +1453,8 @@ function showRouterLinks() {
   const list = byId('router-links');
   const ports = shown.router < 0 ? [] : net.ports[shown.router];
   list.replaceChildren(...ports.map(({ link, other }) => {
-    const button = html('button', `link to ${nameOf(other)}`);
-    button.type = 'button';
-    button.addEventListener('click', () => chooseLink(link));
+    const properties = { type: 'button', onclick: () => chooseLink(link) };
+    const button = html('button', `link to ${nameOf(other)}`, '', properties);
     const item = html('li');
     item.append(button);
     return item;
@@ -1620,9 +1606,7 @@ function firstFound() {
 
 // Gives one choice of a list.
 function option(text, value) {
-  const element = html('option', text);
-  element.value = String(value);
-  return element;
+  return html('option', text, '', { value: String(value) });
 }
 
 // Does what a key asks for, and tells whether it asks for anything.
@@ -1727,9 +1711,8 @@ function hearControls() {
 
 // Gives a line as a sign, with or without a head.
 function lineSign(kind, head) {
-  const line = svg('line', { x1: -20, y1: 0, x2: 18, y2: 0, class: kind });
-  if (head) line.setAttribute('marker-end', `url(#${head})`);
-  return line;
+  const end = head ? { 'marker-end': `url(#${head})` } : {};
+  return svg('line', { x1: -20, y1: 0, x2: 18, y2: 0, class: kind, ...end });
 }
 
 // Gives a router as a sign, with its origin state where it is active.
