@@ -1,8 +1,7 @@
 //! Why a line is no command.
 
 use crate::line::{why_no_cost, why_no_seed};
-use crate::shown::odd_space;
-use crate::why::{Why, Word};
+use crate::why::{Why, Word, odd_space};
 use network_model::LinkSpec;
 use script::Names;
 use std::alloc::Global;

@@ -1,11 +1,13 @@
-//! Why a file is no text, or its text no scenario.
+//! Why a file is no text, or its text no scenario or no document of times.
 
+use crate::page::Brief;
 use crate::position::File;
-use crate::shown::Shown;
+use crate::why::Shown;
 use faults::FaultKind;
+use plans::TimesKey;
 use std::alloc::Global;
 use std::io::{self, Write};
-use toml::Value;
+use toml::{Table, Value};
 
 const KEYS: [&str; 4] = ["routers", "links", "prefixes", "script"];
 
@@ -89,4 +91,45 @@ fn is_list(value: &Value) -> bool {
         Some(values) => values.iter().all(|value| value.as_str().is_some()),
         None => false,
     }
+}
+
+/// Tells where a document of times is at fault, in which of its strings if it is one, when the fault comes, and what
+/// to do.
+pub(crate) fn explain_times<W: Write>(
+    alloc: Global,
+    name: &str,
+    bytes: &[u8],
+    kind: FaultKind,
+    line: Option<(TimesKey, usize)>,
+    out: &mut W,
+) -> io::Result<()> {
+    let file = read_file(name, bytes, kind, out)?;
+    match line {
+        Some((key, position)) => explain_string(alloc, file, key.name(), position, out)?,
+        None if kind == FaultKind::BadToml => explain_document(alloc, file, out)?,
+        None => {}
+    }
+    write!(out, "{}", Brief(kind))
+}
+
+// Tells of the string at this position of a list: where it stands, and what it says.
+fn explain_string<W: Write>(
+    alloc: Global,
+    file: File<'_>,
+    key: &str,
+    position: usize,
+    out: &mut W,
+) -> io::Result<()> {
+    let Ok(table) = toml::table_from_str(alloc, file.text) else {
+        return Ok(());
+    };
+    let Some(value) = value_at(&table, key, position) else {
+        return Ok(());
+    };
+    let line = value.as_str().unwrap_or("");
+    writeln!(out, "  {}: {}", file.at_string(key, position), Shown(line))
+}
+
+fn value_at<'a>(table: &'a Table, key: &str, position: usize) -> Option<&'a Value> {
+    table.get(key)?.as_array()?.get(position)
 }

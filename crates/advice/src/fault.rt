@@ -1,15 +1,15 @@
-//! What is told of one fault.
+//! Whether more is told of a fault, and what.
 
-use crate::asked::file_to_explain;
+ghost use Rattle.std.specs.Prelude.{◌≡◌};
+ghost use Rattle.advice.specs.Asked.{explained_file};
+
 use crate::command::why_no_command;
-use crate::document::{explain_document, explain_keys, read_file};
+use crate::document::{explain_document, explain_keys, explain_times, read_file};
 use crate::line::{why_no_link, why_no_name, why_no_prefix};
 use crate::others::explain_others;
 use crate::page::Brief;
 use crate::position::File;
-use crate::shown::Shown;
-use crate::times::explain_times;
-use crate::why::Why;
+use crate::why::{Shown, Why};
 use command_line::Words;
 use faults::FaultKind;
 use plans::{Fault, Where};
@@ -17,6 +17,21 @@ use scenario::{Lines, read_scenario};
 use script::{Key, Place, read_script};
 use std::alloc::Global;
 use std::io::{self, Write};
+
+/// The scenario in which the fault is, where more is to be told of it.
+pub fn file_to_explain<'a>(words: &Words<'a>) -> Option<&'a str>
+    ensures { result ≡ explained_file words.now }
+{
+    let (file, explain) = match *words {
+        Words::Check { file, explain } => (file, explain),
+        Words::Run { file, explain, .. } => (file, explain),
+        Words::Replay { file, explain, .. } => (file, explain),
+        Words::Time { file, explain, .. } => (file, explain),
+        Words::Explain { .. } => return None,
+        Words::Shell { file, explain, .. } => (file, explain),
+    };
+    if explain { Some(file) } else { None }
+}
 
 /// Tells more of the fault for which the program stops, if these words ask for it: where it stands, what was
 /// expected, when the fault comes, and what to do. If a scenario was to be checked alone, also its other faults, as

@@ -23,8 +23,8 @@
 //!   (`src/document.rt`).
 //! - If the scenario was only to be checked, other faults are told, too, 20 in all (`src/others.rt`): those that
 //!   need no guess.
-//! - Of a journal the line at fault is shown, and of a document of times the string (`src/times.rt`).
-//! - What is shown of a file is safe for a terminal (`src/shown.rt`): at most 60 characters, and those that
+//! - Of a journal the line at fault is shown, and of a document of times the string.
+//! - What is shown of a file is safe for a terminal (`src/why.rt`): at most 60 characters, and those that
 //!   cannot be seen by their numbers.
 //! - Each kind of fault has a page (`src/page.rt`), because `texts_of` there has no way to give none. Two of its
 //!   lines are the last ones above, and `dualnet explain 4` prints all four:
@@ -49,7 +49,6 @@
 //! The nearest command is found by the edit distance of V. I. Levenshtein, of 2 at most (`strsim`).
 #![tactic(auto)]
 
-mod asked;
 mod command;
 mod document;
 mod fault;
@@ -57,12 +56,9 @@ mod line;
 mod others;
 mod page;
 mod position;
-mod shown;
-mod times;
 mod typed;
 mod why;
 
-pub use asked::file_to_explain;
-pub use fault::explain;
+pub use fault::{explain, file_to_explain};
 pub use page::{Brief, Page};
 pub use typed::{Typed, explain_typed};

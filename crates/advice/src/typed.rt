@@ -2,7 +2,7 @@
 
 use crate::command::{why_no_command, why_not_of_shell};
 use crate::page::Brief;
-use crate::shown::Shown;
+use crate::why::Shown;
 use faults::FaultKind;
 use network_model::LinkSpec;
 use script::Names;

@@ -1,6 +1,6 @@
 //! The program's commands, as `clap` is told of them.
 
-ghost use Rattle.std.specs.Prelude.{◌≡◌, IfOk};
+ghost use Rattle.std.specs.Prelude.{◌≡◌, ◌≢◌, ◌⊎◌, IfOk};
 ghost use Rattle.clap.specs.Words.{app_of, kind_of};
 ghost use Rattle.command_line.specs.Commands.{IsProgramCommand, check_app, explain_app, program, replay_app, run_app, shell_app, time_app};
 
@@ -14,6 +14,25 @@ macro_rules! command_with {
     ($alloc:ident $name:literal $about:literal $example:literal $($argument:ident)*) => {
         command_of($alloc, $name, $about, $example, &[$($argument),*])
     };
+}
+
+/// The program's exit status after this error: 0 if you asked for help, 2 if memory was refused,
+/// else 1. `Error::print` writes help to the standard output and all else to the standard
+/// error.
+pub fn exit_status(error: &Error) -> u8
+    ensures help { (kind_of error.now ≡ ErrorKind.DisplayHelp)
+        ⊎ (kind_of error.now ≡ ErrorKind.DisplayVersion)
+        → result ≡ 0 }
+    ensures memory { kind_of error.now ≡ ErrorKind.OutOfMemory → result ≡ 2 }
+    ensures mistake { kind_of error.now ≢ ErrorKind.DisplayHelp
+        → kind_of error.now ≢ ErrorKind.DisplayVersion
+        → kind_of error.now ≢ ErrorKind.OutOfMemory → result ≡ 1 }
+{
+    match error.kind() {
+        ErrorKind::DisplayHelp | ErrorKind::DisplayVersion => 0,
+        ErrorKind::OutOfMemory => 2,
+        _ => 1,
+    }
 }
 
 /// The error of a command line of which a word is not UTF-8.

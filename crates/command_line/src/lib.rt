@@ -62,14 +62,12 @@ macro_rules! argument {
 mod arguments;
 mod commands;
 mod format;
-mod status;
 mod view;
 mod words;
 
 pub use clap::Error;
 pub use clap::error::ErrorKind;
-pub use commands::{SHELL_COMMANDS, not_utf8};
+pub use commands::{SHELL_COMMANDS, exit_status, not_utf8};
 pub use format::Format;
-pub use status::exit_status;
 pub use view::{ViewWords, read_view_words};
 pub use words::{Words, read_words};

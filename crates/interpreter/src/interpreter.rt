@@ -8,7 +8,6 @@ use crate::commands::{do_step, look_up, show_trace, try_step};
 use crate::host::Host;
 use crate::kept::Staffed;
 use crate::live::Live;
-use crate::progress::show_commands_done;
 use crate::putting::put_links;
 use crate::threaded::{Threaded, drain, inject, settle};
 use command_line::Format;
@@ -203,5 +202,36 @@ fn into_kind(done: Result<(), Refusal>) -> Result<(), FaultKind>
     match done {
         Ok(()) => Ok(()),
         Err(refusal) => Err(FaultKind::from(refusal)),
+    }
+}
+
+// ---- how far a run or a replay is, told on a line that moves, where that is asked for; a write that fails is lost
+
+// Tells how many commands of a script were done, and how many steps.
+fn show_commands_done<E: Write>(
+    asked: bool,
+    done: usize,
+    all: usize,
+    steps: usize,
+    err: &mut E,
+) {
+    if asked {
+        let _ = write!(err, "\rdualnet: {done} of {all} commands, {steps} steps");
+        let _ = err.flush();
+    }
+}
+
+/// Tells how many steps of a journal were done.
+pub fn show_steps_done<E: Write>(asked: bool, done: usize, all: usize, err: &mut E) {
+    if asked {
+        let _ = write!(err, "\rdualnet: {done} of {all} steps");
+        let _ = err.flush();
+    }
+}
+
+/// Ends the line.
+pub fn end_line<E: Write>(asked: bool, err: &mut E) {
+    if asked {
+        let _ = writeln!(err, "");
     }
 }

@@ -51,15 +51,15 @@ mod host;
 mod interpreter;
 mod kept;
 mod live;
-mod progress;
 mod putting;
 mod threaded;
 
 pub use control::{Crew, NO_THRESHOLDS, NoGate, Progress, THRESHOLDS, Thresholds, TurnGate};
 pub use counted::Counted;
 pub use host::Host;
-pub use interpreter::{Interpreter, PrintStyle, do_command, do_commands};
+pub use interpreter::{
+    Interpreter, PrintStyle, do_command, do_commands, end_line, show_steps_done,
+};
 pub use kept::{Kept, Staffed};
 pub use live::Live;
-pub use progress::{end_line, show_steps_done};
 pub use threaded::{Staff, Threaded};

@@ -53,7 +53,6 @@
 //!   NoMemory`.
 #![tactic(auto)]
 
-mod answers;
 mod checking;
 mod keeping;
 mod opening;
