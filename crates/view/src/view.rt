@@ -7,7 +7,7 @@ ghost use Rattle.texts.specs.Words.{Text};
 ghost use Rattle.plans.specs.Faults.{Gives, OfBytes, most_bytes};
 ghost use Rattle.play.specs.Works.{IsRunToEnd};
 ghost use Rattle.run_states.specs.Told.{IsStatesText};
-ghost use Rattle.view.specs.Shown.{IsJournalShown, IsRunShown, IsShort, IsShown, IsShownInTime, IsTimesShown, IsWritten};
+ghost use Rattle.view.specs.Shown.{IsJournalShown, IsRunShown, IsShort, IsShown, IsTimesShown, IsWritten};
 
 use crate::limited::Limited;
 use crate::page::write_page;
@@ -135,27 +135,12 @@ fn show_times<J: Read + Drop, W: Write>(
         directory,
         ..
     } = read_plan(alloc, text)?;
-    show_in_time(alloc, json, network, &directory, times, out)
-}
-
-// Reads a document of times, runs the network by it, and writes the states of its steps.
-fn show_in_time<J: Read + Drop, W: Write>(
-    alloc: Global,
-    json: bool,
-    network: Network,
-    directory: &Directory,
-    times: J,
-    out: &mut W,
-) -> Result<(), Fault>
-    ensures { OnOk result ((lines : Text) × Gives (J.remaining times) lines
-        × IsShownInTime json network directory.now lines (W.contents out.old) (W.contents out.new)) }
-{
     let lines = read_times_text(alloc, times)?;
     let times = read_times(alloc, directory.names(), &network, lines.as_str())?;
     let run = run_in_steps(alloc, network, &times)?;
     let network = run.network();
     let (steps, moments) = (&run.steps, &run.moments);
-    write_steps(alloc, json, network, directory, steps, moments, out)?;
+    write_steps(alloc, json, network, &directory, steps, moments, out)?;
     Ok(())
 }
 
