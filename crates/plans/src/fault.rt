@@ -108,24 +108,15 @@ impl From<NetworkFault> for Fault {
     ghost from_gives = { λ fault e. e ≡ opening_fault fault };
 
     fn from(fault: NetworkFault) -> Fault {
-        let place = match fault {
-            NetworkFault::BadLink { link } | NetworkFault::TooManyLinks { link } => {
-                let key = Key::Links;
-                Some(Where::Scenario(Place {
-                    key,
-                    position: link,
-                }))
-            }
-            NetworkFault::BadOwner { prefix } => {
-                let key = Key::Prefixes;
-                Some(Where::Scenario(Place {
-                    key,
-                    position: prefix,
-                }))
-            }
-            NetworkFault::BadRouters => None,
-        };
         let kind = FaultKind::from(fault);
+        let (key, position) = match fault {
+            NetworkFault::BadLink { link } | NetworkFault::TooManyLinks { link } => {
+                (Key::Links, link)
+            }
+            NetworkFault::BadOwner { prefix } => (Key::Prefixes, prefix),
+            NetworkFault::BadRouters => return Fault::from(kind),
+        };
+        let place = Some(Where::Scenario(Place { key, position }));
         Fault { kind, place }
     }
 }
