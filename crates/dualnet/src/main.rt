@@ -139,7 +139,7 @@ fn run_over<H: Host>(
     keep_journal(rt, words, status, &journal)
 }
 
-// Tells more of a fault, where that is asked for.
+// Tells more of a fault, where that is asked for: of files that cannot be read also why.
 fn explain_fault(
     rt: &HostRuntime,
     words: &Words<'_>,
@@ -148,7 +148,11 @@ fn explain_fault(
     second: &[u8],
 ) {
     if fault.kind == FaultKind::Unreadable && file_to_explain(words).is_some() {
-        explain_files(rt, words);
+        for path in [scenario_path(words), second_path(words)] {
+            if let Some(path) = path {
+                explain_unreadable(rt, path, &mut rt.stderr());
+            }
+        }
     }
     let _ = explain(rt.alloc(), words, fault, scenario, second, &mut rt.stderr());
 }
@@ -170,15 +174,6 @@ fn second_input(rt: &HostRuntime, words: &Words<'_>) -> Input {
     match *words {
         Words::Shell { .. } => Input::Standard(rt.stdin()),
         _ => open_beside(rt, scenario_path(words), second_path(words)),
-    }
-}
-
-// Tells why the files that are read cannot be read.
-fn explain_files(rt: &HostRuntime, words: &Words<'_>) {
-    for path in [scenario_path(words), second_path(words)] {
-        if let Some(path) = path {
-            explain_unreadable(rt, path, &mut rt.stderr());
-        }
     }
 }
 

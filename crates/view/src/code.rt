@@ -1260,7 +1260,7 @@ function toldWords(state) {
   return `(${active} active${hops}, ${items} on links)`;
 }
 
-// Shows how many routers are active over the run, and where queries and replies are.
+// Shows how many routers are active over the run, and ticks where something of a diffusing computation happens.
 function showActivity() {
   const { places, counts } = run.scan.activity[shown.prefix];
   const seen = run.scan.state.place;
@@ -1275,19 +1275,13 @@ function showActivity() {
   let path = 'M0 36';
   columns.forEach((count, x) => { path += `L${x} ${(36 - 28 * count / Math.max(1, peak)).toFixed(1)}`; });
   setAttribute(byId('activity-active'), 'd', `${path}L1000 36Z`);
-  showAsked();
+  const events = run.scan.events[shown.prefix];
+  const waves = events.places.filter((_, at) => events.waves[at]).map((place) => Math.round(share(place) * 1000));
+  setAttribute(byId('activity-asked'), 'd', [...new Set(waves)].map((x) => `M${x} 0V6`).join(''));
   const words = isScanned() ? '' : ` ${Math.floor(100 * seen / last)} per cent of the run has been looked through.`;
   const above = `Above the slider: how many routers are active for the prefix (at most ${peak})`;
   const ticks = 'and ticks where a query or a reply moves or a router’s mode changes.';
   setText(byId('activity-words'), `${above}, ${ticks}${words}`);
-}
-
-// Shows ticks where something of a diffusing computation happens.
-function showAsked() {
-  const { places, waves } = run.scan.events[shown.prefix];
-  const ticks = new Set();
-  places.forEach((place, at) => { if (waves[at]) ticks.add(Math.round(share(place) * 1000)); });
-  setAttribute(byId('activity-asked'), 'd', [...ticks].map((x) => `M${x} 0V6`).join(''));
 }
 
 // Shows where in the run the present state is.
@@ -1317,16 +1311,14 @@ function eventsAround(place) {
   const { places, waves } = run.scan.events[shown.prefix];
   const wavesOnly = byId('waves').checked;
   const last = lastUpTo(places, place);
-  const isListed = (at) => !wavesOnly || waves[at];
-  const before = [];
-  for (let at = last; at >= 0 && before.length <= LOG_SIDE; at -= 1) {
-    if (isListed(at)) before.push(at);
-  }
-  const after = [];
-  for (let at = last + 1; at < places.length && after.length < LOG_SIDE; at += 1) {
-    if (isListed(at)) after.push(at);
-  }
-  return { before: before.reverse(), after };
+  const listed = (at, way, most) => {
+    const found = [];
+    for (; at in places && found.length < most; at += way) {
+      if (!wavesOnly || waves[at]) found.push(at);
+    }
+    return found;
+  };
+  return { before: listed(last, -1, LOG_SIDE + 1).reverse(), after: listed(last + 1, 1, LOG_SIDE) };
 }
 
 // Shows the events of the prefix around the present state.
@@ -1394,10 +1386,14 @@ function drawTrace({ hops, end }) {
   );
 }
 
+// Tells whether the filter lets a prefix through.
+function passes(prefix) {
+  return net.prefixes[prefix].text.includes(byId('filter').value.trim());
+}
+
 // Gives the prefixes that the table of a router shows: the chosen one, then those that the filter lets through.
 function tablePrefixes() {
-  const wanted = byId('filter').value.trim();
-  const others = net.order.filter((prefix) => prefix !== shown.prefix && net.prefixes[prefix].text.includes(wanted));
+  const others = net.order.filter((prefix) => prefix !== shown.prefix && passes(prefix));
   return shown.prefix in net.prefixes ? [shown.prefix, ...others] : others;
 }
 
@@ -1590,18 +1586,10 @@ const MOST_OPTIONS = 400;
 
 // Lists the prefixes that the filter lets through, and keeps the chosen one among them.
 function listPrefixes() {
-  const wanted = byId('filter').value.trim();
-  const found = net.order.filter((prefix) => net.prefixes[prefix].text.includes(wanted)).slice(0, MOST_OPTIONS);
+  const found = net.order.filter(passes).slice(0, MOST_OPTIONS);
   if (shown.prefix in net.prefixes && !found.includes(shown.prefix)) found.unshift(shown.prefix);
   byId('prefix').replaceChildren(...found.map((prefix) => option(net.prefixes[prefix].text, prefix)));
   byId('prefix').value = String(shown.prefix);
-}
-
-// Gives the chosen prefix where the filter lets it through, else the first that it does.
-function firstFound() {
-  const wanted = byId('filter').value.trim();
-  const passes = (prefix) => net.prefixes[prefix].text.includes(wanted);
-  return passes(shown.prefix) ? shown.prefix : net.order.find(passes) ?? shown.prefix;
 }
 
 // Gives one choice of a list.
@@ -1701,7 +1689,8 @@ function hearControls() {
     'trace-addr': () => show(),
   };
   for (const [id, act] of Object.entries(inputs)) byId(id).addEventListener('input', (event) => act(event.target));
-  byId('filter').addEventListener('change', () => choosePrefix(firstFound()));
+  const found = () => [shown.prefix, ...net.order].find(passes) ?? shown.prefix;
+  byId('filter').addEventListener('change', () => choosePrefix(found()));
   byId('goto').addEventListener('change', (event) => {
     if (event.target.value !== '') goPlace(placeOf(Number(event.target.value)));
   });
