@@ -80,12 +80,7 @@ pub fn explain<W: Write>(
 
 // Tells of a line of a journal's text, counted from 1, that is not what stands there in a journal: its
 // place, its text, and what was expected.
-fn explain_journal<W: Write>(
-    file: &str,
-    text: &str,
-    line: usize,
-    out: &mut W,
-) -> io::Result<()> {
+fn explain_journal<W: Write>(file: &str, text: &str, line: usize, out: &mut W) -> io::Result<()> {
     match text.split('\n').nth(line.saturating_sub(1)) {
         Some(found) if !found.is_empty() => writeln!(out, "  {file}:{line}:1: {}", Shown(found))?,
         _ => writeln!(out, "  {file}:{line}:1: there is no such line")?,

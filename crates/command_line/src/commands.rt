@@ -190,22 +190,36 @@ fn shell_command<'a>(alloc: Global) -> Result<Command<'a>, AllocError>
 
 pub(crate) const FILE: Argument = argument!(Word "file" "FILE"
     "Scenario: a TOML file, or - for the standard input");
+
 const THREADS: Argument = argument!(Number "threads" "N"
     "Let up to N threads do the steps of a settle: 1 to 16");
+
 const WORKERS: Argument = argument!(Number "workers" "N"
     "Let N threads answer the packets of inject: 1 to 16");
+
 const JOURNAL: Argument = argument!(Value "journal" "PATH"
     "Write all steps to this file, if the status is 0");
+
 const NO_JOURNAL: Argument = argument!(Flag "no-journal" ""
     "Count the steps and keep none, without a limit, by one thread and one worker; not with --journal");
+
 const GIVEN_JOURNAL: Argument = argument!(Word "journal" "JOURNAL"
     "Journal that a run of this scenario wrote");
-const TIMES: Argument = argument!(Word "times" "TIMES" "Delays, and changes with their moments: a TOML file");
+
+const TIMES: Argument =
+    argument!(Word "times" "TIMES" "Delays, and changes with their moments: a TOML file");
+
 const SPELLS: Argument = argument!(Flag "spells" ""
     "Print who was in a computation, and who had no way, from when until when");
+
 const NUMBER: Argument = argument!(Known "number" "NUMBER"
     "Number that the program printed, for example 45 of `45 BadCommand`");
+
 const EXPLAIN: Argument = argument!(Flag "explain" ""
     "Print below a fault where it is, and what to do; print more of a state");
-const FORMAT: Argument = argument!(Choice "format" "FORMAT" "Print text, or json: an object on each line");
-const PROGRESS: Argument = argument!(Flag "progress" "" "Print on the standard error how much is done");
+
+const FORMAT: Argument =
+    argument!(Choice "format" "FORMAT" "Print text, or json: an object on each line");
+
+const PROGRESS: Argument =
+    argument!(Flag "progress" "" "Print on the standard error how much is done");

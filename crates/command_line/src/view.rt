@@ -47,10 +47,13 @@ fn view_command<'a>(alloc: Global) -> Result<Command<'a>, AllocError>
 
 const JOURNAL: Argument = argument!(FreeWord "journal" "JOURNAL"
     "Journal whose steps are shown. If you name none, the script is run");
+
 const TIMES: Argument = argument!(Value "times" "PATH"
     "Run the network in simulated time, by this document of times, and not the script");
+
 const OUTPUT: Argument = argument!(Output "output" "PATH"
     "Write to this file, and not to the standard output");
+
 const JSON: Argument = argument!(Flag "json" "" "Write a line of JSON for each state, and no page");
 
 /// What the words ask for. The first word is the program's name. If you ask for help, it comes as an

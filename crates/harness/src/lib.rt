@@ -109,7 +109,16 @@ where
         out: &mut out,
         err: &mut err,
     };
-    let status = play(&by, words, scenario, journal, &mut streams, true, &mut kept, &mut fault);
+    let status = play(
+        &by,
+        words,
+        scenario,
+        journal,
+        &mut streams,
+        true,
+        &mut kept,
+        &mut fault,
+    );
     Outcome {
         status,
         out,

@@ -208,13 +208,7 @@ fn into_kind(done: Result<(), Refusal>) -> Result<(), FaultKind>
 // ---- how far a run or a replay is, told on a line that moves, where that is asked for; a write that fails is lost
 
 // Tells how many commands of a script were done, and how many steps.
-fn show_commands_done<E: Write>(
-    asked: bool,
-    done: usize,
-    all: usize,
-    steps: usize,
-    err: &mut E,
-) {
+fn show_commands_done<E: Write>(asked: bool, done: usize, all: usize, steps: usize, err: &mut E) {
     if asked {
         let _ = write!(err, "\rdualnet: {done} of {all} commands, {steps} steps");
         let _ = err.flush();

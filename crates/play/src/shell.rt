@@ -194,12 +194,7 @@ where
 // ---- what is printed beside the lines of commands
 
 // Prints a text, as JSON in an object of this kind, which is an element of a list.
-fn print_text<W: Write>(
-    format: Format,
-    kind: &str,
-    text: &str,
-    out: &mut W,
-) -> io::Result<()> {
+fn print_text<W: Write>(format: Format, kind: &str, text: &str, out: &mut W) -> io::Result<()> {
     match format {
         Format::Text => writeln!(out, "{text}"),
         Format::Json => {

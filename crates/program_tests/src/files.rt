@@ -95,7 +95,16 @@ fn loses<H: Host + Abort>(rt: &H, alloc: Global, scenario: &[u8], status: u8, wa
         err: &mut err,
     };
     let scenario = File::Holds(scenario);
-    let ended = play(&by, &RUN, scenario, MISSING, &mut streams, true, &mut kept, &mut None);
+    let ended = play(
+        &by,
+        &RUN,
+        scenario,
+        MISSING,
+        &mut streams,
+        true,
+        &mut kept,
+        &mut None,
+    );
     equal(rt, ended, status);
     equal(rt, kept.as_slice(), wanted.as_bytes());
 }
