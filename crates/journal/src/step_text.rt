@@ -11,7 +11,7 @@ use std::fmt;
 /// `cost A B C`, `deliver A B`, `publish A`, `release A`, `attach A PREFIX COST` or `detach A PREFIX`. The routers
 /// of `up` and `down` come in the order of their link.
 #[derive(Clone, Copy)]
-pub struct StepText<'a>(pub &'a Directory, pub &'a [LinkSpec], pub Step);
+pub struct StepText<'a, 'b>(pub &'a Directory, pub &'b [LinkSpec], pub Step);
 
 // The routers at the ends of a link; none where there is no such link.
 fn ends(links: &[LinkSpec], link: u16) -> (Option<u16>, Option<u16>)
@@ -24,7 +24,7 @@ fn ends(links: &[LinkSpec], link: u16) -> (Option<u16>, Option<u16>)
     }
 }
 
-impl fmt::Display for StepText<'_> {
+impl fmt::Display for StepText<'_, '_> {
     ghost output = { λ t. Some (step_text t.0.now t.1.now t.2) };
 
     fn fmt<W: fmt::Write>(&self, f: &mut fmt::Formatter<W>) -> fmt::Result {

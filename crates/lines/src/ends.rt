@@ -73,7 +73,7 @@ impl fmt::Display for Told<'_, NextLine<'_>> {
         (next_json t.0.directory.now t.1.links.now t.1.router t.1.step)) };
 
     fn fmt<W: fmt::Write>(&self, f: &mut fmt::Formatter<W>) -> fmt::Result {
-        let Told(by, line) = *self;
+        let (by, line) = (self.0, &self.1);
         let name = by.directory.name(Some(line.router));
         match line.step {
             Some(step) => {

@@ -44,7 +44,7 @@ impl fmt::Display for Told<'_, AwaitsLine<'_>> {
         (awaits_json t.0.directory.now t.1.router t.1.prefix t.1.neighbours.now)) };
 
     fn fmt<W: fmt::Write>(&self, f: &mut fmt::Formatter<W>) -> fmt::Result {
-        let Told(by, line) = *self;
+        let (by, line) = (self.0, &self.1);
         let (name, prefix) = (by.directory.name(Some(line.router)), line.prefix);
         let each = EachName(by.directory, " ", "", line.neighbours);
         let names = NamesJson(by.directory, line.neighbours);

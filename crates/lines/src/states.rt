@@ -2,8 +2,8 @@
 
 ghost use Rattle.std.specs.Prelude.{◌≡◌, Some};
 ghost use Rattle.lines.specs.Formats.{in_format};
-ghost use Rattle.lines.specs.Texts.{link_text, machine_text, origin_text, router_text, up_text};
-ghost use Rattle.lines.specs.Objects.{link_json, machine_json, number_json, router_json};
+ghost use Rattle.lines.specs.Texts.{link_text, machine_text, origin_text, router_text, unheard_text, up_text};
+ghost use Rattle.lines.specs.Objects.{link_json, machine_json, number_json, router_json, unheard_json};
 
 use crate::records::{LinkState, MachineState, RouterState};
 use crate::told::Told;
@@ -116,5 +116,19 @@ impl fmt::Display for Told<'_, MachineLine> {
         write_either!(f, by;
             "{name} {prefix} {origin} RD {rd} FD {fd} {entry}",
             "{{\"kind\":\"machine\",\"router\":\"{name}\",\"prefix\":\"{prefix}\",\"active\":{origin},\"rd\":{rd},\"fd\":{fd},{entry}}}")
+    }
+}
+
+// A prefix of which a router's machine knows nothing.
+impl fmt::Display for Told<'_, (u16, Prefix)> {
+    ghost output = { λ t. Some (in_format t.0.format
+        (unheard_text t.0.directory.now t.1.0 t.1.1) (unheard_json t.0.directory.now t.1.0 t.1.1)) };
+
+    fn fmt<W: fmt::Write>(&self, f: &mut fmt::Formatter<W>) -> fmt::Result {
+        let Told(by, (router, prefix)) = *self;
+        let name = by.directory.name(Some(router));
+        write_either!(f, by;
+            "{name} {prefix} unheard",
+            "{{\"kind\":\"unheard\",\"router\":\"{name}\",\"prefix\":\"{prefix}\"}}")
     }
 }

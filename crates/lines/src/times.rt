@@ -111,7 +111,7 @@ impl fmt::Display for Told<'_, ChangeLine<'_>> {
         (change_text t.0.directory.now t.1) (change_json t.0.directory.now t.1)) };
 
     fn fmt<W: fmt::Write>(&self, f: &mut fmt::Formatter<W>) -> fmt::Result {
-        let Told(by, line) = *self;
+        let (by, line) = (self.0, &self.1);
         let (moment, came) = (line.moment, Told(by, line.came));
         let step = StepText(by.directory, line.links, line.step);
         write_either!(f, by;
@@ -120,9 +120,9 @@ impl fmt::Display for Told<'_, ChangeLine<'_>> {
     }
 }
 
-impl fmt::Display for Told<'_, SpellLine> {
+impl fmt::Display for Told<'_, &SpellLine> {
     ghost output = { λ t. Some (in_format t.0.format
-        (spell_text t.0.directory.now t.1) (spell_json t.0.directory.now t.1)) };
+        (spell_text t.0.directory.now t.1.now) (spell_json t.0.directory.now t.1.now)) };
 
     fn fmt<W: fmt::Write>(&self, f: &mut fmt::Formatter<W>) -> fmt::Result {
         let Told(by, line) = *self;

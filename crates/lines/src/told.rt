@@ -25,7 +25,7 @@ impl Printer<'_> {
         ensures { OnOk result (Appends (W.contents out.old) (W.contents out.new)
             (printed self.now line.now)) }
     {
-        let told = Told(*self, *line);
+        let told = Told(*self, line);
         if self.listed {
             return write!(out, ",{told}");
         }
@@ -37,23 +37,18 @@ impl Printer<'_> {
 #[derive(Clone, Copy)]
 pub struct Told<'a, T>(pub Printer<'a>, pub T);
 
-impl fmt::Display for Told<'_, Line<'_>> {
-    ghost output = { λ t. Some (line_in t.0.format t.0.directory.now t.1) };
+impl fmt::Display for Told<'_, &Line<'_>> {
+    ghost output = { λ t. Some (line_in t.0.format t.0.directory.now t.1.now) };
 
     fn fmt<W: fmt::Write>(&self, f: &mut fmt::Formatter<W>) -> fmt::Result {
-        let Told(by, line) = *self;
-        match line {
+        let by = self.0;
+        match *self.1 {
             Line::Asked(asked) => write!(f, "{}", Told(by, asked)),
             Line::Traced(line) => write!(f, "{}", Told(by, line)),
             Line::Link(line) => write!(f, "{}", Told(by, line)),
             Line::Router(line) => write!(f, "{}", Told(by, line)),
             Line::Machine(line) => write!(f, "{}", Told(by, line)),
-            Line::Unheard { router, prefix } => {
-                let name = by.directory.name(Some(router));
-                write_either!(f, by;
-                    "{name} {prefix} unheard",
-                    "{{\"kind\":\"unheard\",\"router\":\"{name}\",\"prefix\":\"{prefix}\"}}")
-            }
+            Line::Unheard { router, prefix } => write!(f, "{}", Told(by, (router, prefix))),
             Line::Awaits(line) => write!(f, "{}", Told(by, line)),
             Line::Known(line) => write!(f, "{}", Told(by, line)),
             Line::Waiting(waiting) => write!(f, "{}", Told(by, waiting)),
@@ -69,7 +64,7 @@ impl fmt::Display for Told<'_, Line<'_>> {
             }
             Line::Ended(ended) => write!(f, "{}", Told(by, ended)),
             Line::Changed(line) => write!(f, "{}", Told(by, line)),
-            Line::Spell(line) => write!(f, "{}", Told(by, line)),
+            Line::Spell(ref line) => write!(f, "{}", Told(by, line)),
         }
     }
 }

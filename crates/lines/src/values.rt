@@ -25,14 +25,14 @@ pub fn kind_words(kind: Kind) -> &'static str
 
 // The names of routers, each between two texts: what is before it and what is behind it.
 #[derive(Clone, Copy)]
-pub(crate) struct EachName<'a>(
+pub(crate) struct EachName<'a, 'b>(
     pub &'a Directory,
     pub &'static str,
     pub &'static str,
-    pub &'a [u16],
+    pub &'b [u16],
 );
 
-impl fmt::Display for EachName<'_> {
+impl fmt::Display for EachName<'_, '_> {
     ghost output = { λ t. Some (each_name t.0.now t.1.now t.2.now t.3.now) };
 
     fn fmt<W: fmt::Write>(&self, f: &mut fmt::Formatter<W>) -> fmt::Result {
@@ -47,9 +47,9 @@ impl fmt::Display for EachName<'_> {
 
 // The names of routers as a list of JSON, without its brackets.
 #[derive(Clone, Copy)]
-pub(crate) struct NamesJson<'a>(pub &'a Directory, pub &'a [u16]);
+pub(crate) struct NamesJson<'a, 'b>(pub &'a Directory, pub &'b [u16]);
 
-impl fmt::Display for NamesJson<'_> {
+impl fmt::Display for NamesJson<'_, '_> {
     ghost output = { λ t. Some (names_json t.0.now t.1.now) };
 
     fn fmt<W: fmt::Write>(&self, f: &mut fmt::Formatter<W>) -> fmt::Result {

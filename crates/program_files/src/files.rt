@@ -44,10 +44,18 @@ pub fn open_file(rt: &HostRuntime, path: Option<&str>) -> Input {
 /// Opens the file that is read beside the scenario, if one is named. The standard input is read once, so both cannot be
 /// that (47).
 pub fn open_beside(rt: &HostRuntime, scenario: Option<&str>, path: Option<&str>) -> Input {
-    if path == Some("-") && scenario == Some("-") {
+    if is_hyphen(path) && is_hyphen(scenario) {
         return Input::Missing;
     }
     open_file(rt, path)
+}
+
+// Whether a path is the hyphen, which names the standard input.
+fn is_hyphen(path: Option<&str>) -> bool {
+    match path {
+        Some(path) => path == "-",
+        None => false,
+    }
 }
 
 /// Tells why a file cannot be read, if it cannot: its path, and the system's words. A write that fails is lost.
