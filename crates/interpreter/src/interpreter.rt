@@ -57,6 +57,11 @@ impl<'a, G> Interpreter<'a, G> {
             listed: self.style.is_shell && matches!(self.style.format, Format::Json),
         }
     }
+
+    // Whether it is told what each step takes or sends.
+    fn tells_moves(&self) -> bool {
+        self.style.is_shell && self.style.explain
+    }
 }
 
 /// Does the commands in order, up to the first that is refused. Their steps make a run of lawful steps. After each,
@@ -140,7 +145,7 @@ where
     let alloc = interpreter.alloc;
     match command {
         Command::Step(step) => {
-            let moves = interpreter.style.is_shell && interpreter.style.explain;
+            let moves = interpreter.tells_moves();
             let done = do_step(net, &printer, moves, step, out);
             into_kind(done)
         }

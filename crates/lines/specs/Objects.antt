@@ -16,13 +16,14 @@ use Rattle.network_model.specs.declared.trace.Ending.{Ending}
 use Rattle.texts.specs.Words.{Text}
 use Rattle.script.specs.Directories.{Directory, name_text, neighbour_at}
 use Rattle.journal.specs.Steps.{step_text}
-use Rattle.lines.specs.Texts.{each_name, end_text, fault_text, kind_text}
+use Rattle.lines.specs.Texts.{each_name, end_text, fault_text, kind_text, spell_word}
 use Rattle.lines.specs.declared.answers.Answer.{Answer}
 use Rattle.lines.specs.declared.answers.Asked.{Asked}
 use Rattle.lines.specs.declared.answers.Asked.TheVariants.{Row, Lookup, Packet}
 use Rattle.lines.specs.declared.states.LinkLine.{LinkLine}
 use Rattle.lines.specs.declared.states.RouterLine.{RouterLine}
 use Rattle.lines.specs.declared.states.MachineLine.{MachineLine}
+use Rattle.lines.specs.declared.records.MachineState.{MachineState}
 use Rattle.lines.specs.declared.reasons.Known.{Known}
 use Rattle.lines.specs.declared.reasons.Known.TheVariants.{Owes, Attached, AtNeighbour}
 use Rattle.lines.specs.declared.waiting.Waiting.{Waiting}
@@ -99,13 +100,18 @@ trace_json d router addr through path end =
 
 -- ---- links, routers, machines
 
+-- the costs of a link from its ends, and how many items these have yet to take
+abbrev pub loads_json : LinkLine → Text
+loads_json l =
+    codes "\"costs\":[" ++ decimal (l.at).from_a ++ codes "," ++ decimal (l.at).from_b
+    ++ codes "],\"queued\":[" ++ decimal l.queued_a ++ codes "," ++ decimal l.queued_b ++ codes "]"
+
 -- a link: its ends, whether it is up, its session, its cost from each end, and how many items each end has yet to take
 abbrev pub link_json : Directory → LinkLine → Text
 link_json d l =
     codes "{\"kind\":\"link\",\"a\":\"" ++ name_text d (Some l.a) ++ codes "\",\"b\":\"" ++ name_text d (Some l.b)
     ++ codes "\",\"up\":" ++ flag_json (l.at).up ++ codes ",\"session\":" ++ decimal (l.at).session
-    ++ codes ",\"costs\":[" ++ decimal (l.at).from_a ++ codes "," ++ decimal (l.at).from_b
-    ++ codes "],\"queued\":[" ++ decimal l.queued_a ++ codes "," ++ decimal l.queued_b ++ codes "]}"
+    ++ codes "," ++ loads_json l ++ codes "}"
 
 -- a router: how often it published, how many messages it holds, how many of them are ripe, and how many notices of its own attachments it has yet to take
 abbrev pub router_json : Directory → RouterLine → Text
@@ -113,12 +119,15 @@ router_json d r =
     codes "{\"kind\":\"router\",\"router\":\"" ++ name_text d (Some r.router) ++ codes "\",\"generation\":" ++ decimal (r.at).generation
     ++ codes ",\"held\":" ++ decimal (r.at).held ++ codes ",\"ripe\":" ++ decimal (r.at).ripe ++ codes ",\"notices\":" ++ decimal (r.at).notices ++ codes "}"
 
+-- what a machine is at: its state and its distances
+abbrev pub state_json : MachineState → Text
+state_json s = codes "\"active\":" ++ number_json s.origin ++ codes ",\"rd\":" ++ distance_json s.rd ++ codes ",\"fd\":" ++ distance_json s.fd
+
 -- a router's machine for a prefix: its state and its distances, and the entry that the router chose
 abbrev pub machine_json : Directory → MachineLine → Text
 machine_json d m =
     codes "{\"kind\":\"machine\",\"router\":\"" ++ name_text d (Some m.router) ++ codes "\",\"prefix\":\"" ++ prefix_text m.prefix
-    ++ codes "\",\"active\":" ++ number_json (m.at).origin ++ codes ",\"rd\":" ++ distance_json (m.at).rd ++ codes ",\"fd\":" ++ distance_json (m.at).fd
-    ++ codes "," ++ entry_json d m.router m.entry ++ codes "}"
+    ++ codes "\"," ++ state_json m.at ++ codes "," ++ entry_json d m.router m.entry ++ codes "}"
 
 -- a prefix that a router has not heard of
 abbrev pub unheard_json : Directory → ℕ → Prefix → Text
@@ -248,5 +257,5 @@ change_json d c =
 -- a computation or an outage that has ended
 abbrev pub spell_json : Directory → SpellLine → Text
 spell_json d s =
-    codes "{\"kind\":\"" ++ (s.kind).now ++ codes "\",\"router\":\"" ++ name_text d (Some s.router) ++ codes "\",\"prefix\":\"" ++ prefix_text s.prefix
+    codes "{\"kind\":\"" ++ spell_word s.outage ++ codes "\",\"router\":\"" ++ name_text d (Some s.router) ++ codes "\",\"prefix\":\"" ++ prefix_text s.prefix
     ++ codes "\",\"from\":" ++ decimal s.from ++ codes ",\"to\":" ++ decimal s.to ++ codes "}"

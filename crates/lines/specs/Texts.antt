@@ -26,6 +26,7 @@ use Rattle.lines.specs.declared.answers.Asked.TheVariants.{Row, Lookup, Packet}
 use Rattle.lines.specs.declared.states.LinkLine.{LinkLine}
 use Rattle.lines.specs.declared.states.RouterLine.{RouterLine}
 use Rattle.lines.specs.declared.states.MachineLine.{MachineLine}
+use Rattle.lines.specs.declared.records.MachineState.{MachineState}
 use Rattle.lines.specs.declared.reasons.Known.{Known}
 use Rattle.lines.specs.declared.reasons.Known.TheVariants.{Owes, Attached, AtNeighbour}
 use Rattle.lines.specs.declared.waiting.Waiting.{Waiting}
@@ -108,12 +109,15 @@ abbrev pub origin_text : Option ℕ → Text
 origin_text None = codes "passive"
 origin_text (Some origin) = codes "active " ++ decimal origin
 
+-- the costs of a link from its ends, and how many items these have yet to take
+abbrev pub loads_text : LinkLine → Text
+loads_text l = decimal (l.at).from_a ++ codes " " ++ decimal (l.at).from_b ++ codes " queued " ++ decimal l.queued_a ++ codes " " ++ decimal l.queued_b
+
 -- a link: its ends, whether it is up, its session, its cost from each end, and how many items each end has yet to take
 abbrev pub link_text : Directory → LinkLine → Text
 link_text d l =
     codes "link " ++ name_text d (Some l.a) ++ codes " " ++ name_text d (Some l.b)
-    ++ codes " " ++ up_text (l.at).up ++ codes " " ++ decimal (l.at).session ++ codes " " ++ decimal (l.at).from_a ++ codes " " ++ decimal (l.at).from_b
-    ++ codes " queued " ++ decimal l.queued_a ++ codes " " ++ decimal l.queued_b
+    ++ codes " " ++ up_text (l.at).up ++ codes " " ++ decimal (l.at).session ++ codes " " ++ loads_text l
 
 -- a router: how often it published, how many messages it holds, how many of them are ripe, and how many notices of its own attachments it has yet to take
 abbrev pub router_text : Directory → RouterLine → Text
@@ -122,12 +126,14 @@ router_text d r =
     ++ codes " gen " ++ decimal (r.at).generation ++ codes " held " ++ decimal (r.at).held ++ codes " ripe " ++ decimal (r.at).ripe
     ++ codes " attach " ++ decimal (r.at).notices
 
+-- what a machine is at: its state, its reported and its feasible distance
+abbrev pub state_text : MachineState → Text
+state_text s = origin_text s.origin ++ codes " RD " ++ distance_text s.rd ++ codes " FD " ++ distance_text s.fd
+
 -- a router's machine for a prefix: its state, its reported and its feasible distance, and the entry that the router chose
 abbrev pub machine_text : Directory → MachineLine → Text
 machine_text d m =
-    name_text d (Some m.router) ++ codes " " ++ prefix_text m.prefix ++ codes " " ++ origin_text (m.at).origin
-    ++ codes " RD " ++ distance_text (m.at).rd ++ codes " FD " ++ distance_text (m.at).fd
-    ++ codes " " ++ entry_text d m.router m.entry
+    name_text d (Some m.router) ++ codes " " ++ prefix_text m.prefix ++ codes " " ++ state_text m.at ++ codes " " ++ entry_text d m.router m.entry
 
 -- a prefix that a router has not heard of
 abbrev pub unheard_text : Directory → ℕ → Prefix → Text
@@ -248,8 +254,13 @@ came_text (Err fault) = codes "refused " ++ fault_text fault
 abbrev pub change_text : Directory → ChangeLine → Text
 change_text d c = decimal c.moment ++ codes " " ++ step_text d (c.links).now c.step ++ codes ": " ++ came_text c.came
 
+-- what a spell is: an outage, or else a computation
+abbrev pub spell_word : Bool → Text
+spell_word true = codes "outage"
+spell_word false = codes "computation"
+
 -- a computation or an outage that has ended
 abbrev pub spell_text : Directory → SpellLine → Text
 spell_text d s =
-    codes "  " ++ (s.kind).now ++ codes " at " ++ name_text d (Some s.router) ++ codes " for " ++ prefix_text s.prefix
+    codes "  " ++ spell_word s.outage ++ codes " at " ++ name_text d (Some s.router) ++ codes " for " ++ prefix_text s.prefix
     ++ codes " from " ++ decimal s.from ++ codes " to " ++ decimal s.to

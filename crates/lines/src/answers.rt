@@ -142,10 +142,10 @@ fn through_member(through: bool) -> &'static str
 
 // `trace A ADDR: NAMES END`, with the names of the routers on its path, each followed by a space, and `delivered`,
 // `no route`, `unreachable`, `dead link` or `crossed`; with ` --through` after the address where it is a trace through.
-impl fmt::Display for Told<'_, TraceLine<'_>> {
+impl fmt::Display for Told<'_, &TraceLine<'_>> {
     ghost output = { λ t. Some (in_format t.0.format
-        (trace_text t.0.directory.now t.1.router t.1.addr t.1.through t.1.path.now t.1.end)
-        (trace_json t.0.directory.now t.1.router t.1.addr t.1.through t.1.path.now t.1.end)) };
+        (trace_text t.0.directory.now t.1.now.router t.1.now.addr t.1.now.through t.1.now.path.now t.1.now.end)
+        (trace_json t.0.directory.now t.1.now.router t.1.now.addr t.1.now.through t.1.now.path.now t.1.now.end)) };
 
     fn fmt<W: fmt::Write>(&self, f: &mut fmt::Formatter<W>) -> fmt::Result {
         let Told(by, line) = *self;

@@ -67,13 +67,13 @@ pub struct NextLine<'a> {
     pub step: Option<Step>,
 }
 
-impl fmt::Display for Told<'_, NextLine<'_>> {
+impl fmt::Display for Told<'_, &NextLine<'_>> {
     ghost output = { λ t. Some (in_format t.0.format
-        (next_text t.0.directory.now t.1.links.now t.1.router t.1.step)
-        (next_json t.0.directory.now t.1.links.now t.1.router t.1.step)) };
+        (next_text t.0.directory.now t.1.now.links.now t.1.now.router t.1.now.step)
+        (next_json t.0.directory.now t.1.now.links.now t.1.now.router t.1.now.step)) };
 
     fn fmt<W: fmt::Write>(&self, f: &mut fmt::Formatter<W>) -> fmt::Result {
-        let (by, line) = (self.0, &self.1);
+        let Told(by, line) = *self;
         let name = by.directory.name(Some(line.router));
         match line.step {
             Some(step) => {

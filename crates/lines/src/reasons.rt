@@ -39,12 +39,12 @@ pub enum Known {
     AtNeighbour(Option<u16>, Neighbour),
 }
 
-impl fmt::Display for Told<'_, AwaitsLine<'_>> {
-    ghost output = { λ t. Some (in_format t.0.format (awaits_text t.0.directory.now t.1.neighbours.now)
-        (awaits_json t.0.directory.now t.1.router t.1.prefix t.1.neighbours.now)) };
+impl fmt::Display for Told<'_, &AwaitsLine<'_>> {
+    ghost output = { λ t. Some (in_format t.0.format (awaits_text t.0.directory.now t.1.now.neighbours.now)
+        (awaits_json t.0.directory.now t.1.now.router t.1.now.prefix t.1.now.neighbours.now)) };
 
     fn fmt<W: fmt::Write>(&self, f: &mut fmt::Formatter<W>) -> fmt::Result {
-        let (by, line) = (self.0, &self.1);
+        let Told(by, line) = *self;
         let (name, prefix) = (by.directory.name(Some(line.router)), line.prefix);
         let each = EachName(by.directory, " ", "", line.neighbours);
         let names = NamesJson(by.directory, line.neighbours);
@@ -60,13 +60,14 @@ impl fmt::Display for Told<'_, Neighbour> {
 
     fn fmt<W: fmt::Write>(&self, f: &mut fmt::Formatter<W>) -> fmt::Result {
         let Told(by, known) = *self;
-        if !known.up {
-            return write_either!(f, by; "down", "false");
+        if known.up {
+            let (cost, reported) = (known.cost, Told(by, known.reported));
+            write_either!(f, by;
+                "up, cost {cost}, reported {reported}",
+                "true,\"cost\":{cost},\"reported\":{reported}")
+        } else {
+            write_either!(f, by; "down", "false")
         }
-        let (cost, reported) = (known.cost, Told(by, known.reported));
-        write_either!(f, by;
-            "up, cost {cost}, reported {reported}",
-            "true,\"cost\":{cost},\"reported\":{reported}")
     }
 }
 
@@ -94,7 +95,8 @@ impl fmt::Display for Told<'_, KnownLine> {
     fn fmt<W: fmt::Write>(&self, f: &mut fmt::Formatter<W>) -> fmt::Result {
         let Told(by, line) = *self;
         let (name, prefix) = (by.directory.name(Some(line.router)), line.prefix);
-        match line.known {
+        let known = line.known;
+        match known {
             Known::Owes(neighbour) => {
                 let owed = Told(by, neighbour);
                 write_either!(f, by;

@@ -2,8 +2,8 @@
 
 ghost use Rattle.std.specs.Prelude.{◌≡◌, Some};
 ghost use Rattle.lines.specs.Formats.{in_format};
-ghost use Rattle.lines.specs.Texts.{link_text, machine_text, origin_text, router_text, unheard_text, up_text};
-ghost use Rattle.lines.specs.Objects.{link_json, machine_json, number_json, router_json, unheard_json};
+ghost use Rattle.lines.specs.Texts.{link_text, loads_text, machine_text, origin_text, router_text, state_text, unheard_text, up_text};
+ghost use Rattle.lines.specs.Objects.{link_json, loads_json, machine_json, number_json, router_json, state_json, unheard_json};
 
 use crate::records::{LinkState, MachineState, RouterState};
 use crate::told::Told;
@@ -53,6 +53,24 @@ fn up_words(up: bool) -> &'static str
     if up { "up" } else { "down" }
 }
 
+// The costs of a link from its ends, and how many items these have yet to take.
+#[derive(Clone, Copy)]
+struct Loads(LinkLine);
+
+// Words, or members.
+impl fmt::Display for Told<'_, Loads> {
+    ghost output = { λ t. Some (in_format t.0.format (loads_text t.1.0) (loads_json t.1.0)) };
+
+    fn fmt<W: fmt::Write>(&self, f: &mut fmt::Formatter<W>) -> fmt::Result {
+        let Told(by, Loads(line)) = *self;
+        let (from_a, from_b) = (line.at.from_a, line.at.from_b);
+        let (to_a, to_b) = (line.queued_a, line.queued_b);
+        write_either!(f, by;
+            "{from_a} {from_b} queued {to_a} {to_b}",
+            "\"costs\":[{from_a},{from_b}],\"queued\":[{to_a},{to_b}]")
+    }
+}
+
 impl fmt::Display for Told<'_, LinkLine> {
     ghost output = { λ t. Some (in_format t.0.format
         (link_text t.0.directory.now t.1) (link_json t.0.directory.now t.1)) };
@@ -61,13 +79,11 @@ impl fmt::Display for Told<'_, LinkLine> {
         let Told(by, line) = *self;
         let a = by.directory.name(Some(line.a));
         let b = by.directory.name(Some(line.b));
-        let (up, session) = (line.at.up, line.at.session);
+        let (up, session, loads) = (line.at.up, line.at.session, Told(by, Loads(line)));
         let word = up_words(up);
-        let (from_a, from_b) = (line.at.from_a, line.at.from_b);
-        let (to_a, to_b) = (line.queued_a, line.queued_b);
         write_either!(f, by;
-            "link {a} {b} {word} {session} {from_a} {from_b} queued {to_a} {to_b}",
-            "{{\"kind\":\"link\",\"a\":\"{a}\",\"b\":\"{b}\",\"up\":{up},\"session\":{session},\"costs\":[{from_a},{from_b}],\"queued\":[{to_a},{to_b}]}}")
+            "link {a} {b} {word} {session} {loads}",
+            "{{\"kind\":\"link\",\"a\":\"{a}\",\"b\":\"{b}\",\"up\":{up},\"session\":{session},{loads}}}")
     }
 }
 
@@ -103,6 +119,19 @@ impl fmt::Display for Told<'_, Option<u8>> {
     }
 }
 
+// Words, or members.
+impl fmt::Display for Told<'_, MachineState> {
+    ghost output = { λ t. Some (in_format t.0.format (state_text t.1) (state_json t.1)) };
+
+    fn fmt<W: fmt::Write>(&self, f: &mut fmt::Formatter<W>) -> fmt::Result {
+        let Told(by, at) = *self;
+        let (origin, rd, fd) = (Told(by, at.origin), Told(by, at.rd), Told(by, at.fd));
+        write_either!(f, by;
+            "{origin} RD {rd} FD {fd}",
+            "\"active\":{origin},\"rd\":{rd},\"fd\":{fd}")
+    }
+}
+
 impl fmt::Display for Told<'_, MachineLine> {
     ghost output = { λ t. Some (in_format t.0.format
         (machine_text t.0.directory.now t.1) (machine_json t.0.directory.now t.1)) };
@@ -110,12 +139,11 @@ impl fmt::Display for Told<'_, MachineLine> {
     fn fmt<W: fmt::Write>(&self, f: &mut fmt::Formatter<W>) -> fmt::Result {
         let Told(by, line) = *self;
         let name = by.directory.name(Some(line.router));
-        let (prefix, origin) = (line.prefix, Told(by, line.at.origin));
-        let (rd, fd) = (Told(by, line.at.rd), Told(by, line.at.fd));
+        let (prefix, at) = (line.prefix, Told(by, line.at));
         let entry = Told(by, (line.router, line.entry));
         write_either!(f, by;
-            "{name} {prefix} {origin} RD {rd} FD {fd} {entry}",
-            "{{\"kind\":\"machine\",\"router\":\"{name}\",\"prefix\":\"{prefix}\",\"active\":{origin},\"rd\":{rd},\"fd\":{fd},{entry}}}")
+            "{name} {prefix} {at} {entry}",
+            "{{\"kind\":\"machine\",\"router\":\"{name}\",\"prefix\":\"{prefix}\",{at},{entry}}}")
     }
 }
 

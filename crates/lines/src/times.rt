@@ -1,8 +1,8 @@
 //! What is told of a run in simulated time. Moments and times are in microseconds.
 
-ghost use Rattle.std.specs.Prelude.{Some};
+ghost use Rattle.std.specs.Prelude.{◌≡◌, Some};
 ghost use Rattle.lines.specs.Formats.{in_format};
-ghost use Rattle.lines.specs.Texts.{came_text, change_text, effect_text, rest_text, spell_text, tallies_text};
+ghost use Rattle.lines.specs.Texts.{came_text, change_text, effect_text, rest_text, spell_text, spell_word, tallies_text};
 ghost use Rattle.lines.specs.Objects.{came_json, change_json, effect_json, rest_json, spell_json, tallies_json};
 
 use crate::ends::Counts;
@@ -43,12 +43,19 @@ pub struct ChangeLine<'a> {
 /// A computation of a router's machine for a prefix, or an outage of a router, that has ended.
 #[derive(Clone, Copy)]
 pub struct SpellLine {
-    /// `computation` or `outage`.
-    pub kind: &'static str,
+    /// Whether it is an outage, and else a computation.
+    pub outage: bool,
     pub router: u16,
     pub prefix: Prefix,
     pub from: u64,
     pub to: u64,
+}
+
+// What a spell is.
+fn spell_words(outage: bool) -> &'static str
+    ensures { result.now ≡ spell_word outage }
+{
+    if outage { "outage" } else { "computation" }
 }
 
 // How much later a network was at rest, if it was: words, or a member.
@@ -106,12 +113,12 @@ impl fmt::Display for Told<'_, Result<Effect, FaultKind>> {
     }
 }
 
-impl fmt::Display for Told<'_, ChangeLine<'_>> {
+impl fmt::Display for Told<'_, &ChangeLine<'_>> {
     ghost output = { λ t. Some (in_format t.0.format
-        (change_text t.0.directory.now t.1) (change_json t.0.directory.now t.1)) };
+        (change_text t.0.directory.now t.1.now) (change_json t.0.directory.now t.1.now)) };
 
     fn fmt<W: fmt::Write>(&self, f: &mut fmt::Formatter<W>) -> fmt::Result {
-        let (by, line) = (self.0, &self.1);
+        let Told(by, line) = *self;
         let (moment, came) = (line.moment, Told(by, line.came));
         let step = StepText(by.directory, line.links, line.step);
         write_either!(f, by;
@@ -120,13 +127,13 @@ impl fmt::Display for Told<'_, ChangeLine<'_>> {
     }
 }
 
-impl fmt::Display for Told<'_, &SpellLine> {
+impl fmt::Display for Told<'_, SpellLine> {
     ghost output = { λ t. Some (in_format t.0.format
-        (spell_text t.0.directory.now t.1.now) (spell_json t.0.directory.now t.1.now)) };
+        (spell_text t.0.directory.now t.1) (spell_json t.0.directory.now t.1)) };
 
     fn fmt<W: fmt::Write>(&self, f: &mut fmt::Formatter<W>) -> fmt::Result {
         let Told(by, line) = *self;
-        let (kind, prefix) = (line.kind, line.prefix);
+        let (kind, prefix) = (spell_words(line.outage), line.prefix);
         let name = by.directory.name(Some(line.router));
         let (from, to) = (line.from, line.to);
         write_either!(f, by;

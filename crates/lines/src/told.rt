@@ -44,27 +44,27 @@ impl fmt::Display for Told<'_, &Line<'_>> {
         let by = self.0;
         match *self.1 {
             Line::Asked(asked) => write!(f, "{}", Told(by, asked)),
-            Line::Traced(line) => write!(f, "{}", Told(by, line)),
+            Line::Traced(ref line) => write!(f, "{}", Told(by, line)),
             Line::Link(line) => write!(f, "{}", Told(by, line)),
             Line::Router(line) => write!(f, "{}", Told(by, line)),
             Line::Machine(line) => write!(f, "{}", Told(by, line)),
             Line::Unheard { router, prefix } => write!(f, "{}", Told(by, (router, prefix))),
-            Line::Awaits(line) => write!(f, "{}", Told(by, line)),
+            Line::Awaits(ref line) => write!(f, "{}", Told(by, line)),
             Line::Known(line) => write!(f, "{}", Told(by, line)),
             Line::Waiting(waiting) => write!(f, "{}", Told(by, waiting)),
             Line::Moved(waiting) => {
                 let moved = Told(by, waiting);
                 write_either!(f, by; "  {moved}", "{moved}")
             }
-            Line::Next(line) => write!(f, "{}", Told(by, line)),
+            Line::Next(ref line) => write!(f, "{}", Told(by, line)),
             Line::Tried(fault) => write!(f, "{}", Told(by, fault)),
             Line::Counted(counts) => {
                 let counts = Told(by, counts);
                 write_either!(f, by; "count: {counts}", "{{\"kind\":\"count\",{counts}}}")
             }
             Line::Ended(ended) => write!(f, "{}", Told(by, ended)),
-            Line::Changed(line) => write!(f, "{}", Told(by, line)),
-            Line::Spell(ref line) => write!(f, "{}", Told(by, line)),
+            Line::Changed(ref line) => write!(f, "{}", Told(by, line)),
+            Line::Spell(line) => write!(f, "{}", Told(by, line)),
         }
     }
 }

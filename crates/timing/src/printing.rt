@@ -39,8 +39,8 @@ pub fn print_changes<W: Write>(
         if let Some(report) = report
             && came.is_ok()
         {
-            print_spells(printer, "computation", span, report.computations(), out);
-            print_spells(printer, "outage", span, report.outages(), out);
+            print_spells(printer, false, span, report.computations(), out);
+            print_spells(printer, true, span, report.outages(), out);
         }
     }
 }
@@ -72,10 +72,10 @@ fn effect_of(before: Snapshot, after: Snapshot, span: Span, report: Option<&Repo
     }
 }
 
-// Tells the spells of one kind that began in this time.
+// Tells the spells of one kind that began in this time: outages, or else computations.
 fn print_spells<W: Write>(
     printer: &Printer<'_>,
-    kind: &'static str,
+    outage: bool,
     span: Span,
     spells: &[Spell],
     out: &mut W,
@@ -83,7 +83,7 @@ fn print_spells<W: Write>(
     for spell in spells {
         if began_in(span, spell) {
             let line = SpellLine {
-                kind,
+                outage,
                 router: spell.router,
                 prefix: spell.prefix,
                 from: spell.from,

@@ -1,10 +1,9 @@
 use Rattle.std.proofs.Common.{[], ◌∷◌, Some, codes}
 use Rattle.std.proofs.Output.{has_written_of_eq}
 use Rattle.ipv4_prefix.specs.Texts.{prefix_text}
-use Rattle.metric.specs.Distance.{distance_text}
 use Rattle.script.specs.Directories.{name_text}
-use Rattle.lines.specs.Texts.{entry_text, machine_text, origin_text}
-use Rattle.lines.specs.Objects.{distance_json, entry_json, machine_json, number_json}
+use Rattle.lines.specs.Texts.{entry_text, machine_text, state_text}
+use Rattle.lines.specs.Objects.{entry_json, machine_json, state_json}
 use Rattle.lines.proofs.Joined.{as_json, for_people, pieced}
 use Rattle.lines.proofs.states.ToldMachineLineDisplay.fmt.Goals as goal
 
@@ -14,7 +13,7 @@ returns-in-Text-clause-writes g c plain ok =
     let d = t.0.directory.now in
     let line = t.1 in
     has_written_of_eq _ _ _ _ _ (pieced (name_text d (Some line.router))
-    (codes " " ∷ prefix_text line.prefix ∷ codes " " ∷ origin_text (line.at).origin ∷ codes " RD " ∷ distance_text (line.at).rd ∷ codes " FD " ∷ distance_text (line.at).fd ∷ codes " " ∷ entry_text d line.router line.entry ∷ [])
+    (codes " " ∷ prefix_text line.prefix ∷ codes " " ∷ state_text line.at ∷ codes " " ∷ entry_text d line.router line.entry ∷ [])
     (for_people t.0.format (machine_text d line) (machine_json d line) c.in-Text.is)) (rw (c.name-name.ensures, c.in-Text.is) at c.write.ensures.writes plain ok)
 
 pub returns-in-Json-clause-writes : goal.returns-in-Json-clause-writes
@@ -23,5 +22,5 @@ returns-in-Json-clause-writes g c plain ok =
     let d = t.0.directory.now in
     let line = t.1 in
     has_written_of_eq _ _ _ _ _ (pieced (codes "{\"kind\":\"machine\",\"router\":\"")
-    (name_text d (Some line.router) ∷ codes "\",\"prefix\":\"" ∷ prefix_text line.prefix ∷ codes "\",\"active\":" ∷ number_json (line.at).origin ∷ codes ",\"rd\":" ∷ distance_json (line.at).rd ∷ codes ",\"fd\":" ∷ distance_json (line.at).fd ∷ codes "," ∷ entry_json d line.router line.entry ∷ codes "}" ∷ [])
+    (name_text d (Some line.router) ∷ codes "\",\"prefix\":\"" ∷ prefix_text line.prefix ∷ codes "\"," ∷ state_json line.at ∷ codes "," ∷ entry_json d line.router line.entry ∷ codes "}" ∷ [])
     (as_json t.0.format (machine_text d line) (machine_json d line) c.in-Json.is)) (rw (c.name-name.ensures, c.in-Json.is) at c.write-in-Json.ensures.writes plain ok)

@@ -13,10 +13,10 @@ returns-in-Json-clause-writes g c plain ok =
     (decimal c.in-Up.cost ∷ codes ",\"session\":" ∷ decimal c.in-Up.session ∷ [])
     (ap (item_json now) (sym c.in-Up.is) ∙ as_json t.0.format (item_text now t.1.1) (item_json now t.1.1) c.in-Json.is)) (c.write-in-Json.ensures.writes plain ok)
 
-pub returns-in-Json-by-2-clause-writes : goal.returns-in-Json-by-2-clause-writes
-returns-in-Json-by-2-clause-writes g c plain ok =
+pub returns-in-Json-format-2-clause-writes : goal.returns-in-Json-format-2-clause-writes
+returns-in-Json-format-2-clause-writes g c plain ok =
     let t = c.args.self.now in
     let now = t.1.0 in
     has_written_of_eq _ _ _ _ _ (pieced (codes "\"item\":\"cost\",\"cost\":")
     (decimal c.in-Cost.cost ∷ codes ",\"session\":" ∷ decimal c.in-Cost.session ∷ [])
-    (ap (item_json now) (sym c.in-Cost.is) ∙ as_json t.0.format (item_text now t.1.1) (item_json now t.1.1) c.in-Json-by-2.is)) (c.write-in-Json-by-2.ensures.writes plain ok)
+    (ap (item_json now) (sym c.in-Cost.is) ∙ as_json t.0.format (item_text now t.1.1) (item_json now t.1.1) c.in-Json-format-2.is)) (c.write-in-Json-format-2.ensures.writes plain ok)
