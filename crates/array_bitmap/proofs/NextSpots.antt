@@ -3,12 +3,10 @@ use Rattle.std.proofs.Common.{ℕ, zero, suc, ◌≡◌, inl, inr, ◌+◌, ◌-
 use Rattle.std.specs.Int.{bit_at}
 use Rattle.std.specs.Int.Count.{count_trailing_zeros, trailing_of_zero}
 use Rattle.std.proofs.lemmas.Bool.{cases_eq, cases_lt}
-use Rattle.std.proofs.lemmas.Nat.{pow_pos}
+use Rattle.std.proofs.lemmas.Nat.{pow_pos, pow-add, mod-pow-add}
 use Rattle.std.proofs.lemmas.Nat.Bits.{bit_at-zero, bit_at_cat_low, bit_at_cat_high, bit_at-trailing_zeros}
-use Rattle.std.proofs.Math.Nat.{div-mul-le_self, zero-mod}
+use Rattle.std.proofs.Math.Nat.{div-mul-le_self, zero-mod, mul-div_cancel, mul-mod_left, add-mul-mod_self_right, mul-lt-mul_of_pos_right}
 use Rattle.std.proofs.Math.Pow.{mod-mod-pow}
-use Rattle.std.proofs.lemmas.Nat.{pow-add, mod-pow-add}
-use Rattle.std.proofs.Math.Nat.{mul-div_cancel, mul-mod_left, add-mul-mod_self_right, mul-lt-mul_of_pos_right}
 use Rattle.array_bitmap.specs.Bits.{depth_of, path_start, row_bit, width}
 use Rattle.array_bitmap.specs.Cursor.{IsNextSpot, spot_number}
 use Rattle.array_bitmap.specs.declared.blocks.Head.{Head}

@@ -1,6 +1,6 @@
 //! Look-ups on their way down an image, side by side.
 
-ghost use Rattle.std.specs.Prelude.{◌≡◌, ℕ, ◌+◌, ◌-◌, ◌*◌, ◌^◌, ◌<◌, ◌≤◌, EachIndex, length, map, slice_index};
+ghost use Rattle.std.specs.Prelude.{◌≡◌, ℕ, ◌+◌, ◌-◌, ◌^◌, ◌<◌, ◌≤◌, EachIndex, length, map, slice_index};
 ghost use Rattle.array_bitmap.specs.Blocks.{IsHead};
 ghost use Rattle.array_bitmap.specs.Image.{cells_of, rows_in, IsSoundTree};
 ghost use Rattle.array_bitmap.specs.Tree.{block_at, words_at, words_in_block};

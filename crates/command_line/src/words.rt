@@ -1,7 +1,7 @@
 //! What the command line asks for.
 
-ghost use Rattle.std.specs.Prelude.{◌≡◌, ◌↔◌, Bool, IfOk, IfErr, IfSome, IfNone, IsTrue, MatchResult, List, ℕ, [], ⊤, codes};
-ghost use Rattle.clap.specs.Words.{HasKind, Text, fault_of, first_of, kind_of, rows_of, found_of, subcommand_of, subcommand_rows_of};
+ghost use Rattle.std.specs.Prelude.{◌≡◌, ◌↔◌, Bool, IfOk, IfErr, IfSome, IfNone, IsTrue, MatchResult, ℕ, [], ⊤, codes};
+ghost use Rattle.clap.specs.Words.{HasKind, Text, fault_of, kind_of, rows_of, found_of, subcommand_of, subcommand_rows_of};
 ghost use Rattle.command_line.specs.Commands.{program, kinds_of};
 ghost use Rattle.command_line.specs.Asked.{AsksAs, ChecksFile, GoTogether, HasFlag, HasFormat, HasNumber, IsAsked, IsFileLine, IsFlag, IsReplayLine, ReplaysFiles, RunsFile, word_texts};
 

@@ -1,7 +1,6 @@
 //! Threads that take turns.
 
 ghost use Rattle.std.specs.Prelude.{◌≡◌, ◌+◌, ◌<◌, ◌≤◌, true, nat_lt, if◌then◌else◌, Some, None, IfErr, OnOk, vec_len};
-ghost use Rattle.network_model.specs.Turns as turns;
 ghost use Rattle.network_model.specs.Network.{most_routers};
 ghost use Rattle.guarded.specs.Served.{IsTurnRefused};
 ghost use Rattle.guarded.specs.Shares.{AreUnrefused, HasServed, HaveServed, IsBack, IsHolder, OweAsBefore};

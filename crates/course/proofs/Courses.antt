@@ -1,5 +1,5 @@
 -- What a step leaves of what every course keeps.
-use Rattle.std.proofs.Common.{refl, sym, ap, ◌∙◌, arith, length-append, ◌≡◌, ℕ, ◌+◌, ◌^◌, ◌<◌, ◌≤◌, List, [], ◌∷◌, ◌++◌, length, true, false, if◌then◌else◌, Option, Some, None, Result, Err}
+use Rattle.std.proofs.Common.{refl, sym, ap, ◌∙◌, arith, length-append, ◌≡◌, ◌+◌, ◌^◌, ◌<◌, ◌≤◌, List, [], ◌∷◌, ◌++◌, length, if◌then◌else◌, Option, Some, None, Result, Err}
 use Rattle.std.proofs.lemmas.Bool.{lt-ltb, le-ltb}
 use Rattle.no_packet_loops.proofs.Common.{World, Network, opening, IsNetwork, Lawful, next, refusal, Refusal}
 use Rattle.metric.specs.declared.kind.Kind.{Kind}
@@ -10,7 +10,7 @@ use Rattle.world.specs.Steps.{CanBeRefused, HasRoomForSteps, IsDoneOr}
 use Rattle.world.proofs.Runs.{with_last_step, run-room, opening-room}
 use Rattle.course.specs.declared.sent.Sent.{Sent}
 use Rattle.course.specs.Counts.{leaving, none_sent, one_sent, sent_count, with_sent}
-use Rattle.course.specs.Course.{Course, course_after, course_after_all, course_of, course_refusal, opening_course, IsCourse}
+use Rattle.course.specs.Course.{Course, course_after, course_after_all, course_of, course_refusal, IsCourse}
 
 -- so few steps were done that no generation passes 64 bits with one more
 pub room_left : (c : Course) → IsCourse c → c.steps + 1 < 2 ^ 64 → HasRoomForSteps 1 c.world

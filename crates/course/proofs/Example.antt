@@ -1,5 +1,5 @@
 -- Worked examples: two routers and the link between them, of which the first is attached to all addresses.
-use Rattle.std.proofs.Common.{refl, ◌≡◌, List, [], ◌∷◌, Some, None}
+use Rattle.std.proofs.Common.{refl, ◌≡◌, List, [], ◌∷◌, Some}
 use Rattle.no_packet_loops.proofs.Example.{pair}
 use Rattle.network_model.specs.declared.step.Step.{Step}
 use Rattle.network_model.specs.declared.step.Step.TheVariants.{LinkUp, LinkDown, Deliver, Publish, Release}

@@ -1,6 +1,6 @@
 //! Steps in a row, and turns of routers, of whatever does them as a course does.
 
-ghost use Rattle.std.specs.Prelude.{ℕ, ◌≡◌, ◌≤◌, ◌⊎◌, None, Some, true, take, length, IfSome, MatchOption};
+ghost use Rattle.std.specs.Prelude.{◌≡◌, ◌≤◌, ◌⊎◌, None, Some, true, take, length, IfSome, MatchOption};
 ghost use Rattle.network_model.specs.Run.{Runs};
 ghost use Rattle.network_model.specs.Turns as turns;
 ghost use Rattle.world.specs.Steps.{StopsAt};

@@ -7,15 +7,15 @@ use Rattle.router_core.specs.Alone.{router_publishing_some}
 use Rattle.single_router.specs.declared.input.Input.{Input}
 use Rattle.single_router.specs.declared.input.Input.TheVariants as input
 use Rattle.single_router.specs.declared.opening.Attachment.{Attachment}
-use Rattle.single_router.specs.Inputs.{told_fault}
+use Rattle.single_router.specs.Inputs.{told_fault, kind_fault, message_fault}
 use Rattle.single_router.specs.Openings.{make_fault, made_router}
 use Rattle.daemon_laws.specs.Processes.{Carried, Processes}
-use Rattle.daemon_laws.specs.Happenings.{Happening, Tells, Takes, Loses, Publishes, PublishesSome, Forgets, Releases, BeginsAnew, IsLocalInput, CanHappen, with_process, is_same_end, with_coming, told_router, forgotten, having_released, after_happening, after_happenings, IsOpening, AllCanHappen}
-use Rattle.daemon_laws.specs.Facts.{fds_next}
+use Rattle.daemon_laws.specs.Happenings.{Happening, Tells, Takes, Loses, Publishes, PublishesSome, Forgets, Releases, BeginsAnew, IsLocalInput, CanHappen, with_process, is_same_end, with_coming, told_router, forgotten, having_released, after_happening, after_happenings, IsOpening, AllCanHappen, latest_coming, last_anew, heard_anew}
+use Rattle.daemon_laws.specs.Facts.{fds_next, fds_after}
 use Rattle.daemon_laws.proofs.Cases.{after_message, by_take, by_release}
 use Rattle.daemon_laws.proofs.Seen.{is_port_in}
 use Rattle.daemon_laws.proofs.Moving.{in_session}
-use Rattle.daemon_laws.proofs.Invariant.{router_at, session_of, Invariant}
+use Rattle.daemon_laws.proofs.Invariant.{router_at, session_of, Invariant, Placed}
 use Rattle.daemon_laws.proofs.Meeting.{GoesAt, may_before}
 use Rattle.daemon_laws.proofs.InForce.{Ends, AsChosen, AsBefore, PutsInForce}
 use Rattle.daemon_laws.proofs.Releasing.{as_carried, Sent, OnItsWay, Lost}
@@ -25,12 +25,8 @@ use Rattle.daemon_laws.proofs.Orderly.{CarriedPast, HeldPast, carried_later, car
 use Rattle.c_interface.specs.declared.fault.CallFault.{CallFault}
 use Rattle.c_interface.specs.Faults.{first_of}
 use Rattle.network_model.specs.declared.item.Message.{Message}
-use Rattle.single_router.specs.Inputs.{kind_fault, message_fault}
-use Rattle.daemon_laws.specs.Happenings.{latest_coming, last_anew, heard_anew}
-use Rattle.daemon_laws.specs.Facts.{fds_after}
 use Rattle.daemon_laws.proofs.Items.{session_is}
 use Rattle.daemon_laws.proofs.Telling.{passed, neither, message_passes}
-use Rattle.daemon_laws.proofs.Invariant.{Placed}
 use Rattle.daemon_laws.proofs.Anew.{carried_least, anew_less, anew_least, anew_far}
 use Rattle.daemon_laws.proofs.Placed.{placed_next}
 use Rattle.daemon_laws.proofs.Steps.{router_here, router_away, end_same, tells_at, taken_at, publishes_puts, publishes_some_puts, forgets_puts, sent_is, next_keeps}

@@ -1,6 +1,6 @@
 //! How a computation began and what has happened since, which decides what its end needs.
 
-ghost use Rattle.std.specs.Prelude.{◌≡◌, ℕ, Bool};
+ghost use Rattle.std.specs.Prelude.{◌≡◌};
 ghost use Rattle.diffusing_replies.specs.Origin as table;
 
 /// The origin state of a computation. It says whether a reply is owed to the successor, and whether

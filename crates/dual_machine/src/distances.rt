@@ -1,9 +1,8 @@
 //! Which way is nearest, and which may be the successor. The ways are the ports, and after them the
 //! attachment, where there is one.
 
-ghost use Rattle.std.specs.Prelude.{◌≡◌, ℕ, ◌<◌, ◌≤◌, ◌++◌, length, min, slice_get, count_by, IfSome};
+ghost use Rattle.std.specs.Prelude.{◌≡◌, ◌<◌, ◌≤◌, ◌++◌, length, min, slice_get, count_by, IfSome};
 ghost use Rattle.std.specs.List.{list_any, position_from};
-ghost use Rattle.metric.specs.Distance.{infinity};
 ghost use Rattle.network_model.specs.Machine as dual;
 ghost use Rattle.network_model.specs.Network.{most_ports};
 ghost use Rattle.dual_machine.specs.Event as events;

@@ -1,6 +1,6 @@
 //! The machine itself.
 
-ghost use Rattle.std.specs.Prelude.{◌≡◌, ℕ, ◌+◌, ◌<◌, ◌≤◌, ◌++◌, ◌↔◌, IsTrue, true, false, length, None, IsOk, OnOk, OnErr, IfOk, All, IfSome, is_none, slice_get};
+ghost use Rattle.std.specs.Prelude.{◌≡◌, ◌+◌, ◌<◌, ◌≤◌, ◌++◌, ◌↔◌, IsTrue, true, false, length, None, IsOk, OnOk, OnErr, IfOk, All, IfSome, is_none, slice_get};
 ghost use Rattle.metric.specs.Distance.{IsCost, infinity};
 ghost use Rattle.diffusing_replies.specs.Origin as table;
 ghost use Rattle.network_model.specs.Machine as dual;

@@ -1,6 +1,6 @@
 //! The messages that machines send.
 
-ghost use Rattle.std.specs.Prelude.{◌≡◌, ℕ, ◌+◌, ◌<◌, ◌≤◌, [], ◌∷◌, ◌++◌, length, IsOk, OnOk, OnErr};
+ghost use Rattle.std.specs.Prelude.{◌≡◌, ◌+◌, ◌<◌, ◌≤◌, [], ◌++◌, length, IsOk, OnOk, OnErr};
 ghost use Rattle.network_model.specs.Machine as dual;
 ghost use Rattle.network_model.specs.Network.{most_ports};
 ghost use Rattle.dual_machine.specs.Outbox.{HasRoom};

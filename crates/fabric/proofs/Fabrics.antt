@@ -7,8 +7,7 @@ use Rattle.network_model.specs.Journal.{Fits, most_steps, step_number, journal_s
 use Rattle.world.specs.Steps.{HasRoomForSteps}
 use Rattle.world.proofs.Runs.{with_last_step, run-room, opening-room}
 use Rattle.course.specs.Images.{image_in_force, images_in_force, chosen_image, due_at}
-use Rattle.course.proofs.Images.{chosen_published}
-use Rattle.course.proofs.Images.{images_due as images_put, images_stay as images_left}
+use Rattle.course.proofs.Images.{chosen_published, images_due as images_put, images_stay as images_left}
 use Rattle.fabric.specs.Fabric.{Fabric, fabric_of, after_step, count_lent, with_lent, ForwardsAsPublished, IsFabric, IsSumOf}
 
 -- the journal is too short for a generation to pass 64 bits

@@ -1,13 +1,12 @@
 //! The fabric: a world, the images in force, and the journal.
 
-ghost use Rattle.std.specs.Prelude.{ℕ, None, Some, Err, IsTrue, ◌≡◌, ◌≢◌, ◌⊎◌, ◌≤◌, ◌++◌, ◌+◌, ◌<◌, ◌↔◌, [], ◌∷◌, take, length, slice_get, vec_capacity, vec_len, All, IfOk, IfErr, IfSome, IsSome, IsOk, OnOk, OnErr, MatchBool, MatchOption, false};
+ghost use Rattle.std.specs.Prelude.{ℕ, None, Some, Err, IsTrue, ◌≡◌, ◌≢◌, ◌⊎◌, ◌≤◌, ◌++◌, ◌+◌, ◌<◌, ◌↔◌, [], take, length, slice_get, vec_capacity, vec_len, All, IfOk, IfErr, IfSome, IsSome, IsOk, OnOk, OnErr, MatchBool, MatchOption, false};
 ghost use Rattle.network_model.specs.World as model;
 ghost use Rattle.network_model.specs.Step as steps;
 ghost use Rattle.network_model.specs.Run.{Runs};
 ghost use Rattle.network_model.specs.Journal.{journal_sum, most_steps, steps_in_sum};
 ghost use Rattle.world.specs.Steps.{DeliversWithRoom, DiscardsStale, IsDoneOr, StopsAt};
 ghost use Rattle.publication.specs.Lists.{image_of};
-ghost use Rattle.publication.specs.Outings.{new_outing};
 ghost use Rattle.fabric.specs.Desks.{all_lent, writings};
 ghost use Rattle.fabric.specs.Fabric.{opening_fabric, after_step, awaits_writer, count_lent, fabric_refusal, lent_at, next_fabric_step, with_lent, ForwardsAsPublished};
 ghost use Rattle.image_patch.specs.Patches.{patched};

@@ -1,6 +1,6 @@
 //! The images by which routers forward.
 
-ghost use Rattle.std.specs.Prelude.{◌≡◌, ◌+◌, ◌^◌, ◌<◌, ◌||◌, not, map, All, IfOk, IfErr, IsSome};
+ghost use Rattle.std.specs.Prelude.{◌≡◌, ◌+◌, ◌^◌, ◌<◌, ◌||◌, not, map, IfOk, IfErr, IsSome};
 ghost use Rattle.std.specs.List.{list_any};
 ghost use Rattle.ipv4_prefix.specs.Prefix.{prefix_eq};
 ghost use Rattle.network_model.specs.Step.{has_row, router_publishing};

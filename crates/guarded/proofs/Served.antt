@@ -6,7 +6,7 @@ use Rattle.network_model.specs.declared.step.Refusal.{Refusal}
 use Rattle.world.specs.Steps.{CanBeRefused, IsDoneOr}
 use Rattle.publication.specs.Outings.{Outing}
 use Rattle.network_model.specs.declared.step.Refusal.TheVariants.{UnknownRouter, NothingDue, NothingRipe}
-use Rattle.fabric.specs.Fabric.{next_fabric_step as next_turn}
+use Rattle.fabric.specs.Fabric.{next_fabric_step as next_turn, Fabric, after_step, awaits_writer, count_lent, fabric_refusal, is_lent, lent_at, with_lent}
 use Rattle.fabric.proofs.Fabrics.{fit-append}
 use Rattle.fabric.proofs.WritersOut.{Spares, lent_none, lent_set, spared}
 use Rattle.network_model.specs.declared.step.Step.{Step}
@@ -14,7 +14,6 @@ use Rattle.network_model.specs.Journal.{Fits}
 use Rattle.convergence.proofs.Turns.{next_chosen}
 use Rattle.course.proofs.Idle.{busy-unsettled}
 use Rattle.world.proofs.Runs.{with_last_step}
-use Rattle.fabric.specs.Fabric.{Fabric, after_step, awaits_writer, count_lent, fabric_refusal, is_lent, lent_at, with_lent}
 use Rattle.course.specs.Images.{images_in_force}
 use Rattle.guarded.specs.Served.{AreTurns, IsServed, IsFabricStopped, IsTurnAt, PublishesNext, images_after}
 use Rattle.guarded.proofs.WritersOut.{lent_kept}

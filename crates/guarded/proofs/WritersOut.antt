@@ -5,8 +5,7 @@ use Rattle.network_model.specs.declared.step.Step.{Step}
 use Rattle.network_model.specs.declared.step.Step.TheVariants.{Publish}
 use Rattle.network_model.specs.declared.step.Refusal.{Refusal}
 use Rattle.world.specs.Steps.{CanBeRefused}
-use Rattle.fabric.specs.Fabric.{Fabric, count_lent, fabric_refusal, is_lent, lent_at}
-use Rattle.fabric.specs.Fabric.{next_fabric_step as next_turn}
+use Rattle.fabric.specs.Fabric.{Fabric, count_lent, fabric_refusal, is_lent, lent_at, next_fabric_step as next_turn}
 use Rattle.guarded.specs.Served.{AreBack, CanFailOutside, HasSameOut, IsServed}
 
 -- one that goes out is one more at most

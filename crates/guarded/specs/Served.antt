@@ -12,8 +12,7 @@ use Rattle.network_model.specs.Turns.{is_lawful, is_settled, next_step}
 use Rattle.network_model.specs.Journal.{Fits, journal_sum, most_steps, step_number}
 use Rattle.network_model.specs.Publication.{Image}
 use Rattle.world.specs.Steps.{CanBeRefused}
-use Rattle.fabric.specs.Fabric.{Fabric, count_lent, fabric_refusal, is_lent, ForwardsAsPublished}
-use Rattle.fabric.specs.Fabric.{next_fabric_step as next_turn}
+use Rattle.fabric.specs.Fabric.{Fabric, count_lent, fabric_refusal, is_lent, ForwardsAsPublished, next_fabric_step as next_turn}
 use Rattle.fabric.specs.Headline.{NeverMeetsTwice, LeadsAtLeastCost, ConvergesLeftAlone}
 use Rattle.course.specs.Images.{images_in_force}
 

@@ -8,8 +8,7 @@ use Rattle.network_model.specs.World.{Router, World}
 use Rattle.network_model.proofs.ListLaws.{None_not_Some, Some_injective, element_there}
 use Rattle.course.specs.Images.{image_in_force}
 use Rattle.fabric.specs.Images.{answer_at}
-use Rattle.simulation.specs.Simulation.{Simulation, ForwardsAsPublished}
-use Rattle.simulation.specs.Simulation.{answer_at as answer_there}
+use Rattle.simulation.specs.Simulation.{Simulation, ForwardsAsPublished, answer_at as answer_there}
 use Rattle.lines.specs.Report.{unknown_router}
 use Rattle.interpreter.specs.Nets.{IsAnswer}
 

@@ -6,8 +6,7 @@ use Rattle.std.proofs.Common.{◌≡◌, ◌⊎◌, inr, true, Option, Some, Non
 use Rattle.network_model.specs.declared.step.Refusal.{Refusal}
 use Rattle.network_model.specs.declared.step.Refusal.TheVariants.{JournalFull, NoMemory}
 use Rattle.fabric.specs.Fabric.{Fabric}
-use Rattle.guarded.specs.Served.{IsServed, IsTurnRefused, none_asked}
-use Rattle.guarded.specs.Served.{IsFabricStopped}
+use Rattle.guarded.specs.Served.{IsServed, IsTurnRefused, none_asked, IsFabricStopped}
 use Rattle.network_model.specs.declared.step.Step.{Step}
 use Rattle.network_model.specs.Turns.{is_settled}
 use Rattle.simulation.specs.Simulation.{Simulation, after_step, after_steps}

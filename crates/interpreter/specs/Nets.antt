@@ -12,8 +12,7 @@ use Rattle.network_model.specs.Step.{Lawful, next}
 use Rattle.world.specs.Steps.{CanBeRefused}
 use Rattle.fabric.specs.Fabric.{Fabric, after_step, fabric_refusal}
 use Rattle.fabric.specs.Images.{answer_at}
-use Rattle.simulation.specs.Simulation.{Simulation, opening_simulation, simulation_refusal}
-use Rattle.simulation.specs.Simulation.{after_step as after_step_there}
+use Rattle.simulation.specs.Simulation.{Simulation, opening_simulation, simulation_refusal, after_step as after_step_there}
 use Rattle.plans.specs.Faults.{OfRefusal}
 use Rattle.lines.specs.Report.{unknown_router}
 use Rattle.interpreter.specs.Dispatching.{CannotInject, IsUnanswered}

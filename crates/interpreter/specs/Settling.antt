@@ -6,8 +6,7 @@ use Rattle.network_model.specs.Forwarding.{is_quiet}
 use Rattle.network_model.specs.Turns.{is_settled}
 use Rattle.fabric.specs.Fabric.{Fabric}
 use Rattle.fabric.specs.Headline.{HasBestRows}
-use Rattle.guarded.specs.Served.{IsServed, IsTurnRefused, none_asked}
-use Rattle.guarded.specs.Served.{IsFabricStopped}
+use Rattle.guarded.specs.Served.{IsServed, IsTurnRefused, none_asked, IsFabricStopped}
 use Rattle.simulation.specs.Simulation.{Simulation}
 use Rattle.simulation.specs.Headline.{HasBestRows as HasBestRowsThere}
 use Rattle.simulation.specs.Settling.{HasTurned, IsStopped}

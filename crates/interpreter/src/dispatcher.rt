@@ -5,7 +5,6 @@ ghost use Rattle.std.specs.List.{list_any};
 ghost use Rattle.std.specs.List.Sorted.{IsStrictlyIncreasing};
 ghost use Rattle.std.specs.Io.KnownBytes.{Appends};
 ghost use Rattle.network_model.specs.Network.{most_workers};
-ghost use Rattle.publication.specs.Lists.{image_of};
 ghost use Rattle.fabric.specs.Writers.{IsReaderPort};
 ghost use Rattle.forwarder.specs.Gathering.{is_reply_to, job_number};
 ghost use Rattle.worker_pool.specs.Faults.{IsDrainFault};

@@ -1,5 +1,5 @@
 -- The steps of a journal as lines.
-use Rattle.std.specs.Prelude.{ℕ, List, [], ◌∷◌, ◌++◌, Option, Some, option_map, slice_get, codes, decimal}
+use Rattle.std.specs.Prelude.{ℕ, List, ◌++◌, Option, Some, option_map, slice_get, codes, decimal}
 use Rattle.ipv4_prefix.specs.Prefix.{Prefix}
 use Rattle.ipv4_prefix.specs.Texts.{prefix_text}
 use Rattle.network_model.specs.declared.network.LinkSpec.{LinkSpec}

@@ -1,6 +1,6 @@
 //! Writes the text of a journal.
 
-ghost use Rattle.std.specs.Prelude.{◌≡◌, OnOk};
+ghost use Rattle.std.specs.Prelude.{OnOk};
 ghost use Rattle.std.specs.Io.KnownBytes.{Appends};
 ghost use Rattle.journal.specs.Steps.{steps_text};
 ghost use Rattle.journal.specs.Journal.{journal_text};

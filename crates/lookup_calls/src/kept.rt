@@ -3,7 +3,7 @@
 //! Most tables have no words. So an image begins without any, as one of `array_bitmap`, and takes no memory for
 //! them. When a call first gives it rows with words, it is made anew as one of `row_words`, from all its rows.
 
-ghost use Rattle.std.specs.Prelude.{◌≡◌, ◌≤◌, ◌∷◌, [], IfOk, IfSome, OnErr, OnOk, length, map, true};
+ghost use Rattle.std.specs.Prelude.{◌≡◌, ◌≤◌, ◌∷◌, [], IfOk, IfSome, OnErr, OnOk, length, true};
 ghost use Rattle.std.specs.FinMap.{is_sorted};
 ghost use Rattle.std.specs.Option.{option_map};
 ghost use Rattle.array_bitmap.specs.Cursor.{first_row_from, IsHeadFrom};

@@ -1,7 +1,6 @@
 //! Prefixes as C writes them: to take rows out of an image, and as a cursor through its rows.
 
-ghost use Rattle.std.specs.Prelude.{◌≡◌, ◌≤◌, None, Some, IfOk, IfErr, IsOkUnless, OnOk, length};
-ghost use Rattle.array_bitmap.specs.Cursor.{rows_onward};
+ghost use Rattle.std.specs.Prelude.{◌≡◌, None, Some, IfOk, IfErr, IsOkUnless, OnOk, length};
 ghost use Rattle.c_interface.specs.Faults.{first_of};
 ghost use Rattle.lookup_calls.specs.Prefixes.{block_of, block_fault, first_block_fault, cursor_fault, cursor_prefix, listed_row, listed_word, without_blocks, IsFilledIn};
 ghost use Rattle.lookup_calls.specs.Rows.{count_fault};

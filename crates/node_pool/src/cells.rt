@@ -1,6 +1,6 @@
 //! Plain work on slices of cells.
 
-ghost use Rattle.std.specs.Prelude.{◌≡◌, ◌+◌, ◌<◌, ◌≤◌, ◌⊎◌, length, is_some, false};
+ghost use Rattle.std.specs.Prelude.{◌≡◌, ◌+◌, ◌≤◌, ◌⊎◌, length, is_some, false};
 ghost use Rattle.node_pool.specs.Cell.{value_of, next_free, cell_at, IsFilled, IsShifted};
 
 /// A cell in use, or a free one. The first cell of a free block names the next block of its list.

@@ -1,6 +1,6 @@
 //! A reader.
 
-ghost use Rattle.std.specs.Prelude.{◌≡◌, ◌⊎◌, ◌↔◌, false, None, IfOk, IsTrue, OnErr};
+ghost use Rattle.std.specs.Prelude.{◌≡◌, ◌⊎◌, ◌↔◌, false, IfOk, IsTrue, OnErr};
 ghost use Rattle.left_right.specs.Sides.{view};
 ghost use Rattle.network_model.specs.Publication.{answer_of};
 ghost use Rattle.publication.specs.Lists.{Begins, image_of};

@@ -1,6 +1,6 @@
 //! The router.
 
-ghost use Rattle.std.specs.Prelude.{◌≡◌, ◌+◌, ◌^◌, ◌<◌, ◌≤◌, ◌↔◌, map, length, true, Some, None, IsTrue, IfOk, IfSome, OnOk, OnErr, OnSome, IfNone, slice_get, slice_set, is_none, option_map};
+ghost use Rattle.std.specs.Prelude.{◌≡◌, ◌+◌, ◌^◌, ◌<◌, ◌≤◌, ◌↔◌, map, length, true, Some, None, IsTrue, IfOk, OnOk, OnErr, OnSome, IfNone, slice_get, slice_set, is_none, option_map};
 ghost use Rattle.std.specs.List.{list_all};
 ghost use Rattle.std.specs.FinMap.{find as row_of, put, is_sorted};
 ghost use Rattle.std.specs.Option.{option_copied};

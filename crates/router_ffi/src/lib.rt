@@ -31,7 +31,7 @@
 //! is told, and no two arguments overlap.
 #![tactic(auto)]
 
-ghost use Rattle.std.specs.Prelude.{◌≡◌, ◌≢◌, None, Some, OnOk, OnErr, IfErr, IfOk, IfSome, IfNone, length, option_map};
+ghost use Rattle.std.specs.Prelude.{◌≡◌, ◌≢◌, None, Some, OnOk, OnErr, IfErr, IfOk, IfSome, length, option_map};
 ghost use Rattle.network_model.specs.Step as step;
 ghost use Rattle.c_interface.specs.Faults.{fault_number, status_by, IsStatusBy};
 ghost use Rattle.c_interface.specs.Rows.{as_prefix};

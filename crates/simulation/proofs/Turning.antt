@@ -1,5 +1,5 @@
 -- Steps that routers do in turn.
-use Rattle.std.proofs.Common.{◌≡◌, ℕ}
+use Rattle.std.proofs.Common.{ℕ}
 use Rattle.course.specs.Turns.{HasTakenTurns}
 use Rattle.simulation.specs.Simulation.{Simulation, course_part, IsSimulation}
 use Rattle.simulation.specs.Settling.{HasTurned}

@@ -1,6 +1,6 @@
 //! The router.
 
-ghost use Rattle.std.specs.Prelude.{◌≡◌, ◌⊎◌, ◌≤◌, None, Some, IfOk, IfErr, OnOk, OnErr, length, option_map, slice_get, take, is_some, true, IsTrue};
+ghost use Rattle.std.specs.Prelude.{◌≡◌, ◌≤◌, None, Some, IfOk, IfErr, OnOk, OnErr, length, option_map, slice_get, take, is_some, true, IsTrue};
 ghost use Rattle.network_model.specs.Step as step;
 ghost use Rattle.single_router.specs.Frames.{frame_of};
 ghost use Rattle.dual_machine.specs.State.{awaits_at};

@@ -1,9 +1,8 @@
 //! What a program is shown of its router.
 
-ghost use Rattle.std.specs.Prelude.{◌≡◌, ◌≤◌, length, map, option_and_then, option_map, unwrap_or};
-ghost use Rattle.std.specs.List.{range_with_len};
+ghost use Rattle.std.specs.Prelude.{◌≡◌, option_and_then, option_map, unwrap_or};
 ghost use Rattle.c_interface.specs.Rows.{answer_row};
-ghost use Rattle.single_router.specs.States.{awaited_flag, awaited_flags, owed_port, state_of};
+ghost use Rattle.single_router.specs.States.{awaited_flags, owed_port, state_of};
 
 use c_interface::Row;
 use dual_machine::{Machine, Mode};

@@ -1,6 +1,5 @@
 -- What a document's table says of times.
-use Rattle.std.proofs.Common.{◌≡◌, ◌<◌, ℕ, ℤ, List, [], Option, Some, None, option_and_then, refl, ap, codes, ne_eqb, eq-eqb, arith}
-use Rattle.std.proofs.Common.{Result, Ok, Err}
+use Rattle.std.proofs.Common.{◌≡◌, ◌<◌, ℕ, ℤ, List, [], Option, Some, None, option_and_then, refl, ap, codes, ne_eqb, eq-eqb, arith, Result, Ok, Err}
 use Rattle.std.specs.Int.{w64, FitsUnsignedBits}
 use Rattle.std.specs.Option.{option_map_or}
 use Rattle.std.specs.Result.{OkIff, result_ok}

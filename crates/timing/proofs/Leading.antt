@@ -1,6 +1,5 @@
 -- Runs in which changes are done, one after another.
-use Rattle.std.proofs.Common.{◌≡◌, ◌≢◌, ℕ, ◌+◌, ◌<◌, ◌≤◌, ◌⊎◌, inl, inr, zero, suc, List, [], ◌∷◌, ◌++◌, drop, get_or, length, Some, unwrap_or, refl, sym, ap, subst, ◌∙◌, arith}
-use Rattle.std.proofs.Common.{Result, Ok, Err, false, OnOk, true≢false}
+use Rattle.std.proofs.Common.{◌≡◌, ◌≢◌, ℕ, ◌+◌, ◌<◌, ◌≤◌, ◌⊎◌, inl, inr, zero, suc, List, [], ◌∷◌, ◌++◌, drop, get_or, length, Some, unwrap_or, refl, sym, ap, subst, ◌∙◌, arith, Result, Ok, Err, false, OnOk, true≢false}
 use Rattle.std.specs.Bool.{⊤}
 use Rattle.std.specs.Result.{is_err}
 use Rattle.network_model.specs.declared.step.Refusal.{Refusal}

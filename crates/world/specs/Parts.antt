@@ -1,9 +1,8 @@
 -- The parts of a network, as they are given.
-use Rattle.std.specs.Prelude.{ℕ, ◌≤◌, List, length}
+use Rattle.std.specs.Prelude.{ℕ, ◌≤◌, List, length, map}
 use Rattle.ipv4_prefix.specs.Prefix.{Prefix}
 use Rattle.network_model.specs.declared.network.Limits.{Limits}
 use Rattle.network_model.specs.declared.network.LinkSpec.{LinkSpec}
-use Rattle.std.specs.Prelude.{map}
 use Rattle.std.specs.declared.vec.Vec.{Vec}
 use Rattle.network_model.specs.declared.network.Place.{Place}
 use Rattle.network_model.specs.declared.item.Notice.{Notice}

@@ -1,11 +1,10 @@
 //! The world: routers and links, and the steps that change them.
 
-ghost use Rattle.std.specs.Prelude.{ℕ, ◌≡◌, ◌+◌, ◌^◌, ◌<◌, ◌≤◌, ◌↔◌, true, false, length, map, take, slice_get, is_none, None, Some, Err, IfOk, IfErr, IfSome, IsOk, OnOk, OnErr, MatchOption, IsOkUnless, IsTrue, All, option_map, option_and_then, if◌then◌else◌};
+ghost use Rattle.std.specs.Prelude.{ℕ, ◌≡◌, ◌<◌, ◌≤◌, ◌↔◌, true, false, length, take, slice_get, is_none, None, Some, Err, IfOk, IfErr, IfSome, IsOk, OnOk, OnErr, MatchOption, IsTrue, option_map, option_and_then, if◌then◌else◌};
 ghost use Rattle.std.specs.List.{position_from};
-ghost use Rattle.std.specs.Option.{option_copied};
 ghost use Rattle.network_model.specs.World as model;
 ghost use Rattle.network_model.specs.Step as steps;
-ghost use Rattle.network_model.specs.Step.{is_up_in, refusal};
+ghost use Rattle.network_model.specs.Step.{refusal};
 ghost use Rattle.network_model.specs.Run.{Runs};
 ghost use Rattle.network_model.specs.Turns as turns;
 ghost use Rattle.network_model.specs.declared.item.Held.{Held};

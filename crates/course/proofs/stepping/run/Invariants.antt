@@ -1,6 +1,6 @@
 use Rattle.std.proofs.Common.{◌≡◌, take}
 use Rattle.network_model.specs.Run.{Runs}
-use Rattle.course.specs.Course.{Course, course_after_all}
+use Rattle.course.specs.Course.{course_after_all}
 use Rattle.course.proofs.stepping.run.Given as goal
 
 abbrev pub invariant-loop-done : goal.invariant-loop-done

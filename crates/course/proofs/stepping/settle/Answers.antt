@@ -1,4 +1,4 @@
-use Rattle.std.proofs.Common.{◌≡◌, ◌∙◌, sym, ap, subst}
+use Rattle.std.proofs.Common.{◌∙◌, sym, ap, subst}
 use Rattle.no_packet_loops.proofs.Common.{Lawful}
 use Rattle.world.specs.Steps.{CanBeRefused}
 use Rattle.course.specs.Course.{Course, course_after, course_refusal}

@@ -1,4 +1,4 @@
-use Rattle.std.proofs.Common.{arith, rules}
+use Rattle.std.proofs.Common.{arith}
 use Rattle.route_table.proofs.Publication.{room_for_next}
 use Rattle.route_table.proofs.table.put_in_force.Goals as goal
 

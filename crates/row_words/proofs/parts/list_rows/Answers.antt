@@ -1,4 +1,4 @@
-use Rattle.std.proofs.Common.{◌≡◌, ◌∷◌, ◌++◌, ◌∙◌, length, arith, ap, sym}
+use Rattle.std.proofs.Common.{◌≡◌, ◌∷◌, ◌++◌, ◌∙◌, length, arith, ap}
 use Rattle.array_bitmap.specs.Cursor.{rows_from, rows_onward}
 use Rattle.row_words.specs.Rows.{marked}
 use Rattle.row_words.proofs.Marks.{from_first, none_of_first, listed_all, listed_more}

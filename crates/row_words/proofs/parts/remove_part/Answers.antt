@@ -1,4 +1,4 @@
-use Rattle.std.proofs.Common.{◌≡◌, ◌∙◌, ap, sym, subst}
+use Rattle.std.proofs.Common.{◌∙◌, ap, sym, subst}
 use Rattle.network_model.specs.Publication.{Image}
 use Rattle.row_words.specs.Rows.{marked, AreKept}
 use Rattle.row_words.proofs.Marks.{kept_without, marked_without}

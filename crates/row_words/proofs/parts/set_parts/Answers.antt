@@ -1,9 +1,6 @@
-use Rattle.std.proofs.Common.{◌≡◌, ◌+◌, ◌<◌, ◌^◌, ◌++◌, ◌∙◌, List, length, map, arith, ap, sym, subst, rules}
-use Rattle.ipv4_prefix.specs.Prefix.{Prefix}
+use Rattle.std.proofs.Common.{◌≡◌, ◌+◌, ◌<◌, ◌^◌, ◌++◌, ◌∙◌, length, map, arith, ap, sym, subst, rules}
 use Rattle.network_model.specs.Publication.{Image, with_rows}
-use Rattle.network_model.specs.declared.route.Entry.{Entry}
 use Rattle.row_words.specs.Rows.{marked, with_slots, AreKept}
-use Rattle.row_words.specs.declared.cells.Marked.{Marked}
 use Rattle.row_words.proofs.Marks.{kept_set, marked_set}
 use Rattle.row_words.proofs.parts.set_parts.Goals as goal
 

@@ -1,4 +1,4 @@
-use Rattle.std.proofs.Common.{rules, ◌≡◌, ◌∙◌, ◌<◌, None, Some, Err, IsOk, IsSome, MatchOption, length, vec_len, slice_get, refl, sym, ap, subst, arith}
+use Rattle.std.proofs.Common.{rules, ◌≡◌, ◌∙◌, ◌<◌, Some, Err, IsOk, IsSome, MatchOption, length, vec_len, slice_get, refl, sym, ap, subst, arith}
 use Rattle.no_packet_loops.proofs.Common.{Lawful, Lawful_to_refusal, World, Refusal}
 use Rattle.network_model.specs.declared.step.Step.TheVariants.{Publish}
 use Rattle.world.specs.Steps.{IsDoneOr}

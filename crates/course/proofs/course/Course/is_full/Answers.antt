@@ -1,4 +1,4 @@
-use Rattle.std.proofs.Common.{◌≡◌, ◌+◌, ◌<◌, ◌^◌, subst, arith}
+use Rattle.std.proofs.Common.{subst, arith}
 use Rattle.std.proofs.lemmas.Bool.{eqb-false}
 use Rattle.world.specs.Steps.{HasRoomForSteps}
 use Rattle.course.specs.Course.{Course, course_of}

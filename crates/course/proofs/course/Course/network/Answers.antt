@@ -1,4 +1,4 @@
-use Rattle.std.proofs.Common.{ap, ◌∙◌, subst, ◌≡◌, length}
+use Rattle.std.proofs.Common.{subst, ◌≡◌, length}
 use Rattle.course.specs.Course.{Course}
 use Rattle.course.proofs.Idle.{router_count}
 use Rattle.course.proofs.course.Course.network.Goals as goal

@@ -1,7 +1,5 @@
-use Rattle.std.proofs.Common.{◌≡◌, ◌∙◌, IsOk, Err, MatchOption, sym, subst}
-use Rattle.no_packet_loops.proofs.Common.{refusal}
+use Rattle.std.proofs.Common.{◌≡◌, IsOk, Err, MatchOption, subst}
 use Rattle.world.specs.Steps.{IsDoneOr}
-use Rattle.course.specs.Course.{course_refusal}
 use Rattle.course.proofs.Courses.{counted}
 use Rattle.course.proofs.course.Course.step_on.Goals as goal
 

@@ -13,9 +13,8 @@ use Rattle.fabric.specs.Fabric.{Fabric, awaits_writer, count_lent, fabric_of, af
 use Rattle.fabric.specs.Patches.{IsPatchDue}
 use Rattle.course.specs.Images.{due_at, image_in_force, images_in_force}
 use Rattle.fabric.specs.Writers.{FitTogether, ArePending, AreReaders, AreWriters, shown_images, waiting_at, fabric_seen}
-use Rattle.course.proofs.Images.{due_lawful}
+use Rattle.course.proofs.Images.{due_lawful, due_of}
 use Rattle.fabric.proofs.Causes.{admitted, due_seen, passed_on}
-use Rattle.course.proofs.Images.{due_of}
 use Rattle.fabric.proofs.Fabrics.{room_left, images_stay, images_due, kept_as, summed_more}
 use Rattle.fabric.proofs.WritersOut.{all_pending_next}
 use Rattle.fabric.proofs.Seats.{desk_within, due_desk, is_in, lent_same, none_kept, pending_same, seat, writings_set}

@@ -5,11 +5,10 @@ use Rattle.network_model.specs.Journal.{Fits, most_steps, step_number}
 use Rattle.router_core.proofs.Refused.{gave_up}
 use Rattle.publication.specs.Lists.{Writing}
 use Rattle.publication.proofs.Places.{each_there}
-use Rattle.course.specs.Course.{Course}
 use Rattle.fabric.specs.Desks.{all_lent, desk_in, writings}
 use Rattle.fabric.specs.Fabric.{Fabric, after_step, count_lent, fabric_of, lent_at, with_lent, IsFabric}
 use Rattle.fabric.specs.Writers.{ArePending, AreReaders, AreWriters, shown_images, fabric_seen}
-use Rattle.fabric.proofs.Fabrics.{kept_as, room_left, summed_more}
+use Rattle.fabric.proofs.Fabrics.{kept_as, summed_more}
 use Rattle.fabric.proofs.WritersOut.{lent_there}
 use Rattle.fabric.proofs.Publications.{readers_next, writers_next}
 use Rattle.fabric.proofs.Seats.{count_back, set_again, images_back, kept_back, lawful_back, lent_was, none_lent_at, pending_back, pending_on, published_is, seat, short_back, shown_back, unpublished_is, writers_back, writing_there}
