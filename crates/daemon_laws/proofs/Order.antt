@@ -485,11 +485,6 @@ module _ (t : Topology) (p : Prefix) (pfd : ℕ → ℕ) (w : Processes) (I : In
   next_orderly (Releases i) can = releases_orderly i
   next_orderly (BeginsAnew i costs attachments) can = anew_orderly i costs attachments can
 
--- all that happens keeps it, and the invariant
-pub after_orderly : (t : Topology) (p : Prefix) (pfd : ℕ → ℕ) (w : Processes) (hs : List Happening) → Invariant t p pfd w → Orderly t p w → Placed t w → AllCanHappen t w hs → Orderly t p (after_happenings t w hs)
-after_orderly t p pfd w [] I O P can = O
-after_orderly t p pfd w (h ∷ hs) I O P can = after_orderly t p (fds_next p w h pfd) (after_happening t w h) hs (next_keeps t p pfd w I O P h can.0) (next_orderly t p pfd w I O h can.0) (placed_next t w P h) can.1
-
 pub after_keeps : (t : Topology) (p : Prefix) (pfd : ℕ → ℕ) (w : Processes) (hs : List Happening) → Invariant t p pfd w → Orderly t p w → Placed t w → AllCanHappen t w hs → Invariant t p (fds_after t p w hs pfd) (after_happenings t w hs)
 after_keeps t p pfd w [] I O P can = I
 after_keeps t p pfd w (h ∷ hs) I O P can = after_keeps t p (fds_next p w h pfd) (after_happening t w h) hs (next_keeps t p pfd w I O P h can.0) (next_orderly t p pfd w I O h can.0) (placed_next t w P h) can.1

@@ -41,10 +41,6 @@ rest_lawful k x xs h = h.2
 abbrev pub as_carried : Held → Carried
 as_carried h = record { session = h.session; message = h.message }
 
--- of one message on its way the prefix sees it, if it is of the prefix
-one_carried : (p : Prefix) (h : Held) → carried p (as_carried h ∷ []) ≡ (if prefix_eq p (h.message).prefix then held_as h ∷ [] else [])
-one_carried p h = refl
-
 -- router i releases message h, which is on its way then, or is lost, since its port is not in the message's session
 pub data Sent (t : Topology) (p : Prefix) (i : ℕ) (h : Held) (w w' : Processes) : Type 0 where
   OnItsWay : t.valid (at_port i h.port) ≡ true → w'.coming (t.far (at_port i h.port)) ≡ w.coming (t.far (at_port i h.port)) ++ as_carried h ∷ []

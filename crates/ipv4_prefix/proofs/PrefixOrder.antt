@@ -1,4 +1,4 @@
--- The order that `Prefix` derives is `prefix_cmp`, a total order in which only equal prefixes tie.
+-- `prefix_cmp`, the order that `Prefix` derives, is total, and only equal prefixes tie in it.
 use Rattle.std.proofs.Common.{◌≡◌, ℕ, true, arith, Ordering, refl, sym, ap, ◌∙◌}
 use Rattle.std.specs.declared.cmp.Ordering.TheVariants.{Less, Equal, Greater}
 use Rattle.std.specs.Cmp.{IsTotalOrder}
@@ -7,13 +7,8 @@ use Rattle.std.proofs.lemmas.Cmp.{ranked, nat_cmp_total, on_total, then_total, t
 use Rattle.std.proofs.lemmas.Bool.{false≢true}
 use Rattle.std.proofs.lemmas.Bool.Decides.{nat_tests}
 use Rattle.std.specs.Bool.{Decides}
-use Rattle.ipv4_prefix.specs.contracts.prefix.PrefixOrd.TheImpl as DerivedOrd
 use Rattle.ipv4_prefix.specs.contracts.prefix.PrefixPartialEq.TheImpl as DerivedEq
 use Rattle.ipv4_prefix.specs.Prefix.{Prefix, prefix_cmp, prefix_eq}
-
--- what `cmp` answers
-pub prefix_ord : (p q : Prefix) → (DerivedOrd.ghosts).cmp p q ≡ prefix_cmp p q
-prefix_ord p q = refl
 
 pub prefix_cmp_total : IsTotalOrder prefix_cmp
 prefix_cmp_total = then_total (on_total (λ p. p.addr) nat_cmp_total) (on_total (λ p. p.len) nat_cmp_total)

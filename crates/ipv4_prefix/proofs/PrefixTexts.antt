@@ -10,7 +10,7 @@ use Rattle.std.proofs.lemmas.Str.Parse.{digit_at}
 use Rattle.ipv4_prefix.specs.declared.fault.PrefixFault.{PrefixFault}
 use Rattle.ipv4_prefix.specs.declared.fault.PrefixFault.TheVariants.{NoSlash, BadAddress, BadLength, HostBits}
 use Rattle.ipv4_prefix.specs.Prefix.{Prefix, IsPrefix}
-use Rattle.ipv4_prefix.specs.Texts.{address_text, prefix_text}
+use Rattle.ipv4_prefix.specs.Texts.{address_text}
 use Rattle.ipv4_prefix.specs.Faults.{block, SpellsAddress, SpellsLength, SpellsPrefix, slash, is_slash, address_part, length_part, IsFirstFault}
 use Rattle.ipv4_prefix.proofs.AddressTexts.{SpellsAddress_unique}
 use Rattle.texts.proofs.Numbers.{Spells_unique}
@@ -89,9 +89,6 @@ SpellsPrefix_unique text p q h k =
     let addr = SpellsAddress_unique _ _ _ (spells_address text p h) (spells_address text q k) in
     let len = SpellsLength_unique _ _ _ (spells_length text p h) (spells_length text q k) in
     λ i. record { addr = addr i; len = len i }
-
-pub prefix_text_injective : (p q : Prefix) → IsPrefix p → IsPrefix q → prefix_text p ≡ prefix_text q → p ≡ q
-prefix_text_injective p q h k same = SpellsPrefix_unique (prefix_text q) p q (h, sym same) (k, refl)
 
 -- a text with a fault spells no prefix
 pub IsFirstFault-spelled : (text : List ℕ) (e : PrefixFault) (p : Prefix) → IsFirstFault text e → SpellsPrefix text p → ⊥

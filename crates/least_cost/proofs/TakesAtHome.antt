@@ -5,7 +5,7 @@ use Rattle.machine_laws.proofs.MachineLaws.{machine_laws}
 use Rattle.loop_freedom.specs.Network.{Topology, TakeAtHome}
 use Rattle.loop_freedom.proofs.Meeting.{met_notice}
 use Rattle.loop_freedom.proofs.TakingAtHome.{meets_home, ports_home}
-use Rattle.least_cost.proofs.Kept.{LineKept, pending, port_at, line, Kept}
+use Rattle.least_cost.proofs.Kept.{LineKept, pending, line, Kept}
 use Rattle.least_cost.proofs.Meeting.{kept_met}
 
 module _ (t : Topology) (old new : State) (k : Kept t old) (s : TakeAtHome t old new) where
@@ -16,10 +16,6 @@ module _ (t : Topology) (old new : State) (k : Kept t old) (s : TakeAtHome t old
       go : (i ≡ s.i) ⊎ (i ≡ s.i → ⊥) → (new.machine i).ports ≡ (old.machine i).ports
       go (inl h) = ap (λ x. x.ports) (ap new.machine h ∙ s.machine_at) ∙ ports_home machine_laws (old.machine s.i) s.notice ∙ ap (λ j. (old.machine j).ports) (sym h)
       go (inr d) = ap (λ x. x.ports) (s.machine_elsewhere i d)
-
-  -- so each port is as it was
-  port_still : (e : LinkEnd) → port_at new e ≡ port_at old e
-  port_still e = rw (ports_still e.router, s.seen_same e) refl
 
   -- and each line
   line_still : (e : LinkEnd) → line new e ≡ line old e

@@ -1,10 +1,10 @@
 -- Queries and replies are counted exactly: what is awaited and what is owed, at each port.
-use Rattle.std.proofs.Common.{◌≡◌, ℕ, zero, suc, ◌+◌, Bool, true, false, List, [], ◌∷◌, ◌++◌, Option, Some, None, map, refl, ap, sym, arith, ◌∙◌, slice_get, ◌==◌, if◌then◌else◌, true≢false}
+use Rattle.std.proofs.Common.{◌≡◌, ℕ, zero, suc, ◌+◌, Bool, true, false, List, [], ◌∷◌, ◌++◌, Option, Some, None, map, refl, ap, sym, arith, ◌∙◌, slice_get, ◌==◌, if◌then◌else◌}
 use Rattle.network_model.proofs.Common.{option_map_or, list_any, and-true, both_ways, false_from_ne_true, Kind, Update, Query, Reply, Machine, Computation, Reaction, is_port, via_successor, ways, records_after, with_records, one_to, all_from, changed_at, news_to_others, least, awaited_after, greeting, reaction, one_if, infinity}
 use Rattle.network_model.specs.declared.machine.Neighbour.{Neighbour}
 use Rattle.network_model.specs.declared.machine.Event.{Event}
 use Rattle.network_model.specs.declared.machine.Outgoing.{Outgoing}
-use Rattle.machine_laws.specs.Laws.{released, is_kind, sent_to, count_kind, test_at, is_up_at, awaits, owes_port, is_active, is_message, is_down, IsSound, CountsQueries, CountsReplies}
+use Rattle.machine_laws.specs.Laws.{released, is_kind, sent_to, count_kind, test_at, is_up_at, awaits, owes_port, is_message, is_down, IsSound, CountsQueries, CountsReplies}
 use Rattle.machine_laws.proofs.Sends.{sent_append, count_append, count_one, count_all}
 use Rattle.machine_laws.proofs.Events.{is_port-Some, replied_by, released_by}
 use Rattle.machine_laws.proofs.Outcomes.{Account, Outcome, came_up, goes_on, settles, asks, is_alone, outcome, active_awaits, awaited_kept, test_nowhere, waiting, awaited_after_is}
@@ -52,14 +52,6 @@ greeting_count k m p q other = go (m.rd == infinity)
     go : (b : Bool) → count_kind k (sent_to p (if b then [] else one_to (Some q) Update m.rd)) ≡ 0
     go true = refl
     go false = count_one k Update p (Some q) m.rd ∙ (rw other)
-
--- a passive machine awaits nobody and owes nothing
-pub passive_nothing : (m : Machine) (p : ℕ) → is_active m ≡ false → (awaits m p ≡ false) × (owes_port m p ≡ false)
-passive_nothing m p h = go m.computation refl
-  where
-    go : (o : Option Computation) → m.computation ≡ o → (awaits m p ≡ false) × (owes_port m p ≡ false)
-    go None k = rw k (refl, refl)
-    go (Some c) k = absurd (true≢false (rw k at h))
 
 -- where an event releases all who were awaited, a port whose link is not lost was awaited just where the event is its reply
 replied_all : (m : Machine) (e : Event) (p : ℕ) → ((k : ℕ) → awaits m k ≡ true → released e ≡ Some k) → is_down p e ≡ false → (is_message Reply p e ≡ true → awaits m p ≡ true) → is_message Reply p e ≡ awaits m p
