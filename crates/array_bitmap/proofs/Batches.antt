@@ -63,9 +63,6 @@ noted_first table rows notes sorted none = subst (λ n. IsNoted table rows n tab
   before = λ k r l is. absurd (omega (arith, l));
 })
 
-pub noted_none : (table rows : List (Prefix × Entry)) (notes : List (Option Entry)) (now : List (Prefix × Entry)) → length notes ≡ 0 → IsNoted table rows notes now → now ≡ table
-noted_none table rows notes now none n = n.set ∙ ap (λ k. with_rows (take k rows) table) none
-
 -- all rows are set
 pub noted_all : (table rows : List (Prefix × Entry)) (notes : List (Option Entry)) (now : List (Prefix × Entry)) → length notes ≡ length rows → IsNoted table rows notes now → now ≡ with_rows rows table
 noted_all table rows notes now all n = n.set ∙ ap (λ k. with_rows (take k rows) table) all ∙ with_all rows table

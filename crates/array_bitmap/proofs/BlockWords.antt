@@ -136,10 +136,6 @@ module _ (ws ws' : List ℕ) (at word : ℕ) (put : IsReplaced ws ws' at word) (
   pub kids_kept : kid_map ws' ≡ kid_map ws
   kids_kept = put.others 2 (omega arith)
 
-  -- a word at another index stays
-  row_kept : (b : ℕ) → row_index ws b ≢ at → row_in ws' b ≡ row_in ws b
-  row_kept b n = same_row ws ws' b (ap (λ m. bit_at m b) rows_kept) (λ h. ap (λ m. slice_index ws' (3 + rank m b)) rows_kept ∙ put.others (row_index ws b) n)
-
   row_kept_where : (b : ℕ) → (bit_at (row_map ws) b ≡ 1 → row_index ws b ≢ at) → row_in ws' b ≡ row_in ws b
   row_kept_where b n = same_row ws ws' b (ap (λ m. bit_at m b) rows_kept) (λ h. ap (λ m. slice_index ws' (3 + rank m b)) rows_kept ∙ put.others (row_index ws b) (n h))
 
@@ -197,9 +193,6 @@ module _ (ws ws' : List ℕ) (at word : ℕ) (put : IsReplaced ws ws' at word) (
 -- ---- a row is gone
 module _ (ws ws' : List ℕ) (bit : ℕ) (clear : bit_at (row_map ws') bit ≡ 0)
     (rows : row_map ws ≡ row_map ws' + 2 ^ bit) (kids : kid_map ws' ≡ kid_map ws) (out : IsRemoved ws ws' (row_index ws bit)) where
-  was_set : bit_at (row_map ws) bit ≡ 1
-  was_set = ap (λ n. bit_at n bit) rows ∙ bit_at-add_same (row_map ws') bit clear
-
   bit_left : (b : ℕ) → b ≢ bit → bit_at (row_map ws') b ≡ bit_at (row_map ws) b
   bit_left b n = sym (ap (λ m. bit_at m b) rows ∙ bit_at-add_other (row_map ws') bit b clear n)
 

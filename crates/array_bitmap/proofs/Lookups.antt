@@ -1,5 +1,5 @@
 -- What the code reads of an image.
-use Rattle.std.proofs.Common.{ℕ, suc, ◌≡◌, ◌↔◌, ◌+◌, ◌-◌, ◌^◌, ◌<◌, ◌≤◌, min, bit_and, Option, true, is_some, arith, sym, ap, subst, ◌∙◌}
+use Rattle.std.proofs.Common.{ℕ, suc, ◌≡◌, ◌↔◌, ◌+◌, ◌-◌, ◌^◌, ◌<◌, ◌≤◌, min, bit_and, Option, is_some, arith, sym, ap, subst, ◌∙◌}
 use Rattle.std.specs.Int.{bit_at}
 use Rattle.bitmaps.specs.Bits.{IsHighest}
 use Rattle.array_bitmap.specs.Bits.{depth_of, five_bits, row_bit, width}
@@ -17,10 +17,6 @@ pub block_is : (c : Cells) (sound : IsSoundCells c) (path steps block : ℕ) →
 block_is c sound path steps block e =
     let s = some-from (c.heap block) (ap (λ p. is_some (c.heap p)) e ∙ block_used c sound path steps) in
     subst (λ o. IsBlock (words_in_block o)) (sym s.1) (sound.blocks block s.0 s.1)
-
--- so is each block that is in use
-pub used_is : (c : Cells) (sound : IsSoundCells c) (block : ℕ) → is_some (c.heap block) ≡ true → IsBlock (words_in_block (c.heap block))
-used_is c sound block u = let s = some-from (c.heap block) u in subst (λ o. IsBlock (words_in_block o)) (sym s.1) (sound.blocks block s.0 s.1)
 
 -- the next block of a path
 pub next_block : (c : Cells) (path level five block kid : ℕ) → c.first ≤ level → block ≡ block_at c path (level - c.first) → five ≡ five_bits path level → kid ≡ kid_in (words_in_block (c.heap block)) five

@@ -8,8 +8,7 @@ use Rattle.std.proofs.lemmas.Nat.Bits.{bit_at-zero, bit_at_cat_low, bit_at_cat_h
 use Rattle.std.proofs.Math.Nat.{div-mul-le_self, zero-mod, mul-div_cancel, mul-mod_left, add-mul-mod_self_right, mul-lt-mul_of_pos_right}
 use Rattle.std.proofs.Math.Pow.{mod-mod-pow}
 use Rattle.array_bitmap.specs.Bits.{depth_of, path_start, row_bit, width}
-use Rattle.array_bitmap.specs.Cursor.{IsNextSpot, spot_number}
-use Rattle.array_bitmap.specs.declared.blocks.Head.{Head}
+use Rattle.array_bitmap.specs.Cursor.{spot_number}
 use Rattle.array_bitmap.specs.declared.cursor.Spot.{Spot}
 use Rattle.array_bitmap.proofs.ShortRows.{start_small}
 
@@ -142,18 +141,6 @@ pub record IsSpotTo (rows level five more len : ℕ) (next : Spot) : Type 0 wher
   pub start : next.five % 2 ^ (4 - next.more) ≡ 0
   pub no_row : (v m : ℕ) → m < len → v % 2 ^ (4 - m) ≡ 0 → spot_number five more < spot_number v m → spot_number v m < spot_number next.five next.more → bit_at rows (row_bit v m) ≡ 0
 
--- where no length was looked at
-pub no_length : (rows level five more : ℕ) → five < 32 → more < 5 → level ≤ 5 → IsSpotTo rows level five more 0 (record { five = 32; more = 0 })
-no_length rows level five more small few deep = record {
-  within = omega arith;
-  few = omega arith;
-  under = omega arith;
-  after = omega arith;
-  short = omega arith;
-  start = refl;
-  no_row = λ v m none. absurd (omega arith);
-}
-
 -- one length more
 pub one_length_more : (rows level five more len from : ℕ) (one other next : Spot) → level ≤ 5 → len < width level → IsSpotTo rows level five more len one → other.more ≡ len
     → other.five ≤ 32 → other.five % 2 ^ (4 - len) ≡ 0 → from * 2 ^ (4 - len) ≤ other.five
@@ -191,43 +178,6 @@ one_length_more rows level five more len from one other next deep short one_is i
     here v m same s after less =
         let t : v % 2 ^ (4 - len) ≡ 0 = subst (λ k. v % 2 ^ (4 - k) ≡ 0) same s in
         ap (λ k. bit_at rows (row_bit v k)) same ∙ none v t ((reach v t).1 (subst (λ k. spot_number five more < spot_number v k) same after)) less
-
--- all lengths of the last level, which has no kids
-pub all_at_end : (head : Head) (five more : ℕ) (next : Spot) → IsSpotTo head.rows 5 five more 3 next → IsNextSpot head 5 five more next
-all_at_end head five more next is = record {
-  within = is.within;
-  few = (let f = is.few in omega (arith, f));
-  after = is.after;
-  short = is.short;
-  start = is.start;
-  no_row = λ v m few. is.no_row v m (omega (arith, few));
-  no_kid = λ low. absurd (omega (arith, low));
-}
-
--- all lengths of another level, and the kids
-pub all_and_kids : (head : Head) (level five more : ℕ) (one other next : Spot) → level < 5 → more < 5 → IsSpotTo head.rows level five more 5 one → other.more ≡ 5 → five ≤ other.five
-    → ((v : ℕ) → five ≤ v → v < other.five → bit_at head.kids v ≡ 0)
-    → (other.five < one.five → next ≡ other) → (one.five ≤ other.five → next ≡ one) → IsNextSpot head level five more next
-all_and_kids head level five more one other next low few is longer from none first second = elim (cases_lt other.five one.five) [
-  | inl less ↦ subst (IsNextSpot head level five more) (sym (first less)) (record {
-    within = (let w = is.within in omega (arith, w, less));
-    few = omega (arith, longer);
-    after = omega (arith, longer, from, few);
-    short = omega (arith, longer, low);
-    start = (let e : 4 - other.more ≡ 0 = omega (arith, longer) in subst (λ k. other.five % 2 ^ k ≡ 0) (sym e) (omega arith));
-    no_row = λ v m few_m s after before. is.no_row v m (omega (arith, few_m)) s after (omega (arith, before, longer, less, few_m));
-    no_kid = λ shallow v h l. none v h l;
-  })
-  | inr least ↦ subst (IsNextSpot head level five more) (sym (second least)) (record {
-    within = is.within;
-    few = (let f = is.few in omega (arith, f));
-    after = is.after;
-    short = is.short;
-    start = is.start;
-    no_row = λ v m few_m. is.no_row v m (omega (arith, few_m));
-    no_kid = λ shallow v h l. none v h (omega (arith, l, least));
-  })
-]
 
 -- ---- the prefix of a place
 

@@ -105,10 +105,6 @@ first_from_parts p q level more h l same last =
     ∙ ap (λ x. path_start q (depth_of level) * 2 ^ (more + 1) + x) last
     ∙ sym (path_start_in q level more h l)
 
--- a length, by the level in which it ends
-pub length_parts : (len : ℕ) → 5 ≤ len → depth_of (level_of len) + (more_of len + 1) ≡ len
-length_parts len h = omega arith
-
 -- and the other way round
 pub level_from_parts : (level more : ℕ) → more < 5 → level_of (depth_of level + (more + 1)) ≡ level
 level_from_parts level more h = omega arith

@@ -1,9 +1,9 @@
 -- The blocks of a path that are left.
-use Rattle.std.proofs.Common.{ℕ, suc, ◌≡◌, ◌≢◌, inl, inr, ◌+◌, ◌-◌, ◌/◌, ◌<◌, ◌≤◌, arith, ap, sym, subst, ◌∙◌}
+use Rattle.std.proofs.Common.{ℕ, suc, ◌≡◌, ◌≢◌, inl, inr, ◌+◌, ◌-◌, ◌<◌, ◌≤◌, arith, ap, sym, subst, ◌∙◌}
 use Rattle.std.proofs.lemmas.Bool.{cases_eq, cases_lt}
 use Rattle.array_bitmap.specs.Bits.{five_bits}
 use Rattle.array_bitmap.specs.Tree.{Cells, words_at, block_at, IsSoundCells}
-use Rattle.array_bitmap.specs.Removal.{HasUse, IsPruned}
+use Rattle.array_bitmap.specs.Removal.{HasUse}
 use Rattle.array_bitmap.proofs.Walks.{block-next}
 use Rattle.array_bitmap.proofs.Stands.{no_kids_in, walk_ends}
 
@@ -28,7 +28,3 @@ all_used c sound path level k there used gone d low high = elim (cases_lt d k) [
   where
     at_level : d ≡ k → HasUse c path d
     at_level same = subst (HasUse c path) (sym same) used
-
--- so a path's first bits have only blocks of some use
-pub pruned_to : (c : Cells) (path len : ℕ) → ((d : ℕ) → c.first ≤ d → d ≤ (len - 5) / 5 → HasUse c path d) → IsPruned c path len
-pruned_to c path len all d low short = all d low (omega (arith, short))

@@ -25,10 +25,6 @@ use Rattle.array_bitmap.proofs.PoolWords.{is_words}
 use Rattle.array_bitmap.proofs.Moves.{row_sets, row_sound, kid_words, kid_place, kid_sound, lost_sound, lost_words, lost_unnamed, lost_stays, lost_gone}
 use Rattle.array_bitmap.proofs.NewBlocks.{taken_names, taken_walks, taken_words, taken_unnamed, taken_sound, first_words, first_place, first_sound}
 
--- what is there is one
-pub same_place : (o : Option (List ℕ)) → is_some o ≡ true → (x : List ℕ) × (o ≡ Some x)
-same_place o u = some-from o u
-
 -- bitmaps without bits have no rows and no kids
 pub no_rows_in : (ws : List ℕ) → row_map ws ≡ 0 → (b : ℕ) → row_in ws b ≡ None
 no_rows_in ws e b = row-clear ws b (λ h. let z : bit_at 0 b ≡ 0 = bit_at-zero b in omega (arith, ap (λ n. bit_at n b) e, z, h))
@@ -158,9 +154,6 @@ module _ (c : Cells) (heap0 : ℕ → Option (List ℕ)) (sound : IsSoundCells c
 
   pub blank_unnamed : (p m : ℕ) → named with_blank p m ≢ kid
   blank_unnamed = taken_unnamed c heap0 kid (words_in_block (heap0 kid)) sound taken.fresh blank_there taken.others blank_kids blank_rows
-
-  pub blank_block : IsBlock (words_at with_blank stand.block)
-  blank_block = stand_is with_blank blank_sound path (level - c.first) stand blank_stand (omega (arith, low, deep))
 
   -- ---- and put into the block
   module _ (new : Cells) (heap1 : ℕ → Option (List ℕ)) (five place : ℕ) (put : PutsKid heap0 heap1 stand.block place five kid) where

@@ -49,9 +49,6 @@ module _ {B : Type 0} where
   all_one v i zero d l = i
   all_one v i (suc k) d l = absurd (omega arith)
 
-  pub begins : Balanced {B = B} [] (hand 256 [] [] ∷ [])
-  begins = (refl, (λ h. refl), all_one (hand 256 [] []) (λ e. absurd (omega arith)))
-
   pub puts : (n port : ℕ) (v : Hand B) (x : Taken B) → 0 < v.parts → Pushes Balanced n port v x (λ w. w ≡ hand v.parts (v.put ++ x ∷ []) v.taken)
   puts n port v x some_part items views room b at =
       let w : Hand B = hand v.parts (v.put ++ x ∷ []) v.taken in (

@@ -6,7 +6,7 @@ use Rattle.ipv4_prefix.specs.Prefix.{Prefix, prefix_eq}
 use Rattle.network_model.specs.declared.route.Entry.{Entry}
 use Rattle.network_model.specs.Publication.{Patch}
 use Rattle.publication.specs.declared.known.Known.{Known}
-use Rattle.publication.specs.Lists.{Covers, Writing, is_named, patched_prefixes, with_publication}
+use Rattle.publication.specs.Lists.{Covers, Writing, is_named, patched_prefixes}
 use Rattle.publication.specs.Outings.{HasPublished, IsOuting, Outing}
 use Rattle.publication.proofs.Waiting.{prefixes-append}
 
@@ -43,14 +43,3 @@ out_still before patch flag old new not_yet kept same waits = record {
     by_waiting : (new.waiting ≡ old.waiting) ⊎ (new.waiting ≡ old.waiting ++ patch ∷ []) → Covers patch new.waiting
     by_waiting (inl as_before) = subst (Covers patch) (sym as_before) was.1
     by_waiting (inr one_more) = subst (Covers patch) (sym one_more) (covers-itself patch old.waiting was.1)
-
--- a publication that is done
-pub out_done : (before : Known) (patch : Patch) (flag : Bool) (old new : Writing) → flag ≡ false → IsOuting (outing before patch flag old)
-    → new.published ≡ with_publication old.published (old.waiting ++ patch ∷ []) → new.waiting ≡ [] → IsOuting (outing before patch true new)
-out_done before patch flag old new not_yet kept list none = record {
-  next = kept.next;
-  published = (old.waiting, was.1, list ∙ ap (λ k. with_publication k (old.waiting ++ patch ∷ [])) was.0, none);
-}
-  where
-    was : HasPublished false (outing before patch flag old)
-    was = subst (λ b. HasPublished b (outing before patch flag old)) not_yet kept.published

@@ -1,5 +1,5 @@
 -- A step that goes on with the list keeps the rule of the two copies.
-use Rattle.std.proofs.Common.{◌≡◌, ◌≢◌, ℕ, zero, suc, List, [], ◌∷◌, ◌++◌, set, Option, Some, None, IfSome, refl, subst, ⊎_elim}
+use Rattle.std.proofs.Common.{◌≡◌, ◌≢◌, ℕ, List, [], ◌∷◌, ◌++◌, set, Option, Some, None, IfSome, refl, subst, ⊎_elim}
 use mathlib.Core.Option.{some}
 use lib.ListN.{get_elem?}
 use Rattle.atomic_table.proofs.Lists.{at_set, at_snoc}
@@ -15,13 +15,6 @@ module _ (openings : List (List (Prefix × Entry))) where
   -- a view of none begins each list
   pub keeps_more : (image : Image) (list : Known) (views : List (Option Known)) → Keeps openings image list views → Keeps openings image list (views ++ None ∷ [])
   keeps_more image list views h = (h.0, λ seat v at. ⊎_elim (h.1 seat v) (λ (e : None ≡ v). subst (λ (z : Option Known). IfSome z (λ k. Begins k list)) e tt) (at_snoc views None v seat at))
-
-  nobody : (list : Known) (seat : ℕ) (v : Option Known) → get_elem? [] seat ≡ some v → IfSome v (λ k. Begins k list)
-  nobody list zero v at = absurd cc
-  nobody list (suc n) v at = absurd cc
-
-  pub keeps_first : (image : Image) (list : Known) → image ≡ image_of openings list → Keeps openings image list (None ∷ [])
-  keeps_first image list is = keeps_more image list [] (is, nobody list)
 
   begun_later : (x y : Known) → Begins x y → (v : Option Known) → IfSome v (λ k. Begins k x) → IfSome v (λ k. Begins k y)
   begun_later x y longer None h = tt
