@@ -1,6 +1,6 @@
 -- What a step leaves of what every course keeps.
 use Rattle.std.proofs.Common.{refl, sym, ap, ◌∙◌, arith, length-append, ◌≡◌, ◌+◌, ◌^◌, ◌<◌, ◌≤◌, List, [], ◌∷◌, ◌++◌, length, if◌then◌else◌, Option, Some, None, Result, Err}
-use Rattle.std.proofs.lemmas.Bool.{lt-ltb, le-ltb}
+use Rattle.std.proofs.lemmas.Bool.{lt-ltb}
 use Rattle.no_packet_loops.proofs.Common.{World, Network, opening, IsNetwork, Lawful, next, refusal, Refusal}
 use Rattle.metric.specs.declared.kind.Kind.{Kind}
 use Rattle.metric.specs.declared.kind.Kind.TheVariants.{Update, Query, Reply}
@@ -66,10 +66,6 @@ after_push c (y ∷ ys) x = after_push (course_after c y) ys x
 
 -- ---- a step that is refused
 
--- a world that is as before is that of the course before
-pub same_world : (c : Course) (w : World) → w ≡ c.world → course_of c.network w c.steps c.sent ≡ c
-same_world c w world = ap (λ v. course_of c.network v c.steps c.sent) world
-
 -- while steps can be counted, a step is refused as the world refuses it
 pub counted : (c : Course) (step : Step) → c.steps + 1 < 2 ^ 64 → course_refusal c step ≡ refusal c.world step
 counted c step short = ap (λ b. if b then refusal c.world step else Some Refusal.JournalFull) (lt-ltb (c.steps + 1) (2 ^ 64) short)
@@ -77,10 +73,6 @@ counted c step short = ap (λ b. if b then refusal c.world step else Some Refusa
 -- the same of a course that was seen
 pub counted_seen : (c d : Course) (step : Step) → c ≡ d → c.steps + 1 < 2 ^ 64 → course_refusal d step ≡ refusal c.world step
 counted_seen c d step seen short = ap (λ (x : Course). course_refusal x step) (sym seen) ∙ counted c step short
-
--- and while they cannot, because of that
-pub uncounted : (c : Course) (step : Step) → 2 ^ 64 ≤ c.steps + 1 → course_refusal c step ≡ Some Refusal.JournalFull
-uncounted c step full = ap (λ b. if b then refusal c.world step else Some Refusal.JournalFull) (le-ltb (c.steps + 1) (2 ^ 64) full)
 
 -- a call that answers this refusal was refused for its cause, or for want of memory
 pub refused_as : (X : Type 0) (cause : Option Refusal) (e : Refusal) → IsDoneOr {X = X} cause (Err e) → CanBeRefused cause e

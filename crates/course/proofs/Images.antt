@@ -92,10 +92,6 @@ due_lawful w i due = by_router (slice_get w.routers i) refl due
 pub due_of : (w : World) (i : ℕ) → Lawful w (Publish i) → (r : Router) × (slice_get w.routers i ≡ Some r) × (due_at w i ≡ Some (image_in_force (router_publishing r)))
 due_of w i lawful = (lawful.0, lawful.1, due_image w i lawful.0 lawful.1 lawful.2)
 
--- and where none is due, it may not
-pub none_due : (w : World) (i : ℕ) → due_at w i ≡ None → Lawful w (Publish i) → ⊥
-none_due w i none lawful = None_not_Some (sym none ∙ due_image w i lawful.0 lawful.1 lawful.2)
-
 -- ---- a list of images that are in force
 
 -- each router that is there has an image

@@ -16,10 +16,6 @@ module _ (w : World) (i : ℕ) (h : Held) (at : release_at w i ≡ Some h) where
   pub leaving_is : leaving w (Release i) ≡ by_stale (is_stale w i h)
   leaving_is = ap (option_and_then (λ (x : Held). if is_stale w i x then None else Some (x.message).kind)) at
 
-  -- over no port
-  pub leaving_nowhere : place_at w i h.port ≡ None → leaving w (Release i) ≡ None
-  leaving_nowhere none = leaving_is ∙ ap (λ o. by_stale (not (option_map_or (is_up_in h.session) (option_and_then (λ (p : Place). slice_get w.links p.link) o) false))) none
-
   module _ (p : Place) (there : place_at w i h.port ≡ Some p) (k : Link) (link : slice_get w.links p.link ≡ Some k) where
     by_link : leaving w (Release i) ≡ by_stale (not (is_up_in h.session k))
     by_link =

@@ -1,20 +1,15 @@
 -- Steps that routers do in turn.
-use Rattle.std.proofs.Common.{refl, sym, ap, subst, ◌∙◌, arith, inl, inr, length-append, ◌≡◌, ◌⊎◌, ℕ, ◌+◌, ◌^◌, ◌<◌, ◌≤◌, Bool, true, false, if◌then◌else◌, nat_lt, List, [], ◌∷◌, ◌++◌, length, Option, Some, None, option_and_then}
+use Rattle.std.proofs.Common.{refl, sym, ap, subst, ◌∙◌, arith, inl, inr, length-append, ◌≡◌, ◌⊎◌, ℕ, ◌+◌, ◌^◌, ◌<◌, ◌≤◌, Bool, true, false, if◌then◌else◌, nat_lt, List, [], ◌∷◌, ◌++◌, length, Option, Some, None}
 use Rattle.std.proofs.lemmas.Bool.{cases_lt, ltb-false}
 use Rattle.no_packet_loops.proofs.Common.{World, Lawful, Lawful_to_refusal, next, refusal, Refusal, Runs}
 use Rattle.network_model.specs.declared.step.Step.{Step}
-use Rattle.network_model.specs.Turns.{next_step}
 use Rattle.world.specs.Steps.{CanBeRefused}
 use Rattle.world.proofs.Runs.{with_last_step}
 use Rattle.convergence.proofs.Turns.{next_chosen}
 use Rattle.course.specs.Course.{Course, course_after, course_refusal}
-use Rattle.course.specs.Turns.{AreNextSteps, HasTakenTurns, IsCourseStopped, IsNextStep, none_shut, open_step}
+use Rattle.course.specs.Turns.{AreNextSteps, HasTakenTurns, IsCourseStopped, IsNextStep}
 use Rattle.course.proofs.Idle.{busy-unsettled}
 use Rattle.course.proofs.Courses.{after_push}
-
--- no turn
-pub turned_none : (c : Course) → HasTakenTurns c c 0
-turned_none c = record { steps = []; count = refl; turns = tt; runs = refl; after = refl }
 
 turns_push : (w : World) (ss : List Step) (v : World) (s : Step) → AreNextSteps w ss → Runs w ss v → IsNextStep v s → AreNextSteps w (ss ++ s ∷ [])
 turns_push w [] v s turns runs turn = (subst (λ u. IsNextStep u s) (sym runs) turn, tt)
@@ -50,11 +45,3 @@ one_more_idle f n before here i below = by_order (cases_lt i n)
     by_order : (i < n) ⊎ (n ≤ i) → f i ≡ None
     by_order (inl less) = before i less
     by_order (inr same) = (let is : n ≡ i = omega (arith, same, below) in subst (λ k. f k ≡ None) is here)
-
--- where nothing is shut, a router has to do what it has to do in its world
-pub all_open : (w : World) (i : ℕ) → open_step none_shut w i ≡ next_step w i
-all_open w i = by_step (next_step w i)
-  where
-    by_step : (o : Option Step) → option_and_then (λ s. if none_shut s then None else Some s) o ≡ o
-    by_step None = refl
-    by_step (Some s) = refl

@@ -41,14 +41,6 @@ from_on f g p is a (suc n) (suc k) at = rw (without_other f g p a (omega arith) 
 pub awaited_of-without : (s t : Ports) (p : ℕ) → ((q : ℕ) → contains t q ≡ (contains s q && not (q == p))) → (n : ℕ) → awaited_of n t ≡ changed_at p (λ b. false) (awaited_of n s)
 awaited_of-without s t p is n = from_on (contains s) (contains t) p is 0 n p (omega arith)
 
-and_left : (a b : Bool) → (a && b) ≡ true → a ≡ true
-and_left true b h = refl
-and_left false b h = cc
-
--- a set without a port has no others than before
-pub AwaitsBelow-without : (s t : Ports) (p : ℕ) → ((q : ℕ) → contains t q ≡ (contains s q && not (q == p))) → (n : ℕ) → AwaitsBelow n s → AwaitsBelow n t
-AwaitsBelow-without s t p is n below q has = below q (and_left (contains s q) _ (sym (is q) ∙ has))
-
 -- ---- whether anyone is awaited
 
 nobody : (f : ℕ → Bool) → ((q : ℕ) → f q ≡ false) → (a n : ℕ) → list_any (λ b. b) (map f (range_with_len a n)) ≡ false

@@ -1,6 +1,6 @@
 -- What a step leaves of what every fabric keeps.
-use Rattle.std.proofs.Common.{sym, ap, subst, ◌∙◌, arith, length-append, ◌≡◌, ℕ, ◌+◌, ◌*◌, ◌^◌, ◌<◌, ◌≤◌, List, [], ◌∷◌, ◌++◌, map, length, set, Option, Some, refl, slice_get, option_map}
-use Rattle.no_packet_loops.proofs.Common.{AllByRecursion, range_with_len, length-map, sum_by_push, slice_get_within, slice_get-map, Router, World, Network, opening, Lawful, next, Runs, Image, Patch, image_answer, Some_injective}
+use Rattle.std.proofs.Common.{sym, ap, subst, ◌∙◌, arith, length-append, ◌≡◌, ℕ, ◌+◌, ◌*◌, ◌^◌, ◌<◌, ◌≤◌, List, [], ◌∷◌, ◌++◌, map, length, set, Option, Some, refl, slice_get}
+use Rattle.no_packet_loops.proofs.Common.{AllByRecursion, range_with_len, length-map, sum_by_push, slice_get_within, Router, World, Network, opening, Lawful, next, Runs, Image, Patch}
 use Rattle.network_model.specs.declared.step.Step.{Step}
 use Rattle.network_model.specs.declared.step.Step.TheVariants.{Publish}
 use Rattle.network_model.specs.Journal.{Fits, most_steps, step_number, journal_sum}
@@ -8,7 +8,7 @@ use Rattle.world.specs.Steps.{HasRoomForSteps}
 use Rattle.world.proofs.Runs.{with_last_step, run-room, opening-room}
 use Rattle.course.specs.Images.{image_in_force, images_in_force, chosen_image, due_at}
 use Rattle.course.proofs.Images.{chosen_published, images_due as images_put, images_stay as images_left}
-use Rattle.fabric.specs.Fabric.{Fabric, fabric_of, after_step, count_lent, with_lent, ForwardsAsPublished, IsFabric, IsSumOf}
+use Rattle.fabric.specs.Fabric.{Fabric, fabric_of, after_step, count_lent, with_lent, IsFabric, IsSumOf}
 
 -- the journal is too short for a generation to pass 64 bits
 pub room_left : (f : Fabric) (capacity : ℕ) → IsFabric f capacity → HasRoomForSteps 1 f.world
@@ -21,23 +21,6 @@ pub image_at : (f : Fabric) (capacity : ℕ) → IsFabric f capacity → (i : �
 image_at f capacity kept i r at =
     subst (λ xs. i < length xs) (sym kept.in_force)
     (subst (λ n. i < n) (sym (length-map f.world.routers image_in_force)) (slice_get_within f.world.routers i r at))
-
--- it is of what the router published
-pub image_is : (f : Fabric) (capacity : ℕ) → IsFabric f capacity → (i : ℕ) (r : Router) → slice_get f.world.routers i ≡ Some r → slice_get f.images i ≡ Some (image_in_force r)
-image_is f capacity kept i r at =
-    ap (λ xs. slice_get xs i) kept.in_force ∙ slice_get-map image_in_force f.world.routers i ∙ ap (option_map image_in_force) at
-
--- so it has the rows that the router published, and answers as they do
-pub forwards : (f : Fabric) (capacity : ℕ) → IsFabric f capacity → ForwardsAsPublished f
-forwards f capacity kept = record {
-  every_router = ap length kept.in_force ∙ length-map f.world.routers image_in_force;
-  rows = λ i r image at here. ap (λ (x : Image). x.rows) (same i r image at here);
-  longest = λ i r image at here addr. ap (λ x. image_answer x addr) (same i r image at here);
-  generation = λ i r image at here. ap (λ (x : Image). x.generation) (same i r image at here);
-}
-  where
-    same : (i : ℕ) (r : Router) (image : Image) → slice_get f.world.routers i ≡ Some r → slice_get f.images i ≡ Some image → image ≡ image_in_force r
-    same i r image at here = Some_injective (sym here ∙ image_is f capacity kept i r at)
 
 -- a network at its opening, with the images of what its routers chose
 pub kept_at_opening : (n : Network) (journal : List Step) (w : World) (images : List Image) (lent : List (Option Patch)) (capacity : ℕ) → journal ≡ [] → w ≡ opening n → images ≡ map chosen_image w.routers → count_lent lent ≡ 0

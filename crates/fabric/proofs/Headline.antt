@@ -5,11 +5,9 @@ use Rattle.no_packet_loops.specs.Packets.{mixture_rows}
 use Rattle.all_packets.specs.Packets.{mixture_hop, IsMovingWay, MayGoOn}
 use Rattle.all_packets.proofs.Improving.{way_by}
 use Rattle.all_packets.proofs.Ways.{always_no_moving_circles}
-use Rattle.quiet_routes.proofs.Routes.{quiet_routes}
-use Rattle.convergence.proofs.Converging.{always_converges}
 use Rattle.course.specs.Images.{image_in_force}
 use Rattle.fabric.specs.Fabric.{Fabric, is_lent, IsFabric}
-use Rattle.fabric.specs.Headline.{image_row, image_hop, GoesByImage, IsMovingImageWay, NeverMeetsTwice, LeadsAtLeastCost, ConvergesLeftAlone}
+use Rattle.fabric.specs.Headline.{image_row, image_hop, GoesByImage, IsMovingImageWay, NeverMeetsTwice}
 
 -- a packet that a mixture of images sends on is one that the mixture of tables does
 forwarded : (f : Fabric) (capacity : ℕ) → IsFabric f capacity → (by_control : ℕ → Bool) (i addr : ℕ) (p : Prefix) (entry : Entry) → image_row f by_control i addr ≡ Some (p, entry)
@@ -39,11 +37,3 @@ along_rows f capacity kept addr = way_by (GoesByImage f addr) (MayGoOn f.world a
 -- no packet circles
 pub never_twice : (f : Fabric) (capacity : ℕ) → IsFabric f capacity → IsNetwork f.network → NeverMeetsTwice f
 never_twice f capacity kept valid addr way w = always_no_moving_circles f.network f.journal f.world valid kept.runs addr way (along_rows f capacity kept addr way w)
-
--- at quiet, rows are best
-pub least_cost : (f : Fabric) (capacity : ℕ) → IsFabric f capacity → IsNetwork f.network → LeadsAtLeastCost f
-least_cost f capacity kept valid = quiet_routes f.network f.journal f.world valid kept.runs
-
--- left alone, the network converges
-pub converges : (f : Fabric) (capacity : ℕ) → IsFabric f capacity → IsNetwork f.network → ConvergesLeftAlone f
-converges f capacity kept valid = always_converges f.network f.journal f.world valid kept.runs

@@ -17,10 +17,6 @@ module _ (openings : List (List (Prefix × Entry))) (w : World) (writers : List 
       by_router None at same = absurd (None_not_Some (sym same))
       by_router (Some r) at same = (r, at, Some_injective same)
 
-  -- so it answers as its router
-  pub answer_is : (addr : ℕ) → answer_at w i addr ≡ Some (answer_of (image_of openings x.published) addr)
-  answer_is addr = ap (option_map (λ r. answer_of (image_in_force r) addr)) router_of.1 ∙ ap (λ image. Some (answer_of image addr)) (sym router_of.2)
-
   -- and the writer's list has as many publications as its router has made
   pub list_is_last : (told : Known) → told ≡ x.published → length told.publications ≡ generation_of told → IfSome (slice_get w.routers i) (λ r. length told.publications ≡ r.generation)
   list_is_last told is counted =

@@ -1,10 +1,9 @@
 -- What a fabric under a lock can have become: nothing at first, then step after step; and what the sum of its journal tells.
-use Rattle.std.proofs.Common.{inl, inr, refl, sym, ap, subst, ◌∙◌, ◌≡◌, ◌≢◌, ◌⊎◌, ℕ, ◌+◌, ◌≤◌, Bool, true, false, not, find, map, if◌then◌else◌, List, [], ◌∷◌, ◌++◌, Option, Some, None, nat_lt, ltb-false, is_none, is_some, length, slice_get, option_and_then, Result, Ok, Err, IfOk, OnOk, OnErr, append_assoc, append-nil}
+use Rattle.std.proofs.Common.{inl, inr, refl, sym, ap, subst, ◌∙◌, ◌≡◌, ◌≢◌, ◌⊎◌, ℕ, ◌+◌, ◌≤◌, Bool, true, false, not, find, map, if◌then◌else◌, List, [], ◌∷◌, ◌++◌, Option, Some, None, nat_lt, ltb-false, is_none, is_some, length, slice_get, option_and_then, Result, Ok, Err, append_assoc, append-nil}
 use Rattle.network_model.proofs.Common.{option_map_or, false≢true, most_steps, first_cause, is_lawful, next_step, Lawful_to_refusal, None_not_Some, Some_injective, option_map_or-ind, slice_get-changed_at_other, routers-changed_link, range_with_len, Router, World, degree_of, Patch, Lawful, next, refusal, is_due, ripe_front, changed_link, with_cost, with_delivered, with_front_taken, with_message, with_noticed, with_released, front_at, notice_at, release_at, router_accepting, router_at_home, router_publishing, router_releasing, Runs}
 use Rattle.network_model.specs.declared.step.Step.TheVariants.{LinkUp, LinkDown, SetCost, Deliver, Publish, Release, Attach, Detach}
 use Rattle.network_model.specs.declared.step.Refusal.{Refusal}
 use Rattle.world.specs.Steps.{CanBeRefused, IsDoneOr}
-use Rattle.publication.specs.Outings.{Outing}
 use Rattle.network_model.specs.declared.step.Refusal.TheVariants.{UnknownRouter, NothingDue, NothingRipe}
 use Rattle.fabric.specs.Fabric.{next_fabric_step as next_turn, Fabric, after_step, awaits_writer, count_lent, fabric_refusal, is_lent, lent_at, with_lent}
 use Rattle.fabric.proofs.Fabrics.{fit-append}
@@ -237,10 +236,3 @@ served_published opened asked fabric after i t served own out lawful fits is =
 -- or not
 pub served_unpublished : (opened : Fabric) (asked : Step → Bool) (fabric after : Fabric) (i : ℕ) → IsServed opened asked fabric → is_lent opened i ≡ false → after ≡ with_lent fabric i None → IsServed opened asked after
 served_unpublished opened asked fabric after i served own is = served_lent opened asked fabric after i None served (λ was. absurd (false≢true (sym own ∙ was))) (λ no. absurd (false≢true no)) is
-
--- a ticket that was made, or refused
-pub served_ticket : (opened : Fabric) (asked : Step → Bool) (fabric after : Fabric) (i : ℕ) (r : Result Outing Refusal) → IsServed opened asked fabric → next_turn fabric i ≡ Some (Publish i)
-    → OnOk r (Lawful fabric.world (Publish i)) → IfOk r (λ t. after ≡ with_lent fabric i (Some t.patch)) → OnErr r (after ≡ fabric) → IsServed opened asked after × (after.journal ≡ fabric.journal)
-served_ticket opened asked fabric after i (Ok t) served due lawful ok err =
-    (served_lent opened asked fabric after i (Some t.patch) served (λ _. refl) (λ _. is_next fabric.world i (turn_next fabric i (Publish i) due) lawful) ok, ap (λ (f : Fabric). f.journal) ok)
-served_ticket opened asked fabric after i (Err e) served due lawful ok err = (subst (IsServed opened asked) (sym err) served, ap (λ (f : Fabric). f.journal) err)

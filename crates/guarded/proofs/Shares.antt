@@ -1,5 +1,5 @@
 -- New shares, one after another; what holders have out when they have served; and why a turn is refused.
-use Rattle.std.specs.Prelude.{◌≡◌, ℕ, suc, ◌+◌, ◌<◌, ◌⊎◌, None, Ok, MatchResult, OnOk, IfSome, Bool, List, [], ◌∷◌, ◌++◌, length, sum_by, get_or, if◌then◌else◌, ◌==◌, Option, Some, Result, Err, ⊤}
+use Rattle.std.specs.Prelude.{◌≡◌, ℕ, suc, ◌+◌, ◌<◌, ◌⊎◌, None, Ok, MatchResult, IfSome, Bool, List, [], ◌∷◌, ◌++◌, length, sum_by, get_or, if◌then◌else◌, ◌==◌, Option, Some, Result, Err, ⊤}
 use Rattle.std.proofs.Common.{refl, sym, ap, subst, ◌∙◌, arith, inl, inr}
 use Rattle.std.proofs.lemmas.List.Sums.{sum_by-cons}
 use Rattle.network_model.specs.declared.step.Step.{Step}
@@ -7,13 +7,11 @@ use Rattle.network_model.specs.declared.step.Refusal.{Refusal}
 use Rattle.publication.specs.Lists.{EachAt}
 use Rattle.publication.proofs.Places.{each-push}
 use Rattle.network_model.specs.declared.step.Step.TheVariants.{Publish}
-use Rattle.world.specs.Steps.{CanBeRefused, IsDoneOr}
+use Rattle.world.specs.Steps.{CanBeRefused}
 use Rattle.fabric.specs.Fabric.{Fabric, fabric_refusal, next_fabric_step}
-use Rattle.course.proofs.Courses.{refused_as}
 use Rattle.guarded.specs.declared.share.Share.{Share}
 use Rattle.guarded.specs.Served.{IsFound, IsTurn, IsTurnRefused}
-use Rattle.network_model.proofs.Common.{None_not_Some}
-use Rattle.guarded.specs.Shares.{AreNew, AreUnrefused, HaveServed, KeptTickets, OweAsBefore, owes}
+use Rattle.guarded.specs.Shares.{AreNew, HaveServed, KeptTickets, OweAsBefore, owes}
 
 -- one share more
 pub new_more : {N : Type 0} (sum : ℕ) (ss ts : List (Share N)) (s : Share N) (n : ℕ) → AreNew sum ss → ts ≡ ss ++ s ∷ [] → length ss ≡ n → s.number ≡ n → s.sum ≡ (if n == 0 then sum else 0) → owes s ≡ 0 → AreNew sum ts
@@ -40,11 +38,6 @@ owe_as_before {N} ss ts served kept k d within = by_case (served.1 k d within).1
     by_case : ((get_or ts k d).halt ≡ Some Refusal.WrongTicket) ⊎ (owes (get_or ts k d) ≡ owes (get_or ss k d)) → owes (get_or ts k d) ≡ owes (get_or ss k d)
     by_case (inl lost) = absurd (kept k d (subst (λ n. k < n) (sym served.0) within) lost)
     by_case (inr same) = same
-
--- so where nobody was refused
-pub served_back : {N : Type 0} (r : Result ⊤ Refusal) (ss ts : List (Share N)) → HaveServed ss ts → OnOk r (AreUnrefused ts) → OnOk r (OweAsBefore ss ts)
-served_back (Ok x) ss ts served unrefused = owe_as_before ss ts served (λ k d within lost. None_not_Some (sym (unrefused k d within) ∙ lost))
-served_back (Err e) ss ts served unrefused = tt
 
 -- so they have as many out together
 pub owe_in_all : {N : Type 0} (ss ts : List (Share N)) → length ts ≡ length ss → OweAsBefore ss ts → sum_by owes ts ≡ sum_by owes ss
@@ -80,11 +73,6 @@ gave_back done answer old between new none out passed at_first (inr back) = by_c
     by_case : (done ≡ Err Refusal.WrongTicket) ⊎ (between + none ≡ old + out) → (answer ≡ Err Refusal.WrongTicket) ⊎ (new ≡ old)
     by_case (inl lost) = inl (back.1 ∙ lost)
     by_case (inr kept) = let sum = back.0 in inr (omega (arith, sum, kept, at_first))
-
--- a turn whose step was refused
-pub refused_turn : (f : Fabric) (i : ℕ) (s : Step) (r : Result ⊤ Refusal) (e : Refusal) (answer : Result (Option Step) Refusal) → next_fabric_step f i ≡ Some s → r ≡ Err e → answer ≡ Err e → IsDoneOr (fabric_refusal f s) r → IsTurn f i answer
-refused_turn f i s r e answer due refused is done =
-    subst (IsTurn f i) (sym is) (inr (s, due, inl (refused_as ⊤ (fabric_refusal f s) e (subst (IsDoneOr (fabric_refusal f s)) refused done))))
 
 -- a turn that was refused at one of the routers
 pub turn_refused : (opened : Fabric) (asked : Step → Bool) (shares sum i : ℕ) (f : Fabric) (answer : Result (Option Step) Refusal) (e : Refusal) → IsFound opened asked shares sum f → i < (opened.network).routers

@@ -1,6 +1,6 @@
 -- What every router keeps, whatever it takes, publishes or releases.
-use Rattle.std.proofs.Common.{refl, sym, ap, ◌∙◌, arith, ◌≡◌, ℕ, zero, suc, ◌<◌, ◌≤◌, Bool, true, false, cond, if◌then◌else◌, List, [], ◌∷◌, map, length, get_or, Some, None, unwrap_or, eq-eqb}
-use Rattle.network_model.proofs.Common.{AllByRecursion, by_order, eq_by_cmp, Prefix, prefix_cmp, Machine, reaction, opening_machine, Router, machine_of, neighbours, opening_router, chosen_rows, entry_of, session_at, reactions, router_noticing, router_meeting, router_publishing, router_releasing, with_rows, map-put, sorted-map, sorted-put}
+use Rattle.std.proofs.Common.{refl, sym, ap, ◌∙◌, ◌≡◌, ℕ, ◌≤◌, Bool, true, false, cond, if◌then◌else◌, List, [], ◌∷◌, map, length, Some, None, unwrap_or, eq-eqb}
+use Rattle.network_model.proofs.Common.{AllByRecursion, by_order, eq_by_cmp, Prefix, prefix_cmp, Machine, reaction, opening_machine, Router, machine_of, neighbours, opening_router, chosen_rows, entry_of, session_at, reactions, router_noticing, router_meeting, with_rows, map-put, sorted-map, sorted-put}
 use Rattle.std.specs.FinMap.{find as row_of, put, is_sorted}
 use Rattle.std.specs.List.{filter}
 use Rattle.std.specs.declared.cmp.Ordering.{Ordering}
@@ -19,11 +19,6 @@ use Rattle.router_core.proofs.Meetings.{reacted, chosen}
 use Rattle.router_core.proofs.Opening.{opening_machines, local_rows}
 
 -- ---- each of a list
-
-pub all_at : {A : Type 0} (P : A → Type 0) (xs : List A) → AllByRecursion P xs → (k : ℕ) (d : A) → k < length xs → P (get_or xs k d)
-all_at P [] all k d h = absurd (omega arith)
-all_at P (x ∷ xs) all zero d h = all.0
-all_at P (x ∷ xs) all (suc k) d h = all_at P xs all.1 k d (omega arith)
 
 all-put : {X : Type 0} (P : Prefix × X → Type 0) (p : Prefix) (v : X) (rows : List (Prefix × X)) → ((q : Prefix) → P (q, v)) → AllByRecursion P rows → AllByRecursion P (put prefix_cmp p v rows)
 all-put P p v [] new all = (new p, tt)
@@ -115,14 +110,6 @@ kept-opening ports costs few sorted = record {
   same_ports = all-opening ports costs;
   rows = entries-opening ports costs;
 }
-
--- ---- a publication, and a release
-
-pub kept-publishing : (r : Router) → IsRouter r → IsRouter (router_publishing r)
-kept-publishing r kept = record { few = kept.few; sorted = kept.sorted; same_ports = kept.same_ports; rows = kept.rows }
-
-pub kept-releasing : (r : Router) → IsRouter r → IsRouter (router_releasing r)
-kept-releasing r kept = record { few = kept.few; sorted = kept.sorted; same_ports = kept.same_ports; rows = kept.rows }
 
 -- ---- a prefix that is forgotten
 

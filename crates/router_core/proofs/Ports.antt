@@ -2,7 +2,7 @@
 use Rattle.std.proofs.Common.{refl, sym, ap, ◌∙◌, arith, ◌≡◌, ℕ, ◌+◌, ◌<◌, Bool, true, false, List, [], ◌∷◌, length, drop, Option, Some, None, slice_get, option_map}
 use Rattle.std.proofs.lemmas.List.{drop_more}
 use Rattle.std.proofs.lemmas.Option.{slice_get_within, get_or_from_slice_get, slice_get-get_or}
-use Rattle.network_model.proofs.Common.{option_map_or, length-map, slice_get-map, Machine, changed_at, records_after, reaction, neighbours, map-changed_at, changed_at-map, reaction-keeps}
+use Rattle.network_model.proofs.Common.{option_map_or, length-map, slice_get-map, Machine, records_after, reaction, neighbours, map-changed_at, changed_at-map, reaction-keeps}
 use Rattle.network_model.specs.declared.machine.Event.{Event}
 use Rattle.network_model.specs.declared.machine.Event.TheVariants.{Message, Up, Down, Cost, Attached, Detached}
 use Rattle.network_model.specs.declared.machine.Neighbour.{Neighbour}
@@ -19,16 +19,6 @@ ups-records_after Detached ns = refl
 
 pub ups-reaction : (m : Machine) (e : Event) → ups (reaction m e).machine.ports ≡ ups_after e (ups m.ports)
 ups-reaction m e = ap ups (reaction-keeps m e).ports ∙ ups-records_after e m.ports
-
--- what a router's ports become with an event
-pub ups-come_up : (q session cost : ℕ) (ports : List Port) → port_ups (changed_at q (λ p. record { up = true; session = session; cost = cost }) ports) ≡ changed_at q (λ _. true) (port_ups ports)
-ups-come_up q session cost ports = sym (changed_at-map (λ (p : Port). p.up) (λ p. record { up = true; session = session; cost = cost }) (λ _. true) (λ p. refl) q ports)
-
-pub ups-go_down : (q session : ℕ) (ports : List Port) → port_ups (changed_at q (λ p. record p { up = false; session = session }) ports) ≡ changed_at q (λ _. false) (port_ups ports)
-ups-go_down q session ports = sym (changed_at-map (λ (p : Port). p.up) (λ p. record p { up = false; session = session }) (λ _. false) (λ p. refl) q ports)
-
-pub ups-cost : (q session cost : ℕ) (ports : List Port) → port_ups (changed_at q (λ p. record p { session = session; cost = cost }) ports) ≡ port_ups ports
-ups-cost q session cost ports = map-changed_at _ (λ p. p.up) q ports (λ p _. refl)
 
 -- a machine that opens over the ports has them
 pub ups-neighbours : (ports : List Port) → ups (neighbours ports) ≡ port_ups ports

@@ -1,25 +1,13 @@
 -- A simulation is its course, with the images in force that its world says.
-use Rattle.std.proofs.Common.{refl, sym, ap, ◌∙◌, ◌≡◌, ℕ, List, [], ◌∷◌, ◌++◌, map, length, Some, slice_get}
-use Rattle.no_packet_loops.proofs.Common.{length-map, range_with_len, Router, World, Network, opening, Image, image_answer, Some_injective}
+use Rattle.std.proofs.Common.{refl, sym, ap, ◌∙◌, ◌≡◌, List, [], ◌∷◌, ◌++◌, map}
+use Rattle.no_packet_loops.proofs.Common.{range_with_len, World, Network, opening, Image}
 use Rattle.network_model.specs.declared.step.Step.{Step}
 use Rattle.course.specs.Course.{Course, opening_course, course_after_all}
-use Rattle.course.specs.Images.{image_in_force, images_in_force, chosen_image}
-use Rattle.simulation.specs.Simulation.{Simulation, after_step, after_steps, course_part, opening_simulation, with_images, ForwardsAsPublished, IsSimulation}
-use Rattle.course.proofs.Images.{chosen_published, image_at}
+use Rattle.course.specs.Images.{images_in_force, chosen_image}
+use Rattle.simulation.specs.Simulation.{Simulation, after_step, after_steps, course_part, opening_simulation, with_images, IsSimulation}
+use Rattle.course.proofs.Images.{chosen_published}
 
 -- ---- the images in force
-
--- each has the rows that its router published, and answers as they do
-pub forwards : (s : Simulation) → IsSimulation s → ForwardsAsPublished s
-forwards s kept = record {
-  every_router = ap length kept ∙ length-map s.world.routers image_in_force;
-  rows = λ i r image at here. ap (λ (x : Image). x.rows) (same i r image at here);
-  longest = λ i r image at here addr. ap (λ x. image_answer x addr) (same i r image at here);
-  generation = λ i r image at here. ap (λ (x : Image). x.generation) (same i r image at here);
-}
-  where
-    same : (i : ℕ) (r : Router) (image : Image) → slice_get s.world.routers i ≡ Some r → slice_get s.images i ≡ Some image → image ≡ image_in_force r
-    same i r image at here = Some_injective (sym here ∙ ap (λ xs. slice_get xs i) kept ∙ image_at s.world i r at)
 
 pub images_opened : (n : Network) (w : World) (images : List Image) → w ≡ opening n → images ≡ map chosen_image w.routers → images ≡ images_in_force w
 images_opened n w images opened chosen =

@@ -1,24 +1,15 @@
 -- Packets that are followed along the images in force.
-use Rattle.std.proofs.Common.{refl, sym, ap, subst, ◌∙◌, arith, ◌≡◌, ◌≢◌, ℕ, zero, suc, ◌<◌, ◌≤◌, List, [], ◌∷◌, ◌++◌, append_assoc, length, take, drop, Option, Some, None, option_map, option_and_then, slice_get}
-use Rattle.no_packet_loops.proofs.Common.{slice_get-map, Prefix, Entry, Ending, Router, World, Image, image_answer, longest_match, row_for, entry_leads, Onward, Ends, Goes, by_row, onward, Trace, None_not_Some, Some_injective}
+use Rattle.std.proofs.Common.{refl, sym, ap, subst, ◌∙◌, arith, ◌≡◌, ◌≢◌, ℕ, zero, suc, ◌<◌, ◌≤◌, List, [], ◌∷◌, ◌++◌, append_assoc, length, take, drop, Option, Some, None, option_and_then}
+use Rattle.no_packet_loops.proofs.Common.{Prefix, Entry, Ending, World, row_for, entry_leads, Onward, Ends, Goes, by_row, onward, Trace, None_not_Some}
 use Rattle.no_packet_loops.proofs.Traces.{by_entry-goes}
 use Rattle.network_model.specs.Forwarding.{hop}
 use Rattle.all_packets.specs.Packets.{IsWay, NoPacketCircles}
 use Rattle.all_packets.specs.Through.{through_from}
-use Rattle.course.specs.Images.{image_in_force, images_in_force}
 use Rattle.course.specs.Links.{HasShortWays, LeadsToRouters}
 use Rattle.all_packets.proofs.Through.{onwards, row_ends}
 use Rattle.simulation.specs.Simulation.{Simulation, IsSimulation}
 use Rattle.simulation.proofs.Headline.{along_images}
 use Rattle.simulation.specs.Tracing.{HasImageWays, IsTraced, passed}
-
--- what the image in force at a router answers is the row that the router published
-pub row_is : (w : World) (i addr : ℕ) (images : List Image) (image : Image) → images ≡ images_in_force w → slice_get images i ≡ Some image → image_answer image addr ≡ row_for w i addr
-row_is w i addr images image shown here = by_router (slice_get w.routers i) (sym (slice_get-map image_in_force w.routers i) ∙ ap (λ xs. slice_get xs i) (sym shown) ∙ here)
-  where
-    by_router : (o : Option Router) → option_map image_in_force o ≡ Some image → image_answer image addr ≡ option_and_then (λ (r : Router). longest_match addr (r.table).published) o
-    by_router None at = absurd (None_not_Some at)
-    by_router (Some r) at = ap (λ x. image_answer x addr) (sym (Some_injective at))
 
 -- ---- where a packet goes on, and how it ends
 

@@ -44,13 +44,6 @@ module _ {A : Type 0} where
   get_pushed (z ∷ xs) y zero x at = inl at
   get_pushed (z ∷ xs) y (suc k) x at = get_pushed xs y k x at
 
-  pub listed_pushed : (x : A) (xs : List A) (y : A) → IsListed x (xs ++ y ∷ []) → IsListed x xs ⊎ (y ≡ x)
-  listed_pushed x xs y (k, at) = by_place (get_pushed xs y k x at)
-    where
-      by_place : (slice_get xs k ≡ Some x) ⊎ (y ≡ x) → IsListed x xs ⊎ (y ≡ x)
-      by_place (inl before) = inl (k, before)
-      by_place (inr same) = inr same
-
   -- what holds of each element holds after a push
   pub each_pushed : (P : A → Type 0) (xs : List A) (y : A) → ((k : ℕ) (x : A) → slice_get xs k ≡ Some x → P x) → P y → (k : ℕ) (x : A) → slice_get (xs ++ y ∷ []) k ≡ Some x → P x
   each_pushed P xs y each holds k x at = by_place (get_pushed xs y k x at)
@@ -83,9 +76,6 @@ module _ {A : Type 0} where
 
   pub prefix_same : (xs : List A) → IsPrefix xs xs
   prefix_same xs = ([], append-nil xs)
-
-  pub prefix_longer : (xs ys zs : List A) → IsPrefix xs ys → IsPrefix xs (ys ++ zs)
-  prefix_longer xs ys zs begins = (begins.0 ++ zs, sym (append_assoc xs begins.0 zs) ∙ ap (λ (l : List A). l ++ zs) begins.1)
 
   pub prefix_further : (xs ys zs : List A) → IsPrefix xs ys → IsPrefix ys zs → IsPrefix xs zs
   prefix_further xs ys zs begins more = (begins.0 ++ more.0, sym (append_assoc xs begins.0 more.0) ∙ ap (λ (l : List A). l ++ more.0) begins.1 ∙ more.1)

@@ -57,13 +57,6 @@ module _ (P : World → Type 0) where
       by_rest (inl before) = inl (here, inr before)
       by_rest (inr (begun, over, is)) = inr ((here, inr begun), over, is)
 
-  -- one that still lasts, lasted before
-  lasts_open : (w : World) (es : List Event) (v : World) (e : Event) → Runs w (steps_of es) v → Lasts P None w (es ++ e ∷ []) → Lasts P None w es × P (next v e.step)
-  lasts_open w [] v e same (here, inl (not, is)) = absurd (None_not_Some is)
-  lasts_open w [] v e same (here, inr (holds, is)) = ((here, refl), subst (λ (u : World). P (next u e.step)) same holds)
-  lasts_open w (x ∷ xs) v e runs (here, inl (not, is)) = absurd (None_not_Some is)
-  lasts_open w (x ∷ xs) v e runs (here, inr more) = (let rest = lasts_open (next w x.step) xs v e runs.1 more in ((here, inr rest.0), rest.1))
-
   -- ---- spells
 
   -- what goes on holds now

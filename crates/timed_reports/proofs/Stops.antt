@@ -1,26 +1,15 @@
--- One event, and why it is not done.
-use Rattle.std.proofs.Common.{refl, sym, ap, subst, ◌∙◌, arith, inl, inr, ◌≡◌, ◌⊎◌, ℕ, ◌<◌, ◌≤◌, List, [], ◌∷◌, length, MatchOption, Option, Some, None}
+-- What a run of at most one event has done.
+use Rattle.std.proofs.Common.{sym, ap, subst, ◌∙◌, arith, inl, inr, ◌≡◌, ◌⊎◌, ℕ, ◌<◌, ◌≤◌, List, [], ◌∷◌, length, MatchOption, Option, Some, None}
 use Rattle.no_packet_loops.proofs.Common.{Some_injective}
-use Rattle.network_model.specs.declared.step.Refusal.{Refusal}
 use Rattle.timed_simulation.specs.declared.events.Event.{Event}
 use Rattle.timed_simulation.specs.declared.fault.TimeFault.{TimeFault}
-use Rattle.timed_simulation.specs.declared.fault.TimeFault.TheVariants.{TimeSpent, Refused}
-use Rattle.timed_simulation.specs.Links.{last_moment}
 use Rattle.timed_simulation.specs.Timed.{Timed, after_event}
 use Rattle.timed_simulation.specs.Events.{next_event}
 use Rattle.timed_simulation.specs.Due.{IsDoneUntil}
-use Rattle.timed_simulation.specs.Runs.{IsAtRest, IsNext, IsStoppedAt, IsTimed, IsTimedRun, LeadsTo}
+use Rattle.timed_simulation.specs.Runs.{IsAtRest, IsNext, IsTimed, IsTimedRun, LeadsTo}
 use Rattle.timed_simulation.proofs.Runs.{due_if}
 
 module _ (old : Timed) (e : Event) (next : next_event old ≡ Some e) where
-  -- its moment is the last
-  pub stopped_late : last_moment ≤ e.moment → IsStoppedAt old TimeSpent
-  stopped_late late = record { event = e; next = next; cause = late; own = λ own. tt }
-
-  -- there is no memory
-  pub stopped_full : e.moment < last_moment → IsStoppedAt old (Refused Refusal.NoMemory)
-  stopped_full short = record { event = e; next = next; cause = (short, inl refl); own = λ own. inl refl }
-
   module _ (new : Timed) where
     -- no event was done
     pub done_none : IsTimedRun old new 0 → new ≡ old

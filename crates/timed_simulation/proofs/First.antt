@@ -354,13 +354,6 @@ module _ (t : Timed) (K : IsOnTime (world_of t) t.clock t.links t.routers t.chan
   next_due e is = subst IsDueIf is (due_of_two (change_event t) (soonest (router_event t) (length (world_of t).routers)) change_due
       (due_of_many (router_event t) (length (world_of t).routers) (λ i below. (let R = element_there (world_of t).routers i below in router_due i R.0 R.1))))
 
-  pub none_next : NothingIsDue t → next_event t ≡ None
-  none_next nothing = by_next (next_event t) refl
-    where
-      by_next : (o : Option Event) → next_event t ≡ o → o ≡ None
-      by_next None is = refl
-      by_next (Some e) is = absurd (nothing e (next_due e is))
-
   -- ---- nothing is left out
 
   pub none_left_out : NothingIsLeftOut t

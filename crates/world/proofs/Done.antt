@@ -37,12 +37,6 @@ three_alike : {C D : Type 0} (f : C → D) (x y z : C) (a b c : Bool) → first_
 three_alike f x y z true b c = refl
 three_alike f x y z false b c = two_alike f y z b c
 
--- a cause among the first two is the cause
-first_of_two : {C : Type 0} (x y : C) (a b : Bool) (rest : List (Bool × C)) (e : C) → first_cause ((a, x) ∷ (b, y) ∷ []) ≡ Some e → first_cause ((a, x) ∷ (b, y) ∷ rest) ≡ Some e
-first_of_two x y true b rest e found = found
-first_of_two x y false true rest e found = found
-first_of_two x y false false rest e found = absurd (None_not_Some found)
-
 -- what is refused for its cause is not lawful
 pub not_lawful : {X : Type 0} (o : Option Refusal) (e : Refusal) → o ≡ Some e → o ≡ None → X
 not_lawful o e caused none = absurd (None_not_Some (sym none ∙ caused))
@@ -52,9 +46,6 @@ not_lawful o e caused none = absurd (None_not_Some (sym none ∙ caused))
 -- refused for this cause
 pub refused : (o : Option Refusal) (r : Result (Unit {0}) Refusal) (e : Refusal) → o ≡ Some e → r ≡ Err e → IsDoneOr o r
 refused o r e is answer = subst (λ c. IsDoneOr c r) (sym is) answer
-
-pub no_port-set_cost : (w : World) (i q cost : ℕ) (r : Result (Unit {0}) Refusal) (e : Refusal) → port_refusal w i q ≡ Some e → r ≡ Err e → IsDoneOr (refusal w (SetCost i q cost)) r
-no_port-set_cost w i q cost r e found answer = refused (refusal w (SetCost i q cost)) r e (first_of_two Refusal.UnknownRouter Refusal.UnknownLink (is_none (slice_get w.routers i)) (is_none (link_at w i q)) ((not (is_up (link_at w i q)), Refusal.IsDown) ∷ []) e found) answer
 
 -- a test of what is there fails with one that holds beside it
 beside_true : (a b : Bool) → b ≡ true → (a && b) ≡ a
@@ -70,9 +61,6 @@ item_refusal w i q away =
     (beside_true (is_none (link_at w i q)) (not (is_at_home w i q)) (ap not away))
     ∙ ap (λ b. first_cause ((is_none (slice_get w.routers i), Refusal.UnknownRouter) ∷ (is_none (link_at w i q), Refusal.UnknownLink) ∷ (b, Refusal.NothingToDeliver) ∷ []))
     (beside_true (is_none (front_at w i q)) (is_none (notice_at w i q)) no_notice)
-
-pub no_port-deliver : (w : World) (i q : ℕ) (r : Result (Unit {0}) Refusal) (e : Refusal) → is_at_home w i q ≡ false → port_refusal w i q ≡ Some e → r ≡ Err e → IsDoneOr (refusal w (Deliver i q)) r
-no_port-deliver w i q r e away found answer = refused (refusal w (Deliver i q)) r e (item_refusal w i q away ∙ first_of_two Refusal.UnknownRouter Refusal.UnknownLink (is_none (slice_get w.routers i)) (is_none (link_at w i q)) ((is_none (front_at w i q), Refusal.NothingToDeliver) ∷ []) e found) answer
 
 -- ---- what a step that was done keeps
 

@@ -87,15 +87,9 @@ module _ (limits : Limits) (routers : ℕ) (attachments : List (Prefix × ℕ ×
       ap (attachment_causes limits routers (take i attachments)) (drop-cons attachments i attachment below ∙ ap (λ x. x ∷ drop (suc i) attachments) (sym at))
       ∙ λ j. (is_bad_attachment limits routers (take i attachments) attachment, BadOwner (number j)) ∷ attachment_causes limits routers (more j) (drop (suc i) attachments)
 
-  pub bad_attachment_first : is_bad_attachment limits routers (take i attachments) attachment ≡ true → first_cause (attachment_causes_from limits routers attachments i) ≡ Some (BadOwner i)
-  bad_attachment_first bad = ap first_cause attachment_causes_from-step ∙ ap (λ t. if t then Some (BadOwner i) else first_cause (attachment_causes_from limits routers attachments (suc i))) bad
-
   pub no_attachment_fault : is_bad_attachment limits routers (take i attachments) attachment ≡ false → first_cause (attachment_causes_from limits routers attachments i) ≡ first_cause (attachment_causes_from limits routers attachments (i + 1))
   no_attachment_fault fine = ap first_cause attachment_causes_from-step ∙ ap (λ t. if t then Some (BadOwner i) else first_cause (attachment_causes_from limits routers attachments (suc i))) fine
       ∙ ap (λ n. first_cause (attachment_causes_from limits routers attachments n)) (sym (add-one i))
-
-pub attachment_causes_from-end : (limits : Limits) (routers : ℕ) (attachments : List (Prefix × ℕ × ℕ)) (i : ℕ) → length attachments ≤ i → first_cause (attachment_causes_from limits routers attachments i) ≡ None
-attachment_causes_from-end limits routers attachments i past = ap (λ xs. first_cause (attachment_causes limits routers (take i attachments) xs)) (drop_all i attachments past)
 
 -- ---- the whole network
 

@@ -1,6 +1,6 @@
 -- What a router does next, by the tests of the code.
-use Rattle.std.proofs.Common.{refl, ap, ◌∙◌, arith, ◌≡◌, ℕ, ◌+◌, suc, Bool, true, false, cond, not, ◌&&◌, ◌==◌, if◌then◌else◌, List, [], ◌∷◌, map, length, Option, Some, None, is_some, is_ok, is_none, option_map, option_and_then, slice_get, find, ne_eqb, eq-eqb}
-use Rattle.no_packet_loops.proofs.Common.{range_with_len, position_from, slice_get_within, Held, Item, Notice, Place, Refusal, UnknownRouter, UnknownLink, NothingToDeliver, NothingDue, NothingRipe, Link, Router, Attachments, World, link_at, degree_of, side, first_cause, is_due, ripe_front, front_at, is_at_home, notice_at, has_no_notice, is_lawful, next_step}
+use Rattle.std.proofs.Common.{refl, ap, ◌∙◌, arith, ◌≡◌, ℕ, ◌+◌, suc, Bool, true, false, cond, not, ◌==◌, if◌then◌else◌, List, [], ◌∷◌, map, length, Option, Some, None, is_some, is_ok, is_none, option_map, option_and_then, slice_get, find, ne_eqb, eq-eqb}
+use Rattle.no_packet_loops.proofs.Common.{range_with_len, position_from, slice_get_within, Held, Item, Notice, Place, Refusal, UnknownRouter, UnknownLink, NothingToDeliver, NothingDue, NothingRipe, Link, Router, Attachments, World, side, first_cause, is_due, ripe_front, is_at_home, has_no_notice, is_lawful, next_step}
 use Rattle.std.specs.Option.{option_map_or, ok_or}
 use Rattle.network_model.specs.declared.step.Step.{Step}
 use Rattle.network_model.specs.declared.step.Step.TheVariants.{Deliver, Publish, Release}
@@ -85,11 +85,6 @@ notice-lawful w i r ps there placed =
 
 -- ---- the first that is lawful
 
--- where no element passes, none is found
-find-none : {A B : Type 0} (test : B → Bool) (f : A → B) (xs : List A) → ((x : A) → test (f x) ≡ false) → find test (map f xs) ≡ None
-find-none test f [] fails = refl
-find-none test f (x ∷ xs) fails = ap (λ b. cond b (Some (f x)) (find test (map f xs))) (fails x) ∙ find-none test f xs fails
-
 -- the first place that passes; where none does, the number behind them, if that passes
 abbrev place_or_last : (Place → Bool) → Bool → ℕ → List Place → Option ℕ
 place_or_last test last a ps = option_map_or (λ q. Some q) (position_from test a ps) (if last then Some (a + length ps) else None)
@@ -120,19 +115,6 @@ first_delivery lawful test last i a (p ∷ ps) each behind =
         → cond b (Some (Deliver i a)) later ≡ option_map (λ q. Deliver i q) (option_map_or (λ q. Some q) (cond b (Some a) (position_from test (a + 1) ps)) (if last then Some (a + suc (length ps)) else None))
     by_test true rest = refl
     by_test false rest = rest ∙ ap (λ n. option_map (λ q. Deliver i q) (option_map_or (λ q. Some q) (position_from test (a + 1) ps) (if last then Some n else None))) (next_port (length ps))
-
--- a router that is not there does nothing
-pub next_step-unknown : (w : World) (i : ℕ) → slice_get w.routers i ≡ None → next_step w i ≡ None
-next_step-unknown w i none =
-    ap (λ b. cond b (Some (Release i)) (cond (is_lawful w (Publish i)) (Some (Publish i)) (find (is_lawful w) ports))) (refused_with (is_none (option_and_then ripe_front (slice_get w.routers i)), NothingRipe) [])
-    ∙ ap (λ b. cond b (Some (Publish i)) (find (is_lawful w) ports)) (refused_with (not (option_map_or is_due (slice_get w.routers i) false), NothingDue) [])
-    ∙ find-none (is_lawful w) (λ q. Deliver i q) _ (λ q. refused_with (is_none (link_at w i q) && not (is_at_home w i q), UnknownLink) ((is_none (front_at w i q) && is_none (notice_at w i q), NothingToDeliver) ∷ []))
-  where
-    ports : List Step
-    ports = map (λ q. Deliver i q) (range_with_len 0 (option_map_or (λ d. d + 1) (degree_of w i) 0))
-
-    refused_with : (c : Bool × Refusal) (cs : List (Bool × Refusal)) → is_none (first_cause ((is_none (slice_get w.routers i), UnknownRouter) ∷ c ∷ cs)) ≡ false
-    refused_with c cs = ap (λ (o : Option Router). is_none (first_cause ((is_none o, UnknownRouter) ∷ c ∷ cs))) none
 
 -- a router that is there releases where it can, else publishes where that is due, else takes an item or a notice from its lowest port that has one
 pub next_step-known : (w : World) (i : ℕ) (r : Router) → slice_get w.routers i ≡ Some r
