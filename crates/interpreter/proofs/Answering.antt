@@ -4,21 +4,10 @@ use Rattle.std.proofs.lemmas.Option.{slice_get_within}
 use Rattle.network_model.specs.declared.route.Answer.{Answer}
 use Rattle.network_model.specs.declared.step.Refusal.TheVariants.{UnknownRouter}
 use Rattle.network_model.specs.Publication.{Image, answer_of}
-use Rattle.network_model.specs.World.{Router, World}
 use Rattle.network_model.proofs.ListLaws.{None_not_Some, Some_injective, element_there}
-use Rattle.course.specs.Images.{image_in_force}
-use Rattle.fabric.specs.Images.{answer_at}
 use Rattle.simulation.specs.Simulation.{Simulation, ForwardsAsPublished, answer_at as answer_there}
 use Rattle.lines.specs.Report.{unknown_router}
 use Rattle.interpreter.specs.Nets.{IsAnswer}
-
--- by a fabric's image
-pub answered : (w : World) (router addr : ℕ) (a : Answer) → answer_at w router addr ≡ Some a → IsAnswer w router addr a.matched
-answered w router addr a is = by_router (slice_get w.routers router) refl is
-  where
-    by_router : (o : Option Router) → slice_get w.routers router ≡ o → option_map (λ r. answer_of (image_in_force r) addr) o ≡ Some a → IsAnswer w router addr a.matched
-    by_router None at h = absurd (None_not_Some h)
-    by_router (Some r) at h = (r, at, ap (λ (b : Answer). b.matched) (Some_injective h))
 
 -- by a simulation's image
 module _ (s : Simulation) (forwards : ForwardsAsPublished s) (router addr : ℕ) where

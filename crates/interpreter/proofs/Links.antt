@@ -1,5 +1,5 @@
 -- Links that are put up or down one after another.
-use Rattle.std.proofs.Common.{refl, ◌≡◌, ◌≢◌, ◌⊎◌, inl, inr, ◌∙◌, ℕ, zero, suc, ◌+◌, ◌<◌, Bool, true, false, ◌&&◌, ◌||◌, nat_eq, List, [], ◌∷◌, slice_get, ap, sym, subst, add-one, arith}
+use Rattle.std.proofs.Common.{refl, ◌≡◌, ◌≢◌, ◌⊎◌, inl, inr, ◌∙◌, ℕ, zero, suc, ◌<◌, Bool, true, false, ◌&&◌, ◌||◌, nat_eq, List, [], ◌∷◌, slice_get, ap, arith}
 use Rattle.std.specs.Option.{option_map_or}
 use Rattle.std.proofs.lemmas.Bool.{cases_eq}
 use Rattle.network_model.specs.Machine.{changed_at}
@@ -41,11 +41,6 @@ amiss_after up router n l w where_it_is = ap (λ ks. option_map_or (is_amiss up 
     by_place (inr other) = ap (λ o. option_map_or (is_amiss up router) o false) (slice_get-changed_at_other (put_as up) n l w.links other.0) ∙ other.1
 
 module _ {S : Type 0} (k : Meaning S) (up : Bool) (router : ℕ) where
-  -- one link more
-  pub put_more : (l : ℕ) (f h g : S) (b : Bool) → ArePut k up router l f h → is_amiss_at (k.world h) up router l ≡ b → IsPutWhere k b up l h g → ArePut k up router (l + 1) f g
-  put_more l f h g b before is put_so =
-      subst (λ n. ArePut k up router n f g) (sym (add-one l)) (h, before, subst (λ x. IsPutWhere k x up l h g) (sym is) put_so)
-
   -- after a step of the world
   stepped : (n l : ℕ) (h g : S) → g ≡ k.after h (put up n) → (l ≡ n) ⊎ ((l ≢ n) × (is_amiss_at (k.world h) up router l ≡ false)) → is_amiss_at (k.world g) up router l ≡ false
   stepped n l h g is where_it_is = ap (λ m. is_amiss_at (k.world m) up router l) is ∙ ap (λ (w : World). is_amiss_at w up router l) (k.next_world h (put up n)) ∙ amiss_after up router n l (k.world h) where_it_is

@@ -1,18 +1,12 @@
 -- The lines of a journal, read one after another.
 use Rattle.std.proofs.Common.{◌≡◌, ◌≢◌, ℕ, ◌+◌, List, [], ◌∷◌, ◌++◌, length, codes, decimal, arith, refl, sym, ap, subst, ◌∙◌, inl, inr, false, bytes_eq, append_assoc}
-use Rattle.script.proofs.Common.{decimal_injective, all_zipped_more, Prefix, SpellsPrefix, IsFirstFault, PrefixFault, IsFirstFault-spelled, LinkSpec, Step, LinkUp, LinkDown, SetCost, Deliver, Publish, Release, Attach, Detach, Text, IsCost, NamesTextAndNumber, NamesBadPrefix, AsksStep, AsksBadStep, AsksNoStep, AsksBadCost, lines_of}
+use Rattle.script.proofs.Common.{decimal_injective, all_zipped_more, Prefix, SpellsPrefix, IsFirstFault, PrefixFault, IsFirstFault-spelled, LinkSpec, Step, LinkUp, LinkDown, SetCost, Deliver, Publish, Release, Attach, Detach, Text, IsCost, NamesTextAndNumber, NamesBadPrefix, AsksStep, AsksBadStep, AsksNoStep, AsksBadCost}
 use Rattle.script.specs.declared.fault.LineFault.{LineFault}
 use Rattle.script.specs.declared.fault.LineFault.TheVariants.{BadName, BadLine, BadCost, Prefix as OfPrefix, BadCommand, TooLarge, NoMemory}
 use Rattle.script.proofs.StepTexts.{clash, parts_unique, text_unique}
 use Rattle.journal.specs.declared.read.Version.{Version}
 use Rattle.journal.specs.Steps.{SaysStep}
-use Rattle.journal.specs.Journal.{heading, ending, HasSteps, IsBadAt}
-
--- past the heading
-pub steps_none : (names : List Text) (links : List LinkSpec) (attachments : List (Prefix × ℕ × ℕ)) (text : Text) (version : Version) (steps : List Step) (rest : List Text)
-    → steps ≡ [] → lines_of text ≡ heading version ∷ rest → HasSteps names links attachments text version steps rest
-steps_none names links attachments text version steps rest none headed =
-    subst (λ ss. HasSteps names links attachments text version ss rest) (sym none) (record { after = rest; headed = headed; says = record { said = []; spelled = refl; says = tt } })
+use Rattle.journal.specs.Journal.{ending, HasSteps, IsBadAt}
 
 -- past one step more
 pub steps_more : (names : List Text) (links : List LinkSpec) (attachments : List (Prefix × ℕ × ℕ)) (text : Text) (version : Version) (steps new : List Step) (lines rest : List Text) (line : Text) (s : Step)

@@ -239,10 +239,6 @@ one_marked w s router before after is marked = record {
   one = λ i touched. subst (λ k. RouterMarked k (λ p. may_touch w s p ≡ false) before after) (same_Some router i (sym is ∙ touched)) marked;
 }
 
--- of a step that touches none
-pub none_marked : (w : World) (s : Step) (r : Recorder) → touched_router w s ≡ None → StepMarked w s r r
-none_marked w s r none = record { none = λ _. refl; one = λ i touched. absurd (none-some i (sym none ∙ touched)) }
-
 -- the router of a step is marked, and then its link
 pub step_marks : (w : World) (s : Step) (before mid after : Recorder) → StepMarked w s before mid → LinkMarked (touched_link w s) (cuts s) mid after → MarksTouched w s before after
 step_marks w s before mid after routers links = by_router (touched_router w s) refl

@@ -1,5 +1,5 @@
 -- The room that a run from the opening leaves, and what shows a world.
-use Rattle.std.proofs.Common.{sym, subst, ◌≡◌, ℕ, zero, suc, ◌≤◌, List, [], ◌∷◌, length, take, ◌+◌, ◌-◌, ◌<◌, ◌^◌, arith}
+use Rattle.std.proofs.Common.{sym, subst, ◌≡◌, ℕ, suc, ◌+◌, ◌-◌, ◌<◌, ◌^◌, arith}
 use Rattle.network_model.specs.declared.step.Step.{Step}
 use Rattle.network_model.specs.Step.{next}
 use Rattle.network_model.specs.World.{Network, World, opening}
@@ -24,9 +24,3 @@ shown_current w r shows = record {
       let all = shows.routers i x a b at has book in
       record { router = λ unmarked. all; machines = record { heard = λ j p m there heard unmarked. (all.machines).heard j p m there heard; unheard = (all.machines).unheard } };
 }
-
--- the front of a list is no longer than the list
-pub front_length : {A : Type 0} (n : ℕ) (xs : List A) → length (take n xs) ≤ length xs
-front_length zero xs = omega arith
-front_length (suc n) [] = omega arith
-front_length (suc n) (x ∷ xs) = let shorter = front_length n xs in omega (arith, shorter)

@@ -18,7 +18,7 @@ use Rattle.script.specs.Directories.{Directory}
 use Rattle.journal.specs.Steps.{step_text}
 use Rattle.run_states.specs.declared.recorder.Recorder.{Recorder}
 use Rattle.run_states.specs.Recorders.{ArePrefixesOf, IsBlank, IsRecorderOf, ShowSame}
-use Rattle.run_states.specs.Told.{IsStateLine, IsStatesText, Tell, is_told, moment_told, numbers_from, step_told}
+use Rattle.run_states.specs.Told.{IsStateLine, IsStatesText, Tell, is_told, numbers_from, step_told}
 use Rattle.run_states.specs.Values.{opening_data}
 use Rattle.network_model.proofs.Fronts.{take_next}
 
@@ -49,10 +49,6 @@ first_numbers every last positive =
 -- the text of the step that was done last
 pub said : (d : Directory) (links : List LinkSpec) (steps : List Step) (k : ℕ) (s : Step) → slice_get steps k ≡ Some s → step_told d links steps (k + 1) ≡ Some (step_text d links s)
 said d links steps k s at = ap (step_told d links steps) (add-one k) ∙ ap (option_map (step_text d links)) at
-
--- the moment of the step that was done last
-pub moment_said : (moments : List ℕ) (k : ℕ) → moment_told moments (k + 1) ≡ slice_get moments k
-moment_said moments k = ap (moment_told moments) (add-one k)
 
 -- one step more
 pub ran_on : (n : Network) (steps : List Step) (k : ℕ) (s : Step) (w v : World) → slice_get steps k ≡ Some s → Runs (opening n) (take k steps) w → Lawful w s → v ≡ next w s → Runs (opening n) (take (k + 1) steps) v

@@ -1,6 +1,6 @@
 -- One more line read.
-use Rattle.std.proofs.Common.{◌≡◌, ℕ, ◌+◌, ◌<◌, ◌≤◌, min, inl, inr, List, [], ◌∷◌, ◌++◌, length, get_or, take, Some, String, string_bytes, refl, sym, ap, ◌∙◌, arith, slice_get, None, take_all}
-use Rattle.script.proofs.Common.{cases_lt, take_more, length_push, length-map, slice_get-map, slice_get_read, slice_get_within, get_or_from_slice_get, all_zipped_more, Text, texts, ReadsFirst, StopsHere, IsWhole}
+use Rattle.std.proofs.Common.{◌≡◌, ℕ, ◌+◌, ◌<◌, min, inl, inr, List, [], ◌∷◌, ◌++◌, length, get_or, take, Some, String, string_bytes, refl, sym, ap, ◌∙◌, arith, slice_get, None, take_all}
+use Rattle.script.proofs.Common.{cases_lt, take_more, length_push, slice_get-map, slice_get_read, slice_get_within, get_or_from_slice_get, all_zipped_more, Text, texts, ReadsFirst, StopsHere}
 use Rattle.script.specs.declared.fault.LineFault.{LineFault}
 use Rattle.script.specs.declared.place.Key.{Key}
 use Rattle.script.specs.declared.place.Located.{Located}
@@ -37,9 +37,6 @@ stops_line IsFault key lines items i line text fault at count within is spelled 
   place = place_is;
   stopped = record { line = text; is_line = rw spelled (text_at lines i line within is); has_fault = rw fault_is has_fault; first = count };
 }
-
-pub whole : {X Z : Type 0} (lines : List (String Z)) (items : List X) (i : ℕ) → length items ≡ i → i ≤ length lines → length lines ≤ i → IsWhole (texts lines) items
-whole lines items i count within past = omega (arith, length-map lines string_bytes)
 
 -- the first elements of a list, as many as there are
 pub first_is : {X : Type 0} (xs : List X) (most n : ℕ) → n ≡ min (length xs) most → take n xs ≡ take most xs

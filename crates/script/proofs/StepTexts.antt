@@ -44,15 +44,6 @@ way_unique names links name neighbour i l j m h k =
     let link : l ≡ m = cc in
     (router, link)
 
--- one pair of routers has one link
-pub link_unique : (names : List Text) (links : List LinkSpec) (verb : Text) (words : List Text) (i l j m : ℕ)
-    → NamesLink names links verb words i l → NamesLink names links verb words j m → (i ≡ j) × (l ≡ m)
-link_unique names links verb words i l j m h k =
-    let words : verb ∷ h.name ∷ h.neighbour ∷ [] ≡ verb ∷ k.name ∷ k.neighbour ∷ [] = sym h.spelled ∙ k.spelled in
-    let near : h.name ≡ k.name = cc in
-    let far : h.neighbour ≡ k.neighbour = cc in
-    way_unique names links k.name k.neighbour i l j m (rw (near, far) at h.way) k.way
-
 -- one list of words has one text
 pub text_unique : (names : List Text) (verb : Text) (words : List Text) (i j : ℕ) (s t : Text) → NamesText names verb words i s → NamesText names verb words j t → s ≡ t
 text_unique names verb words i j s t h k =

@@ -1,16 +1,13 @@
 -- Runs in which changes are done, one after another.
-use Rattle.std.proofs.Common.{◌≡◌, ◌≢◌, ℕ, ◌+◌, ◌<◌, ◌≤◌, ◌⊎◌, inl, inr, zero, suc, List, [], ◌∷◌, ◌++◌, drop, get_or, length, Some, unwrap_or, refl, sym, ap, subst, ◌∙◌, arith, Result, Ok, Err, false, OnOk, true≢false}
+use Rattle.std.proofs.Common.{◌≡◌, ℕ, ◌+◌, ◌<◌, ◌≤◌, ◌⊎◌, inl, inr, zero, suc, List, [], ◌∷◌, ◌++◌, drop, get_or, length, Some, unwrap_or, refl, sym, ap, subst, ◌∙◌, arith, Result, Ok, Err, false, OnOk, true≢false}
 use Rattle.std.specs.Bool.{⊤}
 use Rattle.std.specs.Result.{is_err}
-use Rattle.network_model.specs.declared.step.Refusal.{Refusal}
-use Rattle.simulation.specs.Simulation.{simulation_refusal}
 use Rattle.timed_simulation.specs.declared.events.Change.{Change}
 use Rattle.timed_simulation.specs.declared.events.Event.{Event}
-use Rattle.timed_simulation.specs.declared.fault.TimeFault.TheVariants.{Refused}
 use Rattle.timed_simulation.specs.Timed.{Timed, after_event, with_timed_change}
 use Rattle.timed_simulation.specs.Events.{next_event}
 use Rattle.timed_simulation.specs.Due.{IsDue, IsDoneUntil}
-use Rattle.timed_simulation.specs.Runs.{IsNext, IsStoppedAt, IsTimedRun, LeadsTo}
+use Rattle.timed_simulation.specs.Runs.{IsNext, IsTimedRun, LeadsTo}
 use Rattle.timed_simulation.proofs.Runs.{run_more, run_none}
 use Rattle.timed_reports.specs.declared.recording.Recording.{Recording}
 use Rattle.timed_reports.specs.declared.recording.Recording.TheVariants.{On, Off}
@@ -70,15 +67,6 @@ none_done t u n run none = go run.events run.count run.leads
     go : (es : List Event) → length es ≡ n → LeadsTo t es u → u ≡ t
     go [] count leads = sym leads
     go (x ∷ xs) count leads = absurd (omega (arith, count, none))
-
--- why the next event was not done, if it was not for want of memory
-pub refused_as : (t : Timed) (e : Event) (refusal : Refusal) → next_event t ≡ Some e → IsStoppedAt t (Refused refusal) → refusal ≢ Refusal.NoMemory → simulation_refusal t.simulation e.step ≡ Some refusal
-refused_as t e refusal next stopped other =
-    let same : stopped.event ≡ e = ap (λ o. unwrap_or o e) (sym stopped.next ∙ next) in
-    elim (subst (λ (x : Event). (refusal ≡ Refusal.NoMemory) ⊎ (simulation_refusal t.simulation x.step ≡ Some refusal)) same stopped.cause.1) [
-      | inl memory ↦ absurd (other memory)
-      | inr is ↦ is
-    ]
 
 -- ---- changes that are given
 
