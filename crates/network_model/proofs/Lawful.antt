@@ -1,5 +1,5 @@
 -- Lawful steps are those that can be asked and are not refused, and a run that nothing stops is lawful at each step.
-use Rattle.std.proofs.Common.{refl, sym, ap, ◌∙◌, arith, inl, inr, ◌≡◌, ◌⊎◌, Bool, true, false, cond, not, ◌&&◌, if◌then◌else◌, nat_lt, List, [], ◌∷◌, length, Option, Some, None, is_none, slice_get, option_map, option_and_then}
+use Rattle.std.proofs.Common.{refl, sym, ap, ◌∙◌, inl, inr, ◌≡◌, ◌⊎◌, Bool, true, false, cond, not, ◌&&◌, if◌then◌else◌, nat_lt, List, [], ◌∷◌, Option, Some, None, is_none, slice_get, option_map, option_and_then}
 use Rattle.std.specs.List.{AllByRecursion}
 use Rattle.std.specs.Option.{option_map_or}
 use Rattle.std.proofs.Math.Bool.{and-false}
@@ -119,17 +119,6 @@ Lawful_to_refusal w s lawful = none_first (causes w s) (by_step s lawful)
 abbrev pub AllCanBeAsked : List Step → Type 0
 AllCanBeAsked = AllByRecursion CanBeAsked
 
--- a lawful step can be asked
-pub Lawful_to_CanBeAsked : (w : World) (s : Step) → Lawful w s → CanBeAsked s
-Lawful_to_CanBeAsked w (LinkUp l) h = tt
-Lawful_to_CanBeAsked w (LinkDown l) h = tt
-Lawful_to_CanBeAsked w (SetCost i q cost) h = h.5
-Lawful_to_CanBeAsked w (Deliver i q) h = tt
-Lawful_to_CanBeAsked w (Publish i) h = tt
-Lawful_to_CanBeAsked w (Release i) h = tt
-Lawful_to_CanBeAsked w (Attach i p cost) h = h.3
-Lawful_to_CanBeAsked w (Detach i p) h = tt
-
 -- a run that nothing stopped is lawful at each step
 pub run-Runs : (w : World) (ss : List Step) → AllCanBeAsked ss → (run w ss).refused ≡ None → Runs w ss (run w ss).world
 run-Runs w [] asked is = refl
@@ -141,11 +130,3 @@ run-Runs w (s ∷ ss) asked is = by_refusal (run-Runs (next w s) ss asked.1) (re
     by_refusal : ((run (next w s) ss).refused ≡ None → Runs (next w s) ss (run (next w s) ss).world) → (o : Option Refusal) → refusal w s ≡ o → (option_map_or (stopped_at w) o rest).refused ≡ None → Lawful w s × Runs (next w s) ss (option_map_or (stopped_at w) o rest).world
     by_refusal onward None none h = (refusal_to_Lawful w s asked.0 none, onward h)
     by_refusal onward (Some c) some h = absurd (None_not_Some (sym h))
-
--- and the other way round: steps that are lawful, each where it is done, are all done
-pub Runs-run : (w : World) (ss : List Step) (v : World) → Runs w ss v → run w ss ≡ record { done = length ss; world = v; refused = None }
-Runs-run w [] v same = λ i. record { done = 0; world = same i; refused = None }
-Runs-run w (s ∷ ss) v r =
-    ap (λ o. option_map_or (stopped_at w) o (one_more (run (next w s) ss))) (Lawful_to_refusal w s r.0)
-    ∙ ap one_more (Runs-run (next w s) ss v r.1)
-    ∙ ap (λ n. record { done = n; world = v; refused = None }) (omega arith)

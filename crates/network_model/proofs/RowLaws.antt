@@ -62,11 +62,6 @@ pub sorted-rows_of : {X : Type 0} (rs : List (Prefix × X)) → is_sorted prefix
 sorted-rows_of [] = refl
 sorted-rows_of (r ∷ rs) = sorted-put (rows_of rs) r.0 r.1 (sorted-rows_of rs)
 
--- changed, they are the changed values at their prefixes
-pub map-rows_of : {X Y : Type 0} (f : X → Y) (rs : List (Prefix × X)) → map (λ e. (e.0, f e.1)) (rows_of rs) ≡ rows_of (map (λ e. (e.0, f e.1)) rs)
-map-rows_of f [] = refl
-map-rows_of f (r ∷ rs) = map-put prefix_cmp f r.0 r.1 (rows_of rs) ∙ ap (put prefix_cmp r.0 (f r.1)) (map-rows_of f rs)
-
 -- ---- rows set in order
 
 -- a key before all rows is before a later one
