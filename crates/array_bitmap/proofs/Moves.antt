@@ -273,9 +273,6 @@ module _ (c : Cells) (heap1 : ℕ → Option (List ℕ)) (tops2 : ℕ → ℕ) (
       long_miss p down rest low small out =
           word_in c2 p down rest small ∙ by (cases_eq (block_at c p down) j) (cases_eq (row_bit (five_bits p (c.first + down)) rest) bit) ∙ sym (word_in c p down rest small)
         where
-          five : ℕ
-          five = five_bits p (c.first + down)
-
           same_row : block_at c p down ≡ j → row_bit (five_bits p (c.first + down)) rest ≡ bit → ⊥
           same_row e f =
               let w = walk_unique c sound p path down steps (omega (arith, low)) (λ z. real (sym e ∙ z)) (e ∙ sym there) in

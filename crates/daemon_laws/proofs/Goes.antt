@@ -116,9 +116,6 @@ goes_took p q item r r' sound T = record {
 pub goes_home : (p : Prefix) (r : Router) (q : ℕ) (w : Notice) → RouterKept p r → IsSound (machine_of r p) → ((c : ℕ) → w.cost ≡ Some c → 0 < c) → ((c : ℕ) → w.cost ≡ Some c → c ≤ greatest_cost) → Goes p r (router_at_home w r) q nothing
 goes_home p r q w R sound positive small = by_prefix (prefix_eq p w.prefix) refl
   where
-    r' : Router
-    r' = router_at_home w r
-
     by_prefix : (b : Bool) → prefix_eq p w.prefix ≡ b → Goes p r (router_at_home w r) q nothing
     by_prefix true same =
         let M = met_home p r R w same in

@@ -129,12 +129,6 @@ rows_without : (p : Prefix) (published xs : List (Prefix × Entry)) → length (
 rows_without p published [] = omega arith
 rows_without p published (x ∷ xs) = by_key (prefix_eq p x.0) refl (rows_without p published xs)
   where
-    now : Prefix × Entry → Bool
-    now r = not (has_row (without p published) r)
-
-    was : Prefix × Entry → Bool
-    was r = not (has_row published r)
-
     kept : (a : Bool) → length (filter (λ r. not (has_row (without p published) r)) (without p xs)) ≤ length (filter (λ r. not (has_row published r)) xs)
         → length (cond a (x ∷ filter (λ r. not (has_row (without p published) r)) (without p xs)) (filter (λ r. not (has_row (without p published) r)) (without p xs))) ≤ length (cond a (x ∷ filter (λ r. not (has_row published r)) xs) (filter (λ r. not (has_row published r)) xs))
     kept true rest = omega (arith, rest)
