@@ -54,7 +54,7 @@ module _ (w : World) (addr : ℕ) where
       by_onward (Goes q j) way = (goes, way)
 
   -- the path of a trace through is a way
-  is_way : (n i : ℕ) → IsWay w addr (through_from n w addr i).path
+  pub is_way : (n i : ℕ) → IsWay w addr (through_from n w addr i).path
   is_way zero i = tt
   is_way (suc n) i = by_onward (onward w addr None i) refl (is_way n)
     where
@@ -63,11 +63,11 @@ module _ (w : World) (addr : ℕ) where
       by_onward (Goes q k) is rest = ahead n i k (row_leads w i (row_for w i addr) q k is) (rest k)
 
   -- a way of n routers more
-  abbrev Long : ℕ → ℕ → Type 0
+  abbrev pub Long : ℕ → ℕ → Type 0
   Long n i = (ks : List ℕ) × (length ks ≡ n) × IsWay w addr (i ∷ ks)
 
   -- a trace that is left unfinished after n routers is such a way
-  long : (n i : ℕ) → (through_from n w addr i).end ≡ None → Long n i
+  pub long : (n i : ℕ) → (through_from n w addr i).end ≡ None → Long n i
   long zero i h = ([], refl, tt)
   long (suc n) i h = by_onward (onward w addr None i) refl h (long n)
     where

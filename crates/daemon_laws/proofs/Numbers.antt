@@ -39,7 +39,7 @@ ports_stay i f rs same e = by_test (e.router == i)
     by_test false = refl
 
 -- a router that forgets keeps its ports
-forgotten_ports : (k : Prefix) (r : Router) → (forgotten k r).ports ≡ r.ports
+pub forgotten_ports : (k : Prefix) (r : Router) → (forgotten k r).ports ≡ r.ports
 forgotten_ports k r = by_test (may_forget k r)
   where
     by_test : (b : Bool) → (if b then router_forgetting k r else r).ports ≡ r.ports

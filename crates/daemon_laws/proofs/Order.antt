@@ -14,14 +14,14 @@ use Rattle.daemon_laws.specs.Happenings.{Happening, Tells, Takes, Loses, Publish
 use Rattle.daemon_laws.specs.Facts.{fds_next, fds_after}
 use Rattle.daemon_laws.proofs.Cases.{after_message, by_take, by_release}
 use Rattle.daemon_laws.proofs.Seen.{is_port_in}
-use Rattle.daemon_laws.proofs.Moving.{in_session}
+use Rattle.daemon_laws.proofs.Moving.{in_session, hop_same as hop_from}
 use Rattle.daemon_laws.proofs.Invariant.{router_at, session_of, Invariant, Placed}
 use Rattle.daemon_laws.proofs.Meeting.{GoesAt, may_before}
 use Rattle.daemon_laws.proofs.InForce.{Ends, AsChosen, AsBefore, PutsInForce}
 use Rattle.daemon_laws.proofs.Releasing.{as_carried, Sent, OnItsWay, Lost}
 use Rattle.no_packet_loops.proofs.Releasing.{front_of, ripe_front_is}
 use Rattle.daemon_laws.proofs.Beginning.{Made, made}
-use Rattle.daemon_laws.proofs.Orderly.{CarriedPast, HeldPast, carried_later, carried_append, carried_drop, carried_first, held_later, held_append, held_drop, held_take, stamped_past, HoldsMore, told_more, Shows, Orderly, hop_from}
+use Rattle.daemon_laws.proofs.Orderly.{CarriedPast, HeldPast, carried_later, carried_append, carried_drop, carried_first, held_later, held_append, held_drop, held_take, stamped_past, HoldsMore, told_more, Shows, Orderly}
 use Rattle.c_interface.specs.declared.fault.CallFault.{CallFault}
 use Rattle.c_interface.specs.Faults.{first_of}
 use Rattle.network_model.specs.declared.item.Message.{Message}

@@ -1,6 +1,6 @@
 -- Once nothing happens any more but what happens alone, processes that lose nothing end where each router has its best row.
-use Rattle.std.proofs.Common.{refl, sym, ap, ◌∙◌, inl, inr, ◌≡◌, ◌⊎◌, ℕ, Bool, true, false, ◌&&◌, ◌||◌, ◌==◌, List, [], ◌∷◌, slice_get}
-use Rattle.no_packet_loops.proofs.Common.{option_map_or, false≢true, Port, Topology, LinkEnd}
+use Rattle.std.proofs.Common.{refl, sym, ap, ◌∙◌, inl, inr, ◌≡◌, ◌⊎◌, ℕ, Bool, false, ◌&&◌, ◌||◌, ◌==◌, List, [], ◌∷◌, slice_get}
+use Rattle.no_packet_loops.proofs.Common.{option_map_or, false≢true, Port, Topology, LinkEnd, or_parts}
 use Rattle.network_model.proofs.Common.{both_ways, cases_Bool, true_from_ne_false}
 use Rattle.coming_to_rest.specs.Rest.{IsFinite}
 use Rattle.coming_to_rest.proofs.Bounds.{IsIn, find_one}
@@ -76,11 +76,6 @@ left n w h = elim (either n w h) [
   | inr not ↦ inr (λ (a, keeps). not a)
 ]
 
--- where neither of two is true the first is not
-loses_none : (a b : Bool) → (a || b) ≡ false → a ≡ false
-loses_none true b h = h
-loses_none false b h = refl
-
 -- what comes to rest leads to where nothing is left
 leads : (t : Topology) (F : IsFinite t) (w : Processes) → Kept t w → ProcessesComeToRest t F.routers w → Leads t F.routers w
 unfolding Leads
@@ -89,7 +84,7 @@ leads t F w K (rests _ close) = by_search (λ h alone. leads t F (after_happenin
     by_search : ((h : Happening) → HappensAlone F.routers w h → (hs : List Happening) × AllAlone t F.routers (after_happening t w h) hs × LosesNone hs × NothingLeft F.routers (after_happenings t (after_happening t w h) hs))
         → ((h : Happening) × IsLeft F.routers w h) ⊎ ((h : Happening) → IsIn h (candidates t F w K) → IsLeft F.routers w h → ⊥)
         → (hs : List Happening) × AllAlone t F.routers w hs × LosesNone hs × NothingLeft F.routers (after_happenings t w hs)
-    by_search onward (inl (h, (alone, keeps))) = let (hs, all, none, done) = onward h alone in (h ∷ hs, (alone, all), (loses_none (is_loss h) (forgets h) keeps, none), done)
+    by_search onward (inl (h, (alone, keeps))) = let (hs, all, none, done) = onward h alone in (h ∷ hs, (alone, all), ((or_parts (is_loss h) (forgets h) keeps).0, none), done)
     by_search onward (inr none) = ([], tt, tt, λ h alone. true_from_ne_false (is_loss h || forgets h) (λ keeps. none h (candidate t F w K h alone) (alone, keeps)))
 
 -- ---- all

@@ -1,6 +1,6 @@
 -- What each thing that still happens does to what one prefix sees: nothing counts more, or a message makes it fall.
 use Rattle.std.proofs.Common.{refl, sym, ap, subst, ◌∙◌, arith, inl, inr, ◌≡◌, ◌≢◌, ℕ, ◌<◌, ◌≤◌, Bool, true, false, ◌&&◌, ◌==◌, if◌then◌else◌, List, [], ◌∷◌, ◌++◌, Option, Some, None, option_map, slice_get, append-nil, eq-eqb, ne_eqb}
-use Rattle.no_packet_loops.proofs.Common.{option_map_or, and_from, and_right, and_left, Prefix, prefix_eq, Item, Held, Port, Router, Machine, Neighbour, Event, changed_at, test_at, slice_get-changed_at, slice_get-changed_at_other, machine_of, reaction, session_at, router_accepting, router_publishing, router_releasing, ripe_front, next_hop_at, is_kept, held_as, kept, ripe_of, unripe_of, msg_of, sent_to, held_for, IsSound, Reported, Topology, LinkEnd, at_port, place_cases}
+use Rattle.no_packet_loops.proofs.Common.{option_map_or, and_from, and_right, and_left, Prefix, prefix_eq, Item, Held, Port, Router, Machine, Neighbour, Event, changed_at, test_at, slice_get-changed_at, slice_get-changed_at_other, machine_of, reaction, session_at, router_accepting, router_publishing, router_releasing, ripe_front, next_hop_at, is_kept, held_as, kept, ripe_of, unripe_of, msg_of, sent_to, held_for, IsSound, Reported, Topology, LinkEnd, at_port, place_cases, eqb_sym}
 use Rattle.network_model.proofs.Common.{cases_eq, both_ways, SeenHeld, Report, infinity}
 use Rattle.loop_freedom.specs.Facts.{messages}
 use Rattle.loop_freedom.specs.Network.{Publish as NetPublish, Release as NetRelease}
@@ -296,13 +296,6 @@ pub record ReleasesOne (t : Topology) (w v : Processes) : Type 0 where
   pub routers_elsewhere : (j : ℕ) → j ≢ i → v.routers j ≡ w.routers j
   pub coming_is : (e : LinkEnd) → v.coming e ≡ sent_from t w (at_port i h.port) h e
 
--- two numbers are one, either way
-eqb_other : (a b : ℕ) → (a == b) ≡ (b == a)
-eqb_other a b = elim (cases_eq a b) [
-  | inl e ↦ eq-eqb a b e ∙ sym (eq-eqb b a (sym e))
-  | inr d ↦ ne_eqb a b d ∙ sym (ne_eqb b a (λ e. d (sym e)))
-]
-
 module _ (t : Topology) (F : IsFinite t) (p : Prefix) (w v : Processes) (R : ReleasesOne t w v) where
   -- the end from which it goes
   abbrev a : LinkEnd
@@ -387,7 +380,7 @@ module _ (t : Topology) (F : IsFinite t) (p : Prefix) (w v : Processes) (R : Rel
         where
           by_port : (o : Option Port) → option_map_or (λ (x : Port). x.up && (x.session == (R.h).session)) o false ≡ (option_map_or (λ (x : Port). x.up) o false && ((R.h).session == option_map_or (λ (x : Port). x.session) o 0))
           by_port None = refl
-          by_port (Some x) = ap (λ b. x.up && b) (eqb_other x.session (R.h).session)
+          by_port (Some x) = ap (λ b. x.up && b) (eqb_sym x.session (R.h).session)
 
       -- what is on its way then
       arrives : (b : Bool) → reported (carried p ((if b then with_coming (t.far a) (λ cs. cs ++ as_carried R.h ∷ []) w.coming else w.coming) (t.far a))) ≡ reported (carried p (w.coming (t.far a))) ++ (if b then Reported (msg_of (R.h).message) ∷ [] else [])

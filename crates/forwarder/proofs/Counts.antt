@@ -2,6 +2,7 @@
 use Rattle.std.proofs.Common.{◌≡◌, ◌≢◌, ℕ, zero, suc, ◌+◌, ◌<◌, ◌≤◌, Bool, true, false, cond, ◌==◌, ◌||◌, ◌&&◌, List, [], ◌∷◌, ◌++◌, length, map, slice_index, slice_index_or, All, IsPermutation, count_by, if◌then◌else◌, Option, Some, None, refl, append_assoc, add-one, arith, append-nil, eqb-true, eq-eqb}
 use Rattle.std.specs.List.{list_any, list_all}
 use Rattle.std.specs.List.Sorted.{IsNonDecreasingBy, IsStrictlyIncreasing}
+use Rattle.std.proofs.lemmas.Bool.{or_parts}
 use Rattle.std.proofs.lemmas.List.Sums.{sum_by-cons, sum_by_push, AllPass-from_list_all}
 use Rattle.std.proofs.lemmas.List.Sorted.{sum_by-IsPermutation, All-permutation}
 use Rattle.publication.specs.declared.job.Job.{Job}
@@ -12,10 +13,6 @@ use Rattle.forwarder.specs.Gathering.{is_reply_to, job_number, fault_at, earlier
 
 abbrev bit : Bool → ℕ
 bit b = cond b 1 0
-
-or_false : (a b : Bool) → (a || b) ≡ false → (a ≡ false) × (b ≡ false)
-or_false true b e = absurd (cc)
-or_false false b e = (refl, e)
 
 and_left : (a b : Bool) → (a && b) ≡ true → a ≡ true
 and_left true b e = refl
@@ -49,7 +46,7 @@ module _ {X : Type 0} where
   none_counts : (p : Replied X → Bool) (rs : List (Replied X)) → list_any p rs ≡ false → count_by p rs ≡ 0
   none_counts p [] e = refl
   none_counts p (x ∷ xs) e =
-      let o = or_false (p x) (list_any p xs) e in
+      let o = or_parts (p x) (list_any p xs) e in
       let i = none_counts p xs o.1 in
       let h : bit (p x) ≡ 0 = rw o.0 in
       omega (arith, sum_by-cons (λ y. cond (p y) 1 0) x xs)

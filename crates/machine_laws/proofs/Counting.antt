@@ -10,7 +10,7 @@ use Rattle.machine_laws.proofs.Events.{is_port-Some, replied_by, released_by}
 use Rattle.machine_laws.proofs.Outcomes.{Account, Outcome, came_up, goes_on, settles, asks, is_alone, outcome, active_awaits, awaited_kept, test_nowhere, waiting, awaited_after_is}
 
 -- two truth values that follow from each other are the same
-same_truth : (a b : Bool) → (a ≡ true → b ≡ true) → (b ≡ true → a ≡ true) → a ≡ b
+pub same_truth : (a b : Bool) → (a ≡ true → b ≡ true) → (b ≡ true → a ≡ true) → a ≡ b
 same_truth true b f g = sym (f refl)
 same_truth false true f g = g refl
 same_truth false false f g = refl

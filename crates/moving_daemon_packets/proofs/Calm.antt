@@ -3,10 +3,10 @@ use Rattle.std.proofs.Common.{refl, sym, ap, subst, ◌∙◌, inl, inr, ◌<◌
 use Rattle.std.specs.FinMap.{find as row_of}
 use Rattle.std.specs.FinMap.Entries.{is_sorted}
 use Rattle.ipv4_prefix.proofs.LongestMatches.{longest_match-found}
-use Rattle.no_packet_loops.proofs.Common.{prefix_eq, Prefix, prefix_cmp, covers, infinity, Entry, Topology, Some_injective}
+use Rattle.no_packet_loops.proofs.Common.{prefix_eq, Prefix, prefix_cmp, covers, infinity, Entry, Topology, Some_injective, or_parts}
 use Rattle.no_packet_loops.proofs.Walks.{match_is_row}
 use Rattle.all_packets.proofs.Matches.{GoesBefore, found}
-use Rattle.moving_packets.proofs.Returns.{no_or, IsLow, stays_low as low_next, IsOn, Descends, first_on, goes_on, comes_back}
+use Rattle.moving_packets.proofs.Returns.{IsLow, stays_low as low_next, IsOn, Descends, first_on, goes_on, comes_back}
 use Rattle.daemon_laws.specs.Processes.{Processes}
 use Rattle.daemon_laws.specs.Packets.{rows_in_force, session_leads, unmarked_leads}
 use Rattle.daemon_laws.specs.Happenings.{Happening, Tells, Takes, Loses, Publishes, PublishesSome, Forgets, Releases, BeginsAnew, CanHappen, MayRewire, AreReached}
@@ -66,7 +66,7 @@ stays_or_chosen m (BeginsAnew i costs attachments) p k keeps = inl (ap (λ b. if
 stays_low : (m : Moment) (h : Happening) (p : Prefix) (risen : Bool) (k g : ℕ) → ((risen || loses_all k h) && published_rises m h p k) ≡ false → IsLow (m.fd_published p k) (moment_fd m p k) risen g
     → IsLow ((moment_next m h).fd_published p k) (moment_fd (moment_next m h) p k) (risen || happening_raises m h p k) g
 stays_low m h p risen k g = low_next (m.fd_published p k) (moment_fd m p k) ((moment_next m h).fd_published p k) (moment_fd (moment_next m h) p k) risen (risen || loses_all k h) g
-    (λ e. (let none = no_or risen (loses_all k h) e in (none.0, stays_or_chosen m h p k none.1)))
+    (λ e. (let none = or_parts risen (loses_all k h) e in (none.0, stays_or_chosen m h p k none.1)))
 
 -- entries lead on to routers in the session of the row
 abbrev pub Sound : LeadsOn → Type 0

@@ -3,7 +3,7 @@ use Rattle.std.proofs.Common.{refl, sym, ap, subst, ◌∙◌, inl, inr, arith, 
 use Rattle.no_packet_loops.proofs.Common.{option_map_or, false≢true, and_parts, and_from, Prefix, Via, Port, Router, Topology, LinkEnd, at_port, None_not_Some, session_at, next_hop, next_hop_at, is_next_hop, router_publishing, router_releasing}
 use Rattle.network_model.specs.Machine.{changed_at}
 use Rattle.network_model.proofs.Common.{cases_eq}
-use Rattle.router_core.specs.Alone.{router_publishing_some, may_forget, router_forgetting}
+use Rattle.router_core.specs.Alone.{router_publishing_some}
 use Rattle.single_router.specs.declared.input.Input.{Input}
 use Rattle.single_router.specs.declared.input.Input.TheVariants as input
 use Rattle.single_router.specs.Inputs.{told_fault, router_after}
@@ -13,6 +13,7 @@ use Rattle.daemon_laws.specs.Packets.{is_in_session, session_leads, lets_in}
 use Rattle.daemon_laws.specs.Happenings.{Happening, Tells, Takes, Loses, Publishes, PublishesSome, Forgets, Releases, BeginsAnew, CanHappen, with_process, told_router, forgotten, after_happening, link_stays, MayRewire}
 use Rattle.daemon_laws.proofs.Anew.{Anew, Here, Across, Away, anew_at}
 use Rattle.daemon_laws.proofs.Cases.{by_take, by_release}
+use Rattle.daemon_laws.proofs.Numbers.{forgotten_ports}
 use Rattle.daemon_laws.proofs.Rewiring.{Stays, stays_far, stays_at, same_at}
 use Rattle.daemon_laws.proofs.Steps.{router_here, router_away}
 use Rattle.daemon_laws.proofs.Walks.{row_reached, let_in}
@@ -74,14 +75,6 @@ told_in i r q session = by_fault (is_none (told_fault i r))
 
 -- ---- one happening
 
--- a router that forgets keeps its ports
-forgotten_in : (p : Prefix) (r : Router) → (forgotten p r).ports ≡ r.ports
-forgotten_in p r = by_test (may_forget p r)
-  where
-    by_test : (b : Bool) → (if b then router_forgetting p r else r).ports ≡ r.ports
-    by_test true = refl
-    by_test false = refl
-
 module _ (t : Topology) (w : Processes) (f : LinkEnd) (session : ℕ) where
   -- where one router is changed that keeps its ports, the router at an end is in the sessions that it was in
   changed_in : (j : ℕ) (g : Router → Router) → ((r : Router) → (g r).ports ≡ r.ports) → is_up_in (with_process j g w.routers f.router).ports f.port session ≡ true → is_in_session w f session ≡ true
@@ -118,7 +111,7 @@ module _ (t : Topology) (w : Processes) (f : LinkEnd) (session : ℕ) where
   was_in (Loses e) can stays h = inl h
   was_in (Publishes i) can stays h = inl (changed_in i router_publishing (λ r. refl) h)
   was_in (PublishesSome i n) can stays h = inl (changed_in i (router_publishing_some n) (λ r. refl) h)
-  was_in (Forgets i p) can stays h = inl (changed_in i (forgotten p) (forgotten_in p) h)
+  was_in (Forgets i p) can stays h = inl (changed_in i (forgotten p) (forgotten_ports p) h)
   was_in (Releases i) can stays is = by_release t w (λ v. is_in_session v f session ≡ true → (is_in_session w f session ≡ true) ⊎ (w.last f < session)) (λ h. inl h) i
       (λ x at h. inl (changed_in i router_releasing (λ r. refl) h)) is
   was_in (BeginsAnew i costs attachments) can stays h =

@@ -1,7 +1,7 @@
 -- A router that publishes nothing keeps its published rows and feasible distances: so a packet that stays near does not come back to it.
 use Rattle.std.proofs.Common.{refl, ap, arith, ◌≤◌, ◌≡◌, ℕ, ◌+◌, Bool, true, false, ◌&&◌, ◌==◌, if◌then◌else◌, List, [], ◌∷◌, take, is_none}
 use Rattle.std.specs.FinMap.{find as row_of}
-use Rattle.no_packet_loops.proofs.Common.{Prefix, prefix_cmp, prefix_eq, infinity, Router, router_publishing, router_releasing}
+use Rattle.no_packet_loops.proofs.Common.{Prefix, prefix_cmp, prefix_eq, infinity, Router, router_publishing, router_releasing, or_parts}
 use Rattle.network_model.specs.Step.{changed_rows}
 use Rattle.network_model.specs.World.{machine_of}
 use Rattle.router_core.specs.Alone.{may_forget, router_publishing_some}
@@ -14,7 +14,7 @@ use Rattle.daemon_laws.specs.Facts.{fd_then}
 use Rattle.daemon_laws.specs.Happenings.{Happening, Tells, Takes, Loses, Publishes, PublishesSome, Forgets, Releases, BeginsAnew, with_process, told_router, forgotten}
 use Rattle.daemon_laws.specs.Rest.{entry_in_force}
 use Rattle.daemon_laws.proofs.Cases.{by_take, by_release}
-use Rattle.moving_packets.proofs.Returns.{no_or, SameShown, shows_same, none_better, Where, spare, leaves, hop_counts, wait_counts, count_hop, count_wait}
+use Rattle.moving_packets.proofs.Returns.{SameShown, shows_same, none_better, Where, spare, leaves, hop_counts, wait_counts, count_hop, count_wait}
 use Rattle.moving_daemon_packets.specs.Moving.{Moment, moment_next, moment_rewired, HoldsAtEveryMoment, DaemonEvent, Goes, Does, Rewires, moment_after, LeadsOn, StaysNearAtDaemons, happening_publishes, publishes_meanwhile, ComesBackOncePublishedAtDaemons, visits_meanwhile, publications_meanwhile, ComesBackSeldomAtDaemons}
 use Rattle.moving_daemon_packets.proofs.Calm.{IsKept, kept_next, kept_rewired, Sound, descends, for_better, marked, unmarked_is, now, kept}
 
@@ -80,7 +80,7 @@ same_shown : (m : Moment) (i : ℕ) (es : List DaemonEvent) → publishes_meanwh
 same_shown m i [] quiet = record { rows = λ q. refl; fds = λ q. refl }
 same_shown m i (Goes l ∷ es) quiet = same_shown m i es quiet
 same_shown m i (Does h ∷ es) quiet =
-    let none = no_or (happening_publishes i h) (publishes_meanwhile i es) quiet in
+    let none = or_parts (happening_publishes i h) (publishes_meanwhile i es) quiet in
     shows_same i m (moment_next m h) (moment_after (moment_next m h) es) (same_step m h i none.0) (same_shown (moment_next m h) i es none.1)
 same_shown m i (Rewires t ∷ es) quiet =
     let rest = same_shown (moment_rewired m t) i es quiet in

@@ -1,13 +1,9 @@
 -- When a packet comes back to a router, whatever its moments are: after steps of a network, or after what happens among processes.
 use Rattle.std.proofs.Common.{refl, sym, ap, subst, ◌∙◌, inl, inr, arith, ◌<◌, ◌≤◌, ◌≡◌, ◌≢◌, ◌⊎◌, ℕ, suc, ◌+◌, Bool, true, false, ◌&&◌, ◌||◌, ◌==◌, nat_lt, if◌then◌else◌, Option, Some, None, IsSome, eqb-true}
 use Rattle.std.proofs.lemmas.Bool.{ltb-true, ltb-false}
-use Rattle.no_packet_loops.proofs.Common.{false≢true, Prefix, covers, infinity, Entry}
+use Rattle.no_packet_loops.proofs.Common.{false≢true, Prefix, covers, infinity, Entry, or_parts}
 use Rattle.all_packets.proofs.Matches.{GoesBefore}
 use Rattle.moving_packets.specs.Moving.{IsBetter}
-
-pub no_or : (a b : Bool) → (a || b) ≡ false → (a ≡ false) × (b ≡ false)
-no_or true b e = absurd (false≢true (sym e))
-no_or false b e = (refl, e)
 
 -- ---- a router where a packet is
 
@@ -22,7 +18,7 @@ pub stays_low : (shown now shown' now' : ℕ) (risen may : Bool) (g : ℕ) → (
 stays_low shown now shown' now' risen may g same calm W = record {
   published = by_rise may refl calm;
   chosen = λ e. (
-      let none = no_or risen (nat_lt now now') e in
+      let none = or_parts risen (nat_lt now now') e in
       let le = ltb-false now now' none.1 in
       let lt = W.chosen none.0 in
       omega (arith, le, lt));
@@ -242,7 +238,7 @@ module _ {M : Type 0} {kept : M → Type 0} {fd : M → Prefix → ℕ → ℕ} 
         left_by = A.left_by;
         on = A.on;
         published = A.published || b;
-        same = λ e. (let none = no_or A.published b e in shows_same i A.then_was m m' (A.same none.0) (same none.1));
+        same = λ e. (let none = or_parts A.published b e in shows_same i A.then_was m m' (A.same none.0) (same none.1));
       }
 
       by_kind : (c d : Bool) → (if c || d then 1 else 0) ≤ (if c then 1 else 0) + (if d then 1 else 0)

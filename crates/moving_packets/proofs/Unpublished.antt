@@ -1,7 +1,7 @@
 -- A router that publishes nothing keeps its published rows and feasible distances: so a packet that stays near does not come back to it.
 use Rattle.std.proofs.Common.{refl, sym, ap, ◌∙◌, inl, inr, arith, ◌≤◌, ◌≡◌, ℕ, ◌+◌, Bool, true, false, ◌==◌, List, [], ◌∷◌, Option, Some, None, slice_get, option_and_then, eq-eqb}
 use Rattle.std.specs.FinMap.{find as row_of}
-use Rattle.no_packet_loops.proofs.Common.{option_map_or, cases_eq, false≢true, Prefix, prefix_cmp, Entry, Router, World, Item, changed_link, router_publishing, router_releasing, router_accepting, router_at_home, with_cost, with_front_taken, with_message, with_delivered, with_noticed, with_released, front_at, notice_at, release_at, Lawful, next, History, history, with_step, option_map_or-ind, routers-changed_link}
+use Rattle.no_packet_loops.proofs.Common.{option_map_or, cases_eq, false≢true, Prefix, prefix_cmp, Entry, Router, World, Item, changed_link, router_publishing, router_releasing, router_accepting, router_at_home, with_cost, with_front_taken, with_message, with_delivered, with_noticed, with_released, front_at, notice_at, release_at, Lawful, next, History, history, with_step, option_map_or-ind, routers-changed_link, or_parts}
 use Rattle.network_model.specs.declared.step.Step.{Step}
 use Rattle.network_model.specs.declared.step.Step.TheVariants.{LinkUp, LinkDown, SetCost, Deliver, Publish, Release, Attach, Detach}
 use Rattle.no_packet_loops.specs.Packets.{published_entry}
@@ -10,7 +10,7 @@ use Rattle.all_packets.specs.Journeys.{Event, Goes, Does}
 use Rattle.moving_packets.specs.Moving.{HoldsAfterEveryRun, fd_published, history_after, StaysNear, publishes, has_published, ComesBackOncePublished, visits, publications, ComesBackSeldom}
 use Rattle.moving_packets.proofs.Rises.{same_published}
 use Rattle.moving_packets.proofs.Reached.{IsMade, made, made_more}
-use Rattle.moving_packets.proofs.Returns.{no_or, SameShown, shows_same, none_better, Where, spare, leaves, hop_counts, wait_counts, count_hop, count_wait}
+use Rattle.moving_packets.proofs.Returns.{SameShown, shows_same, none_better, Where, spare, leaves, hop_counts, wait_counts, count_hop, count_wait}
 use Rattle.moving_packets.proofs.Calm.{descends, always_for_better}
 
 -- the published rows of a router, if it is there
@@ -65,7 +65,7 @@ same_shown : (h : History) (addr i : ℕ) (q : Prefix) (g k : ℕ) (es : List Ev
 same_shown h addr i q g k [] C quiet = record { rows = λ z. refl; fds = λ z. refl }
 same_shown h addr i q g k (Goes l ∷ es) C quiet = same_shown h addr i (C.1).0 (fd_published h (C.1).0 k) l es (C.1).2 quiet
 same_shown h addr i q g k (Does s ∷ es) C quiet =
-    let none = no_or (publishes i s) (has_published i es) quiet in
+    let none = or_parts (publishes i s) (has_published i es) quiet in
     shows_same i h (with_step h s) (history_after (with_step h s) es) (same_step h s i C.0 none.0) (same_shown (with_step h s) addr i q g k es C.1 none.1)
 
 -- after every run

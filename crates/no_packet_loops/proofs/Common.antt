@@ -75,6 +75,7 @@ pub use Rattle.loop_freedom.proofs.Opened.{opening_keeps}
 pub use Rattle.loop_freedom.proofs.Ports.{meets_item}
 pub use Rattle.loop_freedom.proofs.TakingAtHome.{meets_home}
 pub use Rattle.loop_freedom.proofs.Walks.{always_mixed, steps_keep, walk_map}
+pub use Rattle.machine_laws.proofs.Counting.{same_truth}
 pub use Rattle.machine_laws.proofs.MachineLaws.{machine_laws}
 pub use Rattle.machine_laws.proofs.Opened.{least_unheard}
 pub use Rattle.machine_laws.proofs.Sends.{eqb_sym}

@@ -1,6 +1,6 @@
 -- A world with nothing left to do is quiet: nothing is on the way, so every machine is passive.
 use Rattle.std.proofs.Common.{refl, sym, ap, ◌∙◌, arith, ◌≡◌, ℕ, ◌≤◌, Bool, true, false, not, ◌&&◌, nat_lt, if◌then◌else◌, List, [], length, Some, None, is_none, slice_get}
-use Rattle.no_packet_loops.proofs.Common.{list_all, and_from, and_parts, false≢true, Prefix, opening_machine, Router, World, Network, machine_of, opening, changed_rows, is_due, is_empty, is_quiet_router, is_quiet_link, has_no_notice, is_quiet, is_settled, is_active, IsNetwork, Runs, history, view, lay}
+use Rattle.no_packet_loops.proofs.Common.{list_all, and_from, and_parts, false≢true, Prefix, opening_machine, Router, World, Network, machine_of, opening, changed_rows, is_due, is_empty, is_quiet_router, is_quiet_link, has_no_notice, is_quiet, is_settled, is_active, IsNetwork, Runs, history, view, lay, same_truth}
 use Rattle.std.proofs.lemmas.Bool.{le-ltb}
 use Rattle.network_model.specs.declared.step.Step.{Step}
 use Rattle.no_packet_loops.specs.Packets.{HoldsInEveryWorld}
@@ -15,12 +15,6 @@ use Rattle.no_packet_loops.proofs.Quiet.{empty_is, IsDone, done_of, quiet_of}
 use Rattle.quiet_routes.proofs.Silent.{all_at, all_hold, inbox_none, ripe_none, unripe_none}
 
 -- ---- tests
-
--- two tests that pass where the other does are the same
-same_tests : (a b : Bool) → (a ≡ true → b ≡ true) → (b ≡ true → a ≡ true) → a ≡ b
-same_tests true b f g = sym (f refl)
-same_tests false true f g = g refl
-same_tests false false f g = refl
 
 -- ---- one router
 
@@ -105,4 +99,4 @@ module _ (n : Network) (V : IsNetwork n) (ss : List Step) (w : World) (r : Runs 
 
 -- in every world of every run
 pub settled_is_quiet : HoldsInEveryWorld SettledIsQuiet
-settled_is_quiet n ss w V r = same_tests (is_settled w) (is_quiet w) (quiet_then n V ss w r) (settled_then n V ss w r)
+settled_is_quiet n ss w V r = same_truth (is_settled w) (is_quiet w) (quiet_then n V ss w r) (settled_then n V ss w r)

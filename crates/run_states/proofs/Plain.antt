@@ -1,5 +1,6 @@
 -- Values without floats: all that is written of a run.
-use Rattle.std.proofs.Common.{◌≡◌, ℕ, refl, ap, ◌∙◌, Bool, true, false, List, [], ◌∷◌, ◌++◌, Option, Some, None, map, length, true≢false, nat_cmp, Ordering, Less, Equal, Greater}
+use Rattle.std.proofs.Common.{◌≡◌, ℕ, refl, ap, ◌∙◌, Bool, true, false, List, [], ◌∷◌, ◌++◌, Option, Some, None, map, length, nat_cmp, Ordering, Less, Equal, Greater}
+use Rattle.std.proofs.lemmas.Bool.{or_parts}
 use Rattle.std.specs.Prelude.{◌||◌, ◌==◌, nat_lt, if◌then◌else◌, filter, codes, vec_len}
 use Rattle.std.specs.Option.{option_map_or}
 use Rattle.std.specs.List.{flat_map, range_with_len}
@@ -34,14 +35,6 @@ use Rattle.run_states.specs.Values.{count_value, distance_data, entry_data, item
 or_false : {a b : Bool} → a ≡ false → b ≡ false → (a || b) ≡ false
 or_false {b = b} first second = ap (λ x. x || b) first ∙ second
 
-or_left : (a b : Bool) → (a || b) ≡ false → a ≡ false
-or_left true b all = absurd (true≢false all)
-or_left false b all = refl
-
-or_right : (a b : Bool) → (a || b) ≡ false → b ≡ false
-or_right true b all = absurd (true≢false all)
-or_right false b all = all
-
 if_plain : (b : Bool) (x y : Data) → has_float x ≡ false → has_float y ≡ false → has_float (if b then x else y) ≡ false
 if_plain true x y one other = one
 if_plain false x y one other = other
@@ -59,7 +52,7 @@ module _ {A : Type 0} where
 
 append_plain : (xs ys : List Data) → items_have_float (items_of xs) ≡ false → items_have_float (items_of ys) ≡ false → items_have_float (items_of (xs ++ ys)) ≡ false
 append_plain [] ys first second = second
-append_plain (x ∷ xs) ys first second = or_false (or_left (has_float x) _ first) (append_plain xs ys (or_right (has_float x) _ first) second)
+append_plain (x ∷ xs) ys first second = or_false (or_parts (has_float x) _ first).0 (append_plain xs ys (or_parts (has_float x) _ first).1 second)
 
 flat_map_plain : {A : Type 0} (f : A → List Data) (xs : List A) → ((x : A) → items_have_float (items_of (f x)) ≡ false) → items_have_float (items_of (flat_map f xs)) ≡ false
 flat_map_plain f [] each = refl
@@ -67,12 +60,12 @@ flat_map_plain f (x ∷ xs) each = append_plain (f x) (flat_map f xs) (each x) (
 
 put_plain : (k : Text) (d : Data) (ms : Members) → has_float d ≡ false → members_have_float ms ≡ false → members_have_float (put k d ms) ≡ false
 put_plain k d no_members plain all = or_false plain refl
-put_plain k d (member l e ms) plain all = by_order (slice_cmp nat_cmp k l) (put_plain k d ms plain (or_right (has_float e) _ all))
+put_plain k d (member l e ms) plain all = by_order (slice_cmp nat_cmp k l) (put_plain k d ms plain (or_parts (has_float e) _ all).1)
   where
     by_order : (o : Ordering) → members_have_float (put k d ms) ≡ false → members_have_float (match_ordering o (member k d (member l e ms)) (member l d ms) (member l e (put k d ms))) ≡ false
     by_order Less later = or_false plain all
-    by_order Equal later = or_false plain (or_right (has_float e) _ all)
-    by_order Greater later = or_false (or_left (has_float e) _ all) later
+    by_order Equal later = or_false plain (or_parts (has_float e) _ all).1
+    by_order Greater later = or_false (or_parts (has_float e) _ all).0 later
 
 put_if_plain : (b : Bool) (k : Text) (d : Data) (ms : Members) → has_float d ≡ false → members_have_float ms ≡ false → members_have_float (put_if b k d ms) ≡ false
 put_if_plain true k d ms plain all = put_plain k d ms plain all

@@ -1,26 +1,25 @@
 -- Packets that are followed along the images in force.
-use Rattle.std.proofs.Common.{refl, sym, ap, subst, ◌∙◌, arith, ◌≡◌, ◌≢◌, ℕ, zero, suc, ◌<◌, ◌≤◌, List, [], ◌∷◌, ◌++◌, append_assoc, length, take, drop, Option, Some, None, option_and_then}
-use Rattle.no_packet_loops.proofs.Common.{Prefix, Entry, Ending, World, row_for, entry_leads, Onward, Ends, Goes, by_row, onward, Trace, None_not_Some}
+use Rattle.std.proofs.Common.{sym, ap, subst, ◌∙◌, arith, ◌≡◌, ◌≢◌, ℕ, suc, ◌<◌, ◌≤◌, List, [], ◌∷◌, ◌++◌, append_assoc, length, take, drop, Option, Some, None}
+use Rattle.no_packet_loops.proofs.Common.{Prefix, Entry, Ending, World, row_for, entry_leads, Ends, Goes, by_row, onward, Trace}
 use Rattle.no_packet_loops.proofs.Traces.{by_entry-goes}
-use Rattle.network_model.specs.Forwarding.{hop}
 use Rattle.all_packets.specs.Packets.{IsWay, NoPacketCircles}
 use Rattle.all_packets.specs.Through.{through_from}
 use Rattle.course.specs.Links.{HasShortWays, LeadsToRouters}
-use Rattle.all_packets.proofs.Through.{onwards, row_ends}
+use Rattle.all_packets.proofs.Through.{is_way, long, onwards, row_ends}
 use Rattle.simulation.specs.Simulation.{Simulation, IsSimulation}
 use Rattle.simulation.proofs.Headline.{along_images}
 use Rattle.simulation.specs.Tracing.{HasImageWays, IsTraced, passed}
 
 -- ---- where a packet goes on, and how it ends
 
--- where it goes on by a row, the row leads there
-row_leads : (w : World) (i : ℕ) (row : Option (Prefix × Entry)) (q : Prefix) (k : ℕ) → by_row w i None row ≡ Goes q k → (option_and_then (λ r. entry_leads w i r.1) row ≡ Some k) × ((e : Entry) × (entry_leads w i e ≡ Some k))
+-- where it goes on by a row, an entry leads there
+row_leads : (w : World) (i : ℕ) (row : Option (Prefix × Entry)) (q : Prefix) (k : ℕ) → by_row w i None row ≡ Goes q k → (e : Entry) × (entry_leads w i e ≡ Some k)
 row_leads w i None q k h = absurd (let none : ⊥ = cc in none)
-row_leads w i (Some r) q k h = let leads = (by_entry-goes w i r.0 r.1 q k h).1 in (leads, (r.1, leads))
+row_leads w i (Some r) q k h = (r.1, (by_entry-goes w i r.0 r.1 q k h).1)
 
 -- a packet that goes on goes to a router of the world
 pub goes_known : (w : World) → LeadsToRouters w → (addr i : ℕ) (q : Prefix) (k : ℕ) → onward w addr None i ≡ Goes q k → k < length w.routers
-goes_known w known addr i q k is = let G = (row_leads w i (row_for w i addr) q k is).1 in known i G.0 k G.1
+goes_known w known addr i q k is = let G = row_leads w i (row_for w i addr) q k is in known i G.0 k G.1
 
 -- a packet that ends at a router does not end because another prefix matches
 pub real_end : (w : World) (addr i : ℕ) (end : Ending) → onward w addr None i ≡ Ends end → end ≢ Ending.Crossed
@@ -42,37 +41,6 @@ module _ (w : World) (addr : ℕ) where
   goes_on n i before p k is =
       let rest : Trace = through_from n w addr k in
       ap (λ o. behind before (onwards n w addr i o)) is ∙ ap (λ (xs : List ℕ). passed xs rest.end) (sym (append_assoc before (i ∷ []) rest.path))
-
-  ahead : (n i k : ℕ) → hop w addr i ≡ Some k → IsWay w addr (through_from n w addr k).path → IsWay w addr (i ∷ (through_from n w addr k).path)
-  ahead zero i k goes h = tt
-  ahead (suc n) i k goes h = by_onward (onward w addr None k) h
-    where
-      by_onward : (o : Onward) → IsWay w addr (onwards n w addr k o).path → IsWay w addr (i ∷ (onwards n w addr k o).path)
-      by_onward (Ends end) way = (goes, way)
-      by_onward (Goes q j) way = (goes, way)
-
-  -- the path of a trace is a way
-  pub is_way : (n i : ℕ) → IsWay w addr (through_from n w addr i).path
-  is_way zero i = tt
-  is_way (suc n) i = by_onward (onward w addr None i) refl (is_way n)
-    where
-      by_onward : (o : Onward) → onward w addr None i ≡ o → ((k : ℕ) → IsWay w addr (through_from n w addr k).path) → IsWay w addr (onwards n w addr i o).path
-      by_onward (Ends end) is rest = tt
-      by_onward (Goes q k) is rest = ahead n i k (row_leads w i (row_for w i addr) q k is).0 (rest k)
-
-  -- a trace that is left unfinished after n routers is a way of one more
-  abbrev Long : ℕ → ℕ → Type 0
-  Long n i = (ks : List ℕ) × (length ks ≡ n) × IsWay w addr (i ∷ ks)
-
-  pub long : (n i : ℕ) → (through_from n w addr i).end ≡ None → Long n i
-  long zero i h = ([], refl, tt)
-  long (suc n) i h = by_onward (onward w addr None i) refl h (long n)
-    where
-      by_onward : (o : Onward) → onward w addr None i ≡ o → (onwards n w addr i o).end ≡ None → ((k : ℕ) → (through_from n w addr k).end ≡ None → Long n k) → Long (suc n) i
-      by_onward (Ends end) is none rest = absurd (None_not_Some (sym none))
-      by_onward (Goes q k) is none rest =
-          let (ks, count, way) = rest k none in
-          (k ∷ ks, ap suc count, ((row_leads w i (row_for w i addr) q k is).0, way))
 
 -- ---- what is told of a packet that was followed
 

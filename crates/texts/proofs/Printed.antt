@@ -1,23 +1,17 @@
 -- Lines that are written one after another.
-use Rattle.std.proofs.Common.{◌≡◌, ℕ, ◌+◌, ◌<◌, List, [], ◌∷◌, ◌++◌, length, take, Option, Some, None, refl, sym, ap, subst, ◌∙◌, add-one, append_assoc, append-nil, get_or}
+use Rattle.std.proofs.Common.{◌≡◌, ℕ, ◌+◌, ◌<◌, List, [], ◌∷◌, ◌++◌, length, take, Option, refl, sym, ap, subst, ◌∙◌, add-one, append_assoc, append-nil, get_or}
 use Rattle.std.specs.Io.KnownBytes.{Appends}
 use Rattle.std.specs.List.{flat_map}
+use Rattle.std.proofs.KnownBytes.{Appends-trans}
 use Rattle.std.proofs.lemmas.List.{flat_map_more}
 use Rattle.std.proofs.Math.Seq.{take-suc}
 use Rattle.texts.specs.Words.{Text}
 use Rattle.texts.specs.Lines.{lines_text}
 
--- two texts appended in turn
-pub Appends-append : (old mid new : Option Text) (a b : Text) → Appends old mid a → Appends mid new b → Appends old new (a ++ b)
-Appends-append None mid new a b first second = tt
-Appends-append (Some xs) None new a b first second = absurd first
-Appends-append (Some xs) (Some ys) None a b first second = absurd second
-Appends-append (Some xs) (Some ys) (Some zs) a b first second = second ∙ ap (λ t. t ++ b) first ∙ append_assoc xs a b
-
 module _ {A : Type 0} (part : A → Text) where
   -- one part more
   pub part_more : (xs : List A) (x : A) (old mid new : Option Text) → Appends old mid (flat_map part xs) → Appends mid new (part x) → Appends old new (flat_map part (xs ++ x ∷ []))
-  part_more xs x old mid new before more = subst (Appends old new) (flat_map_more part [] xs x) (Appends-append old mid new (flat_map part xs) (part x) before more)
+  part_more xs x old mid new before more = subst (Appends old new) (flat_map_more part [] xs x) (Appends-trans old mid new (flat_map part xs) (part x) before more)
 
   -- the part of the next element of a list
   pub part_next : (xs : List A) (k : ℕ) (x : A) (old mid new : Option Text) → k < length xs → x ≡ get_or xs k x
@@ -39,7 +33,7 @@ module _ {A : Type 0} (line : A → Text) where
   pub line_more : (xs : List A) (x : A) (old mid new : Option Text) → Appends old mid (lines_text line xs) → Appends mid new (line x ++ 10 ∷ []) → Appends old new (lines_text line (xs ++ x ∷ []))
   line_more xs x old mid new before more =
       subst (Appends old new) (sym (lines_text-append xs (x ∷ [])))
-      (Appends-append old mid new (lines_text line xs) (lines_text line (x ∷ [])) before (subst (Appends mid new) (sym (append-nil (line x ++ 10 ∷ []))) more))
+      (Appends-trans old mid new (lines_text line xs) (lines_text line (x ∷ [])) before (subst (Appends mid new) (sym (append-nil (line x ++ 10 ∷ []))) more))
 
   -- the line of the next element of a list
   pub line_next : (xs : List A) (k : ℕ) (x : A) (old mid new : Option Text) → k < length xs → x ≡ get_or xs k x

@@ -243,14 +243,6 @@ pub timed_either : {X E : Type 0} (r : Result X E) (old new other : Timed) → O
 timed_either (Ok x) old new other ok err simulation clock = (ap (λ (t : Timed). t.simulation) ok ∙ simulation, ap (λ (t : Timed). t.clock) ok ∙ clock)
 timed_either (Err e) old new other ok err simulation clock = (ap (λ (t : Timed). t.simulation) err, ap (λ (t : Timed). t.clock) err)
 
-pub on_ok : {X E P Q : Type 0} (r : Result X E) → (P → Q) → OnOk r P → OnOk r Q
-on_ok (Ok x) f holds = f holds
-on_ok (Err e) f holds = tt
-
-pub on_err : {X E P Q : Type 0} (r : Result X E) → (P → Q) → OnErr r P → OnErr r Q
-on_err (Ok x) f holds = tt
-on_err (Err e) f holds = f holds
-
 -- ---- the opening, as the code has it
 
 pub few_at : (t : Timed) → IsTimed t → length (world_of t).routers ≤ 65536

@@ -1,3 +1,2 @@
 -- The proofs of the traces of a fabric.
-pub mod Runs
 pub mod Walks

@@ -4,16 +4,15 @@ use Rattle.network_model.specs.declared.step.Step.{Step}
 use Rattle.no_packet_loops.proofs.Common.{Network, World, opening, Runs}
 use Rattle.all_packets.proofs.Ways.{always_no_circles}
 use Rattle.quiet_routes.proofs.Routes.{quiet_routes}
-use Rattle.convergence.proofs.Converging.{always_converges}
+use Rattle.convergence.proofs.Converging.{always_converges, runs_append}
 use Rattle.world.specs.Headline.{IsReached, HasWorldHeadline}
-use Rattle.world.proofs.Runs.{runs-append}
 
 -- a world to which more steps lead
 pub reached_on : (n : Network) (w v : World) (ss : List Step) → IsReached n w → Runs w ss v → IsReached n v
 reached_on n w v ss reached more = record {
   valid = reached.valid;
   steps = reached.steps ++ ss;
-  runs = runs-append (opening n) reached.steps w ss v reached.runs more;
+  runs = runs_append (opening n) reached.steps w ss v reached.runs more;
 }
 
 -- what holds there

@@ -3,16 +3,12 @@ use Rattle.std.proofs.Common.{refl, sym, subst, arith, ◌≡◌, ℕ, zero, suc
 use Rattle.no_packet_loops.proofs.Common.{range_with_len, Item, End, changed_at, Link, Router, Network, World, opening, opening_router_of, Lawful, next, changed_router, changed_link, with_cost, with_front_taken, with_message, with_delivered, with_noticed, with_released, front_at, notice_at, release_at, changed_attachments, with_notice_taken, router_accepting, router_at_home, router_publishing, router_releasing, Runs, option_map_or-ind, routers-changed_link}
 use Rattle.network_model.specs.declared.step.Step.{Step}
 use Rattle.network_model.specs.declared.step.Step.TheVariants.{LinkUp, LinkDown, SetCost, Deliver, Publish, Release, Attach, Detach}
+use Rattle.convergence.proofs.Converging.{runs_append}
 use Rattle.world.specs.Steps.{HasRoomForSteps}
-
--- steps after steps
-pub runs-append : (w : World) (ss : List Step) (v : World) (ts : List Step) (u : World) → Runs w ss v → Runs v ts u → Runs w (ss ++ ts) u
-runs-append w [] v ts u runs later = subst (λ x. Runs x ts u) (sym runs) later
-runs-append w (s ∷ ss) v ts u runs later = (runs.0, runs-append (next w s) ss v ts u runs.1 later)
 
 -- a run with one lawful step more
 pub with_last_step : (w : World) (ss : List Step) (v : World) (s : Step) → Runs w ss v → Lawful v s → Runs w (ss ++ s ∷ []) (next v s)
-with_last_step w ss v s runs lawful = runs-append w ss v (s ∷ []) (next v s) runs (lawful, refl)
+with_last_step w ss v s runs lawful = runs_append w ss v (s ∷ []) (next v s) runs (lawful, refl)
 
 -- ---- room
 

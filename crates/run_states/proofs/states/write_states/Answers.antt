@@ -5,7 +5,7 @@ use Rattle.serde_json.specs.View.{view}
 use Rattle.serde_json.specs.Written.{compact_text, has_float}
 use Rattle.texts.specs.Lines.{lines_text}
 use Rattle.texts.specs.Words.{Text}
-use Rattle.texts.proofs.Printed.{Appends-append}
+use Rattle.std.proofs.KnownBytes.{Appends-trans}
 use Rattle.run_states.specs.Recorders.{IsCurrent}
 use Rattle.run_states.specs.Told.{IsStateLine, IsStatesText}
 use Rattle.run_states.specs.Values.{value_line, opening_data, state_data}
@@ -40,7 +40,7 @@ returns g c =
     (λ rest. (
       lines_text (λ (t : Text). t) (compact_text opening ∷ line ∷ rest.0),
       states_text n d steps moments c.stride-told.result blank after line rest.0 c.stride-told.ensures.positive c.in_ok-recorder.ensures.blank c.in_ok-recorder.ensures.of c.in_ok-recorder.ensures.prefixes is_line rest.1,
-      Appends-append (out c.args.out.now) (out c.write_value.new.out) (out c.write_steps.new.out) (value_line opening) ((line ++ 10 ∷ []) ++ lines_text (λ (t : Text). t) rest.0) first
-          (Appends-append (out c.write_value.new.out) (out c.write_state.new.out) (out c.write_steps.new.out) (line ++ 10 ∷ []) (lines_text (λ (t : Text). t) rest.0) told.2 rest.2),
+      Appends-trans (out c.args.out.now) (out c.write_value.new.out) (out c.write_steps.new.out) (value_line opening) ((line ++ 10 ∷ []) ++ lines_text (λ (t : Text). t) rest.0) first
+          (Appends-trans (out c.write_value.new.out) (out c.write_state.new.out) (out c.write_steps.new.out) (line ++ 10 ∷ []) (lines_text (λ (t : Text). t) rest.0) told.2 rest.2),
     ))
     c.write_steps.ensures)

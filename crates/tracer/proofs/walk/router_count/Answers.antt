@@ -2,7 +2,7 @@ use Rattle.std.proofs.Common.{subst}
 use Rattle.network_model.specs.Network.{IsNetwork}
 use Rattle.no_packet_loops.proofs.Traces.{always_traces_end}
 use Rattle.all_packets.proofs.Through.{always_through_ends}
-use Rattle.tracer.proofs.Runs.{leads_to_routers}
+use Rattle.course.proofs.Links.{leads_to_routers}
 use Rattle.tracer.proofs.Walks.{follows_end}
 use Rattle.tracer.proofs.walk.router_count.Goals as goal
 
