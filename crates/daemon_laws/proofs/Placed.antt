@@ -4,7 +4,7 @@ use Rattle.no_packet_loops.proofs.Common.{Held, Topology, LinkEnd, at_port}
 use Rattle.network_model.proofs.Common.{both_ways}
 use Rattle.daemon_laws.specs.Processes.{Processes}
 use Rattle.daemon_laws.specs.Packets.{is_in_session}
-use Rattle.daemon_laws.specs.Happenings.{Happening, Tells, Takes, Loses, Publishes, PublishesSome, Forgets, Releases, BeginsAnew, is_same_end, with_coming, after_happening}
+use Rattle.daemon_laws.specs.Happenings.{Happening, Takes, Loses, Releases, is_same_end, with_coming, after_happening}
 use Rattle.daemon_laws.proofs.Cases.{by_take, by_release}
 use Rattle.daemon_laws.proofs.Releasing.{as_carried}
 use Rattle.daemon_laws.proofs.Invariant.{Placed}
@@ -21,12 +21,8 @@ module _ (t : Topology) (w : Processes) (placed : Placed t w) where
 
   -- whatever happens
   pub placed_next : (h : Happening) → (d : LinkEnd) → t.valid d ≡ false → (after_happening t w h).coming d ≡ []
-  placed_next (Tells i x) d out = placed d out
   placed_next (Takes e) d out = by_take t w (λ v. v.coming d ≡ []) (placed d out) e (λ c at le. none_off e d out)
   placed_next (Loses e) d out = none_off e d out
-  placed_next (Publishes i) d out = placed d out
-  placed_next (PublishesSome i n) d out = placed d out
-  placed_next (Forgets i k) d out = placed d out
   placed_next (Releases i) d out = by_release t w (λ v. v.coming d ≡ []) (placed d out) i (λ h at. by_test h (t.valid (at_port i h.port)) (is_in_session w (at_port i h.port) h.session) refl)
     where
       by_test : (h : Held) (b c : Bool) → t.valid (at_port i h.port) ≡ b → (if b && c then with_coming (t.far (at_port i h.port)) (λ cs. cs ++ as_carried h ∷ []) w.coming else w.coming) d ≡ []
@@ -36,4 +32,4 @@ module _ (t : Topology) (w : Processes) (placed : Placed t w) where
           ∙ placed d out
       by_test h true false v = placed d out
       by_test h false c v = placed d out
-  placed_next (BeginsAnew i costs attachments) d out = placed d out
+  placed_next _ d out = placed d out

@@ -50,14 +50,10 @@ speaks_of (BeginsAnew i costs attachments) j = j == i
 
 -- a router that a happening does not speak of stays
 untouched : (w : Processes) (h : Happening) (j : ℕ) → speaks_of h j ≡ false → (after_happening pair w h).routers j ≡ w.routers j
-untouched w (Tells i x) j off = rw off refl
 untouched w (Loses e) j off = refl
-untouched w (Publishes i) j off = rw off refl
-untouched w (PublishesSome i n) j off = rw off refl
-untouched w (Forgets i p) j off = rw off refl
-untouched w (BeginsAnew i costs attachments) j off = rw off refl
 untouched w (Releases i) j off = by_release pair w (λ v. v.routers j ≡ w.routers j) refl i (λ h at. rw off refl)
 untouched w (Takes e) j off = by_take pair w (λ v. v.routers j ≡ w.routers j) refl e (λ c at le. rw off refl)
+untouched w _ j off = rw off refl
 
 -- nor after many
 untouched_all : (w : Processes) (hs : List Happening) (j : ℕ) → list_any (λ h. speaks_of h j) hs ≡ false → (after_happenings pair w hs).routers j ≡ w.routers j

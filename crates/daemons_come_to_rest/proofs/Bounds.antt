@@ -139,13 +139,8 @@ either n w (BeginsAnew i costs attachments) = inr (λ a. a)
 -- what still happens may happen
 pub alone_can : (n : ℕ) (w : Processes) (h : Happening) → HappensAlone n w h → CanHappen w h
 alone_can n w (Tells i x) alone = absurd alone
-alone_can n w (Takes e) alone = tt
-alone_can n w (Loses e) alone = tt
-alone_can n w (Publishes i) alone = tt
-alone_can n w (PublishesSome i k) alone = tt
-alone_can n w (Forgets i p) alone = tt
-alone_can n w (Releases i) alone = tt
 alone_can n w (BeginsAnew i costs attachments) alone = absurd alone
+alone_can n w _ alone = tt
 
 -- ---- bounds
 

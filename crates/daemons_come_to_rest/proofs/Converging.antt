@@ -6,7 +6,7 @@ use Rattle.coming_to_rest.specs.Rest.{IsFinite}
 use Rattle.coming_to_rest.proofs.Bounds.{IsIn, find_one}
 use Rattle.daemon_laws.specs.Processes.{Processes}
 use Rattle.daemon_laws.specs.Packets.{is_in_session}
-use Rattle.daemon_laws.specs.Happenings.{Happening, Tells, Takes, Loses, Publishes, PublishesSome, Forgets, Releases, BeginsAnew, after_happening, after_happenings}
+use Rattle.daemon_laws.specs.Happenings.{Happening, Takes, Loses, Releases, BeginsAnew, after_happening, after_happenings}
 use Rattle.daemon_laws.proofs.Cases.{by_take, by_release}
 use Rattle.daemons_come_to_rest.specs.Rest.{HappensAlone, ProcessesComeToRest, rests, AllAlone}
 use Rattle.daemons_come_to_rest.specs.Settled.{is_loss, forgets, NothingLeft, EndsAgree, LosesNone, SameGround, ProcessesConverge, ProcessesAlwaysConverge}
@@ -35,14 +35,11 @@ module _ (t : Topology) (F : IsFinite t) where
 
 -- what is no loss loses nothing
 lost_next : (t : Topology) (n : ℕ) (w : Processes) (h : Happening) → HappensAlone n w h → is_loss h ≡ false → (after_happening t w h).lost ≡ w.lost
-lost_next t n w (Tells i x) alone quiet = refl
 lost_next t n w (Takes e) alone quiet = by_take t w (λ v. v.lost ≡ w.lost) refl e (λ c at le. refl)
 lost_next t n w (Loses e) alone quiet = absurd (false≢true (sym quiet))
-lost_next t n w (Publishes i) alone quiet = refl
-lost_next t n w (PublishesSome i k) alone quiet = refl
-lost_next t n w (Forgets i p) alone quiet = refl
 lost_next t n w (Releases i) alone quiet = by_release t w (λ v. v.lost ≡ w.lost) refl i (λ h at. refl)
 lost_next t n w (BeginsAnew i costs attachments) alone quiet = absurd alone
+lost_next t n w _ alone quiet = refl
 
 -- nor do any of them
 lost_after : (t : Topology) (n : ℕ) (w : Processes) (hs : List Happening) → AllAlone t n w hs → LosesNone hs → (after_happenings t w hs).lost ≡ w.lost

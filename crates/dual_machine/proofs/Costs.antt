@@ -31,12 +31,9 @@ HasCost-records_after (Attached cost) ns brought costs = costs
 HasCost-records_after Detached ns brought costs = costs
 
 pub HasCost-attachment_after : (e : Event) (a : Option ℕ) → BringsCost e → IfSome a (λ cost. IsCost cost) → IfSome (attachment_after e a) (λ cost. IsCost cost)
-HasCost-attachment_after (Message q kind value) a brought attached = attached
-HasCost-attachment_after (Up q cost) a brought attached = attached
-HasCost-attachment_after (Down q) a brought attached = attached
-HasCost-attachment_after (Cost q cost) a brought attached = attached
 HasCost-attachment_after (Attached cost) a brought attached = brought
 HasCost-attachment_after Detached a brought attached = tt
+HasCost-attachment_after _ a brought attached = attached
 
 -- and so has each way
 pub HasCost-ways : (ns : List Neighbour) (a : Option ℕ) → All (λ n. IsCost n.cost) ns → IfSome a (λ cost. IsCost cost) → All (λ n. IsCost n.cost) (ns ++ home_ways a)

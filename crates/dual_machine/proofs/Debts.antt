@@ -1,8 +1,8 @@
 -- What an event leaves of the origin state and the debt.
 use Rattle.std.proofs.Common.{refl, sym, ap, ◌∙◌, subst, arith, ◌≡◌, ℕ, ◌<◌, Bool, true, false, if◌then◌else◌, Option, Some, None, eqb-true, ltb-true, lt-ltb}
-use Rattle.metric.specs.declared.kind.Kind.TheVariants.{Update, Query, Reply}
+use Rattle.metric.specs.declared.kind.Kind.TheVariants.{Query}
 use Rattle.network_model.specs.declared.machine.Event.{Event}
-use Rattle.network_model.specs.declared.machine.Event.TheVariants.{Message, Up, Down, Cost, Attached, Detached}
+use Rattle.network_model.specs.declared.machine.Event.TheVariants.{Message, Down, Detached}
 use Rattle.network_model.specs.Machine.{is_port, successor_after, debt_after}
 use Rattle.diffusing_replies.specs.declared.origin.Origin.{Origin}
 use Rattle.diffusing_replies.specs.declared.origin.Origin.TheVariants.{OwnDisturbed, Own, OwingDisturbed, Owing}
@@ -72,11 +72,6 @@ module _ (n : ℕ) where
   -- the debt goes with the origin state
   IsDebtOf-moved : (e : Event) (s : Option ℕ) (risen : Bool) (o : Origin) (debt : Option ℕ) → IsKnown n e → IsDebtOf n o s debt
       → IsDebtOf n (moved n s e risen o) (successor_after n e s) (debt_after (successor_after n e s) e debt)
-  IsDebtOf-moved (Message q Update value) s risen o debt known h = IsDebtOf-rose risen o s debt h
-  IsDebtOf-moved (Message q Reply value) s risen o debt known h = IsDebtOf-rose risen o s debt h
-  IsDebtOf-moved (Up q cost) s risen o debt known h = IsDebtOf-rose risen o s debt h
-  IsDebtOf-moved (Cost q cost) s risen o debt known h = IsDebtOf-rose risen o s debt h
-  IsDebtOf-moved (Attached cost) s risen o debt known h = IsDebtOf-rose risen o s debt h
   IsDebtOf-moved (Message q Query value) s risen o debt known h = by_asker (is_port q s) refl
     where
       by_asker : (b : Bool) → is_port q s ≡ b → IsDebtOf n (if b then OwingDisturbed else if risen then rose o else o) s (if b then Some q else debt)
@@ -92,6 +87,7 @@ module _ (n : ℕ) where
       by_lost : (b : Bool) → is_port n s ≡ b → IsDebtOf n (if b then OwnDisturbed else if risen then rose o else o) (if b then None else s) debt
       by_lost true at = no_debt_home o s debt at h
       by_lost false at = IsDebtOf-rose risen o s debt h
+  IsDebtOf-moved _ s risen o debt known h = IsDebtOf-rose risen o s debt h
 
 -- the same, for values that are known to be these
 pub IsDebtOf_after : (n : ℕ) (e : Event) (s t : Option ℕ) (risen : Bool) (o p : Origin) (debt later : Option ℕ) → IsKnown n e → p ≡ moved n s e risen o → t ≡ successor_after n e s → later ≡ debt_after t e debt → IsDebtOf n o s debt → IsDebtOf n p t later

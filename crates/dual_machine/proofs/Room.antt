@@ -131,9 +131,5 @@ length-reaction m Detached asking = length-decision_after m Detached (omega arit
 
 -- an event other than Up is decided
 pub reaction-decision : (m : Machine) (e : Event) → ((q cost : ℕ) → e ≡ Up q cost → ⊥) → reaction m e ≡ decision (with_records m e) e
-reaction-decision m (Message q kind value) other = refl
 reaction-decision m (Up q cost) other = absurd (other q cost refl)
-reaction-decision m (Down q) other = refl
-reaction-decision m (Cost q cost) other = refl
-reaction-decision m (Attached cost) other = refl
-reaction-decision m Detached other = refl
+reaction-decision m _ other = refl

@@ -85,9 +85,7 @@ notices_fit (Reported m ∷ xs) p r a f = notices_fit xs (port_after (Reported m
 -- no item lowers the session
 pub session_one : (x : SeenItem) (p : Port) → FitsOne x p → p.session ≤ (port_after x p).session
 session_one (UpNotice s c) p f = omega (arith, f.1)
-session_one (DownNotice s) p f = omega arith
-session_one (CostNotice s c) p f = omega arith
-session_one (Reported m) p f = omega arith
+session_one _ p f = omega arith
 
 -- no items lower the session
 pub session_rises : (xs : List SeenItem) (p : Port) → Fits xs p → p.session ≤ (replay xs p).session
@@ -132,6 +130,4 @@ port_other ns q p seen (Reported m) ne = rw (slice_get-changed_at_other (λ y. r
 -- an item that fits is an event that the machine meets
 pub meets_item : (m : Machine) (q seen : ℕ) (x : SeenItem) → q < length m.ports → FitsOne x (port_in m.ports q seen) → Meets m (event_of q x)
 meets_item m q seen (UpNotice s c) l f = (l, f.0, f.2)
-meets_item m q seen (DownNotice s) l f = f
-meets_item m q seen (CostNotice s c) l f = f
-meets_item m q seen (Reported w) l f = f
+meets_item m q seen _ l f = f

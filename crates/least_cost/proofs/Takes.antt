@@ -1,6 +1,6 @@
 -- A step in which a router takes an item keeps the state.
 use Rattle.std.proofs.Common.{◌≡◌, ◌⊎◌, ℕ, ◌<◌, ◌≤◌, true, ◌∷◌, length, refl, ap, sym, inl, inr, arith, subst, ◌∙◌}
-use Rattle.network_model.proofs.Common.{cases_eq, Machine, records_after, reaction, LinkEnd, SeenItem, UpNotice, DownNotice, CostNotice, Reported, State, infinity}
+use Rattle.network_model.proofs.Common.{cases_eq, Machine, records_after, reaction, LinkEnd, SeenItem, UpNotice, State, infinity}
 use Rattle.network_model.specs.declared.machine.Event.{Event}
 use Rattle.machine_laws.specs.Laws.{sent_to, is_up_at, Meets}
 use Rattle.loop_freedom.specs.Network.{Topology, Take, event_of, seen_after}
@@ -16,9 +16,7 @@ use Rattle.least_cost.proofs.Meeting.{kept_met}
 -- an item that begins a session at a port has the machine tell its distance there
 comes_one : (m : Machine) (q seen : ℕ) (x : SeenItem) → seen < seen_after x seen → last_sent infinity (sent_to q (reaction m (event_of q x)).sends) ≡ (reaction m (event_of q x)).machine.rd
 comes_one m q seen (UpNotice s c) l = told_up m q
-comes_one m q seen (DownNotice s) l = absurd (omega (arith, l))
-comes_one m q seen (CostNotice s c) l = absurd (omega (arith, l))
-comes_one m q seen (Reported w) l = absurd (omega (arith, l))
+comes_one m q seen _ l = absurd (omega (arith, l))
 
 -- ---- a router takes an item
 module _ (t : Topology) (old new : State) (k : Kept t old) (s : Take t old new) where

@@ -12,16 +12,12 @@ use Rattle.loop_freedom.proofs.Reacts.{PortStep}
 -- an item leaves the number of ports
 pub ports_length : (p : ℕ) (item : SeenItem) (ns : List Neighbour) → length (records_after (event_of p item) ns) ≡ length ns
 ports_length p (UpNotice s c) ns = length-changed_at _ p ns
-ports_length p (DownNotice s) ns = length-changed_at _ p ns
-ports_length p (CostNotice s c) ns = length-changed_at _ p ns
-ports_length p (Reported m) ns = length-changed_at _ p ns
+ports_length p _ ns = length-changed_at _ p ns
 
 -- an item leaves the records of the other ports
 pub ports_other : (p q : ℕ) (item : SeenItem) (ns : List Neighbour) → (p ≡ q → ⊥) → slice_get (records_after (event_of p item) ns) q ≡ slice_get ns q
 ports_other p q (UpNotice s c) ns d = slice_get-changed_at_other _ p q ns (λ e. d (sym e))
-ports_other p q (DownNotice s) ns d = slice_get-changed_at_other _ p q ns (λ e. d (sym e))
-ports_other p q (CostNotice s c) ns d = slice_get-changed_at_other _ p q ns (λ e. d (sym e))
-ports_other p q (Reported m) ns d = slice_get-changed_at_other _ p q ns (λ e. d (sym e))
+ports_other p q _ ns d = slice_get-changed_at_other _ p q ns (λ e. d (sym e))
 
 -- the record of a port after an item is taken there
 abbrev pub changed_by : SeenItem → Neighbour → Neighbour
@@ -33,23 +29,17 @@ changed_by (Reported m) n = record { up = n.up; cost = n.cost; reported = m.valu
 -- the record of the port where an item is taken is changed by it
 pub ports_same : (p : ℕ) (item : SeenItem) (ns : List Neighbour) → slice_get (records_after (event_of p item) ns) p ≡ option_map (changed_by item) (slice_get ns p)
 ports_same p (UpNotice s c) ns = slice_get-changed_at _ p ns
-ports_same p (DownNotice s) ns = slice_get-changed_at _ p ns
-ports_same p (CostNotice s c) ns = slice_get-changed_at _ p ns
-ports_same p (Reported m) ns = slice_get-changed_at _ p ns
+ports_same p _ ns = slice_get-changed_at _ p ns
 
 -- an item at one port is no message at another
 other_message : (k : Kind) (p q : ℕ) (item : SeenItem) → (p ≡ q → ⊥) → is_message k q (event_of p item) ≡ false
-other_message k p q (UpNotice s c) d = refl
-other_message k p q (DownNotice s) d = refl
-other_message k p q (CostNotice s c) d = refl
 other_message k p q (Reported m) d = and_left (p == q) (is_kind k m.kind) (ne_eqb p q d)
+other_message k p q _ d = refl
 
 -- an item at one port does not take the link of another away
 other_down : (p q : ℕ) (item : SeenItem) → (p ≡ q → ⊥) → is_down q (event_of p item) ≡ false
-other_down p q (UpNotice s c) d = refl
 other_down p q (DownNotice s) d = ne_eqb p q d
-other_down p q (CostNotice s c) d = refl
-other_down p q (Reported m) d = refl
+other_down p q _ d = refl
 
 -- a message that ends the wait for a port is a reply that came there
 released_message : (k : Kind) (p v q : ℕ) → released (Message p k v) ≡ Some q → (p ≡ q) × (k ≡ Reply)
@@ -59,10 +49,8 @@ released_message Reply p v q e = (cc, refl)
 
 -- an item ends the wait for its own port alone
 other_released : (p q : ℕ) (item : SeenItem) → released (event_of p item) ≡ Some q → p ≡ q
-other_released p q (UpNotice s c) e = cc
-other_released p q (DownNotice s) e = cc
-other_released p q (CostNotice s c) e = cc
 other_released p q (Reported m) e = (released_message m.kind p m.value q e).0
+other_released p q _ e = cc
 
 -- an event at another port of the same router takes no message here, and leaves the port as it was
 pub port_step_other : MachineLaws → (m : Machine) (p q : ℕ) (item : SeenItem) (seen n : ℕ) → (p ≡ q → ⊥) → PortStep m (event_of p item) q seen seen n None
@@ -83,10 +71,8 @@ port_step_other laws m p q item seen n d =
 
 -- the message that an item is, if it is one
 abbrev pub message_of : SeenItem → Option Report
-message_of (UpNotice s c) = None
-message_of (DownNotice s) = None
-message_of (CostNotice s c) = None
 message_of (Reported m) = Some m
+message_of _ = None
 
 -- whether the port that is there, if any, is up
 abbrev is_up : Option Neighbour → Bool

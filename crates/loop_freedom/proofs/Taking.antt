@@ -1,6 +1,6 @@
 -- A router that takes an item keeps the invariant.
 use Rattle.std.proofs.Common.{refl, sym, ◌∙◌, ap, subst, inl, inr, ◌≡◌, ℕ, ◌<◌, true, ◌∷◌, ◌++◌, None, length, slice_get, List}
-use Rattle.network_model.proofs.Common.{cases_eq, Machine, SeenItem, UpNotice, DownNotice, CostNotice, Reported, LinkEnd, State, at_port}
+use Rattle.network_model.proofs.Common.{cases_eq, Machine, SeenItem, UpNotice, LinkEnd, State, at_port}
 use Rattle.network_model.specs.declared.machine.Event.{Event}
 use Rattle.network_model.specs.declared.machine.Neighbour.{Neighbour}
 use Rattle.machine_laws.specs.Laws.{Meets, MachineLaws, is_up_at, test_at}
@@ -16,9 +16,7 @@ use Rattle.loop_freedom.proofs.Meeting.{Taken, met_item, meeting_keeps}
 -- the messages among items are the one at the front, if it is one, then those of the rest
 front_item : (item : SeenItem) (rest : List SeenItem) → messages (item ∷ rest) ≡ front (message_of item) ++ messages rest
 front_item (UpNotice s c) rest = refl
-front_item (DownNotice s) rest = refl
-front_item (CostNotice s c) rest = refl
-front_item (Reported m) rest = refl
+front_item _ rest = refl
 
 module _ (laws : MachineLaws) (t : Topology) (old new : State) (I : Invariant t old) (T : Take t old new) where
   -- the machine that takes the item

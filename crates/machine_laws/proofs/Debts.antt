@@ -76,11 +76,7 @@ silent_answered m (Message q Query v) p s = elim (cases_Bool (is_port q m.succes
   | inr b ↦ rw b (silent_one p q m.rd (not_this q p m.successor s b))
 ]
 silent_answered m (Message q Reply v) p s = refl
-silent_answered m (Up q c) p s = refl
-silent_answered m (Down q) p s = refl
-silent_answered m (Cost q c) p s = refl
-silent_answered m (Attached c) p s = refl
-silent_answered m Detached p s = refl
+silent_answered m _ p s = refl
 
 -- where the machine is active after a computation that is over, its successor was the successor before
 completed_keeps : (m : Machine) (debt : Option ℕ) (p : ℕ) → is_active (completion m debt).machine ≡ true → (completion m debt).machine.successor ≡ Some p → m.successor ≡ Some p

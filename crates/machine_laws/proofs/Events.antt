@@ -22,42 +22,25 @@ pub asked_by : (p : ℕ) (e : Event) → is_message Query p e ≡ is_port p (ask
 asked_by p (Message q Query v) = and-true (q == p) ∙ eqb_sym q p
 asked_by p (Message q Update v) = and-false (q == p)
 asked_by p (Message q Reply v) = and-false (q == p)
-asked_by p (Up q c) = refl
-asked_by p (Down q) = refl
-asked_by p (Cost q c) = refl
-asked_by p (Attached c) = refl
-asked_by p Detached = refl
+asked_by p _ = refl
 
 -- a reply from port p releases p
 pub replied_by : (p : ℕ) (e : Event) → is_message Reply p e ≡ true → released e ≡ Some p
 replied_by p (Message q Query v) h = absurd (both_ways _ (and-false (q == p)) h)
 replied_by p (Message q Update v) h = absurd (both_ways _ (and-false (q == p)) h)
 replied_by p (Message q Reply v) h = ap Some (eqb-true q p (and_parts (q == p) true h).0)
-replied_by p (Up q c) h = absurd (false≢true h)
-replied_by p (Down q) h = absurd (false≢true h)
-replied_by p (Cost q c) h = absurd (false≢true h)
-replied_by p (Attached c) h = absurd (false≢true h)
-replied_by p Detached h = absurd (false≢true h)
+replied_by p _ h = absurd (false≢true h)
 
 -- where port p is released and its link is not lost, the event is its reply
 pub released_by : (p : ℕ) (e : Event) → is_down p e ≡ false → released e ≡ Some p → is_message Reply p e ≡ true
-released_by p (Message q Query v) d h = absurd (none-some p h)
-released_by p (Message q Update v) d h = absurd (none-some p h)
 released_by p (Message q Reply v) d h = and-true (q == p) ∙ eq-eqb q p (same_Some q p h)
-released_by p (Up q c) d h = absurd (none-some p h)
 released_by p (Down q) d h = absurd (both_ways (q == p) d (eq-eqb q p (same_Some q p h)))
-released_by p (Cost q c) d h = absurd (none-some p h)
-released_by p (Attached c) d h = absurd (none-some p h)
-released_by p Detached d h = absurd (none-some p h)
+released_by p _ d h = absurd (none-some p h)
 
 -- the loss of a link releases its port
 pub down_released : (p : ℕ) (e : Event) → is_down p e ≡ true → released e ≡ Some p
-down_released p (Message q k v) h = absurd (false≢true h)
-down_released p (Up q c) h = absurd (false≢true h)
 down_released p (Down q) h = ap Some (eqb-true q p h)
-down_released p (Cost q c) h = absurd (false≢true h)
-down_released p (Attached c) h = absurd (false≢true h)
-down_released p Detached h = absurd (false≢true h)
+down_released p _ h = absurd (false≢true h)
 
 -- an event in which some port asks takes no link away, releases nobody and leaves the successor
 pub record IsAsked (e : Event) : Type 0 where
@@ -68,83 +51,54 @@ pub record IsAsked (e : Event) : Type 0 where
 -- an event in which port p asks is such an event
 pub asked_event : (p : ℕ) (e : Event) → asker e ≡ Some p → IsAsked e
 asked_event p (Message q Query v) h = record { none_down = λ k. refl; none_released = refl; successor_same = λ d s. refl }
-asked_event p (Message q Update v) h = absurd (none-some p h)
-asked_event p (Message q Reply v) h = absurd (none-some p h)
-asked_event p (Up q c) h = absurd (none-some p h)
-asked_event p (Down q) h = absurd (none-some p h)
-asked_event p (Cost q c) h = absurd (none-some p h)
-asked_event p (Attached c) h = absurd (none-some p h)
-asked_event p Detached h = absurd (none-some p h)
+asked_event p _ h = absurd (none-some p h)
 
 -- an event that releases a port is no query
 pub released_alone : (p : ℕ) (e : Event) → released e ≡ Some p → asker e ≡ None
-released_alone p (Message q Query v) h = absurd (none-some p h)
-released_alone p (Message q Update v) h = absurd (none-some p h)
 released_alone p (Message q Reply v) h = refl
-released_alone p (Up q c) h = absurd (none-some p h)
 released_alone p (Down q) h = refl
-released_alone p (Cost q c) h = absurd (none-some p h)
-released_alone p (Attached c) h = absurd (none-some p h)
-released_alone p Detached h = absurd (none-some p h)
+released_alone p _ h = absurd (none-some p h)
 
 -- a port that asks is up
 pub asker_up : (m : Machine) (p : ℕ) (e : Event) → Meets m e → asker e ≡ Some p → is_up_at m p ≡ true
 asker_up m p (Message q Query v) meets h = subst (λ x. is_up_at m x ≡ true) (same_Some q p h) meets.0
-asker_up m p (Message q Update v) meets h = absurd (none-some p h)
-asker_up m p (Message q Reply v) meets h = absurd (none-some p h)
-asker_up m p (Up q c) meets h = absurd (none-some p h)
-asker_up m p (Down q) meets h = absurd (none-some p h)
-asker_up m p (Cost q c) meets h = absurd (none-some p h)
-asker_up m p (Attached c) meets h = absurd (none-some p h)
-asker_up m p Detached meets h = absurd (none-some p h)
+asker_up m p _ meets h = absurd (none-some p h)
 
 -- the successor after an event was the successor before, and its link is not lost
 pub successor_kept : (d : ℕ) (e : Event) (s : Option ℕ) (p : ℕ) → successor_after d e s ≡ Some p → (s ≡ Some p) × (is_down p e ≡ false)
-successor_kept d (Message q k v) s p h = (h, refl)
-successor_kept d (Up q c) s p h = (h, refl)
 successor_kept d (Down q) s p h = go (is_port q s) refl h
   where
     go : (b : Bool) → is_port q s ≡ b → (if b then None else s) ≡ Some p → (s ≡ Some p) × ((q == p) ≡ false)
     go true t e = absurd (none-some p e)
     go false t e = (e, rw e at t)
-successor_kept d (Cost q c) s p h = (h, refl)
-successor_kept d (Attached c) s p h = (h, refl)
 successor_kept d Detached s p h = go (is_port d s) h
   where
     go : (b : Bool) → (if b then None else s) ≡ Some p → (s ≡ Some p) × (◌≡◌ {A = Bool} false false)
     go true e = absurd (none-some p e)
     go false e = (e, refl)
+successor_kept d _ s p h = (h, refl)
 
 -- a successor that is a port, whose link is not lost, stays
 pub successor_stays : (d : ℕ) (e : Event) (s : Option ℕ) (p : ℕ) → s ≡ Some p → is_down p e ≡ false → p < d → successor_after d e s ≡ Some p
-successor_stays d (Message q k v) s p h f l = h
-successor_stays d (Up q c) s p h f l = h
 successor_stays d (Down q) s p h f l = rw h (rw f refl)
-successor_stays d (Cost q c) s p h f l = h
-successor_stays d (Attached c) s p h f l = h
 successor_stays d Detached s p h f l = rw h (rw (ne_eqb d p (λ e. omega (arith, e, l))) refl)
+successor_stays d _ s p h f l = h
 
 -- the attachment is still there after an event where it still is the successor
 pub attachment_kept : (d : ℕ) (e : Event) (s a : Option ℕ) → successor_after d e s ≡ Some d → is_some a ≡ true → is_some (attachment_after e a) ≡ true
-attachment_kept d (Message q k v) s a h t = t
-attachment_kept d (Up q c) s a h t = t
-attachment_kept d (Down q) s a h t = t
-attachment_kept d (Cost q c) s a h t = t
 attachment_kept d (Attached c) s a h t = refl
 attachment_kept d Detached s a h t = go (is_port d s) refl h
   where
     go : (b : Bool) → is_port d s ≡ b → (if b then None else s) ≡ Some d → ◌≡◌ {A = Bool} false true
     go true k e = absurd (none-some d e)
     go false k e = absurd (both_ways (is_port d s) k (is_port_same d s e))
+attachment_kept d _ s a h t = t
 
 -- an attachment costs something after an event that the machine meets
 pub attachment_sound_after : (m : Machine) (e : Event) → ((c : ℕ) → m.attachment ≡ Some c → 0 < c) → Meets m e → (c : ℕ) → attachment_after e m.attachment ≡ Some c → 0 < c
-attachment_sound_after m (Message q k v) sound meets c h = sound c h
-attachment_sound_after m (Up q d) sound meets c h = sound c h
-attachment_sound_after m (Down q) sound meets c h = sound c h
-attachment_sound_after m (Cost q d) sound meets c h = sound c h
 attachment_sound_after m (Attached d) sound meets c h = omega (arith, meets, same_Some d c h)
 attachment_sound_after m Detached sound meets c h = absurd (none-some c h)
+attachment_sound_after m _ sound meets c h = sound c h
 
 -- no event changes how many ports there are
 pub ports_length : (e : Event) (ns : List Neighbour) → length (records_after e ns) ≡ length ns

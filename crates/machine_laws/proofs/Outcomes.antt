@@ -191,11 +191,7 @@ pub awaited_after_is : (e : Event) (bs : List Bool) → awaited_after e bs ≡ o
 awaited_after_is (Message q Update value) bs = refl
 awaited_after_is (Message q Query value) bs = refl
 awaited_after_is (Message q Reply value) bs = refl
-awaited_after_is (Up q cost) bs = refl
-awaited_after_is (Down q) bs = refl
-awaited_after_is (Cost q cost) bs = refl
-awaited_after_is (Attached cost) bs = refl
-awaited_after_is Detached bs = refl
+awaited_after_is _ bs = refl
 
 -- who is not released is awaited as before
 pub awaited_kept : (e : Event) (p : ℕ) (bs : List Bool) → (released e ≡ Some p → ⊥) → slice_get (awaited_after e bs) p ≡ slice_get bs p

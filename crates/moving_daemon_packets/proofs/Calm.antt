@@ -9,7 +9,7 @@ use Rattle.all_packets.proofs.Matches.{GoesBefore, found}
 use Rattle.moving_packets.proofs.Returns.{IsLow, stays_low as low_next, IsOn, Descends, first_on, goes_on, comes_back}
 use Rattle.daemon_laws.specs.Processes.{Processes}
 use Rattle.daemon_laws.specs.Packets.{rows_in_force, session_leads, unmarked_leads}
-use Rattle.daemon_laws.specs.Happenings.{Happening, Tells, Takes, Loses, Publishes, PublishesSome, Forgets, Releases, BeginsAnew, CanHappen, MayRewire, AreReached}
+use Rattle.daemon_laws.specs.Happenings.{Happening, Publishes, PublishesSome, Forgets, BeginsAnew, CanHappen, MayRewire, AreReached}
 use Rattle.network_model.specs.Step.{changed_rows}
 use Rattle.network_model.specs.World.{machine_of}
 use Rattle.network_model.proofs.Common.{cases_eq}
@@ -39,9 +39,6 @@ kept_rewired m t K R p = always_rewired m.topology t p (m.fd_published p) m.proc
 -- where a router neither forgets nor begins anew, it stays, or becomes the one that was chosen
 stays_or_chosen : (m : Moment) (h : Happening) (p : Prefix) (k : ℕ) → loses_all k h ≡ false
     → ((moment_next m h).fd_published p k ≡ m.fd_published p k) ⊎ ((moment_next m h).fd_published p k ≡ moment_fd m p k)
-stays_or_chosen m (Tells i x) p k keeps = inl refl
-stays_or_chosen m (Takes e) p k keeps = inl refl
-stays_or_chosen m (Loses e) p k keeps = inl refl
 stays_or_chosen m (Publishes i) p k keeps = elim (cases_eq k i) [
   | inl e ↦ inr (rw (eq-eqb k i e) (ap (λ (j : ℕ). (machine_of ((m.processes).routers j) p).fd) (sym e)))
   | inr d ↦ inl (rw (ne_eqb k i d) refl)
@@ -59,8 +56,8 @@ stays_or_chosen m (PublishesSome i n) p k keeps = elim (cases_eq k i) [
     by_row e true is = inr (next_is e ∙ ap (λ b. if b then (machine_of ((m.processes).routers i) p).fd else m.fd_published p k) is ∙ ap (λ (j : ℕ). (machine_of ((m.processes).routers j) p).fd) (sym e))
     by_row e false is = inl (next_is e ∙ ap (λ b. if b then (machine_of ((m.processes).routers i) p).fd else m.fd_published p k) is)
 stays_or_chosen m (Forgets i q) p k keeps = inl (ap (λ b. if b && prefix_eq p q && may_forget q ((m.processes).routers i) then infinity else m.fd_published p k) keeps)
-stays_or_chosen m (Releases i) p k keeps = inl refl
 stays_or_chosen m (BeginsAnew i costs attachments) p k keeps = inl (ap (λ b. if b then (machine_of (made_router costs attachments) p).fd else m.fd_published p k) keeps)
+stays_or_chosen m _ p k keeps = inl refl
 
 -- so both stay low where no rise is published
 stays_low : (m : Moment) (h : Happening) (p : Prefix) (risen : Bool) (k g : ℕ) → ((risen || loses_all k h) && published_rises m h p k) ≡ false → IsLow (m.fd_published p k) (moment_fd m p k) risen g

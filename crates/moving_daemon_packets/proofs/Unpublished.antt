@@ -62,14 +62,11 @@ same_rows m (BeginsAnew j costs attachments) i quiet = with_other j (λ r. made_
 
 -- and so does its published feasible distance
 same_fd : (m : Moment) (h : Happening) (p : Prefix) (i : ℕ) → happening_publishes i h ≡ false → (moment_next m h).fd_published p i ≡ m.fd_published p i
-same_fd m (Tells j x) p i quiet = refl
-same_fd m (Takes e) p i quiet = refl
-same_fd m (Loses e) p i quiet = refl
 same_fd m (Publishes j) p i quiet = ap (λ b. if b then (machine_of ((m.processes).routers j) p).fd else m.fd_published p i) quiet
 same_fd m (PublishesSome j n) p i quiet = ap (λ b. if b then fd_then p (take n (changed_rows ((m.processes).routers j).table)) ((m.processes).routers j) (m.fd_published p i) else m.fd_published p i) quiet
 same_fd m (Forgets j k) p i quiet = ap (λ b. if b && prefix_eq p k && may_forget k ((m.processes).routers j) then infinity else m.fd_published p i) quiet
-same_fd m (Releases j) p i quiet = refl
 same_fd m (BeginsAnew j costs attachments) p i quiet = ap (λ b. if b then (machine_of (made_router costs attachments) p).fd else m.fd_published p i) quiet
+same_fd m _ p i quiet = refl
 
 -- so it shows the same
 same_step : (m : Moment) (h : Happening) (i : ℕ) → happening_publishes i h ≡ false → SameShown (λ (x : Moment). x.fd_published) (λ (x : Moment). entry_in_force x.processes) i m (moment_next m h)

@@ -20,9 +20,7 @@ rows_of o = option_map_or (λ (y : Router). (y.table).published) o []
 -- a router that takes an item keeps them
 keeps_rows : (q : ℕ) (item : Item) (r : Router) → ((router_accepting q item r).table).published ≡ (r.table).published
 keeps_rows q (Item.Up session cost) r = refl
-keeps_rows q (Item.Down session) r = refl
-keeps_rows q (Item.Cost session cost) r = refl
-keeps_rows q (Item.Message m) r = refl
+keeps_rows q _ r = refl
 
 -- a step in which the router does not publish leaves them
 same_rows : (w : World) (s : Step) (i : ℕ) → publishes i s ≡ false → rows_of (slice_get (next w s).routers i) ≡ rows_of (slice_get w.routers i)

@@ -43,13 +43,7 @@ step_of_code c =
 
 step_of_code-step_code : (s : Step) → step_of_code (step_code s) ≡ s
 step_of_code-step_code (LinkUp l) = refl
-step_of_code-step_code (LinkDown l) = refl
-step_of_code-step_code (SetCost i q cost) = refl
-step_of_code-step_code (Deliver i q) = refl
-step_of_code-step_code (Publish i) = refl
-step_of_code-step_code (Release i) = refl
-step_of_code-step_code (Attach i p cost) = refl
-step_of_code-step_code (Detach i p) = refl
+step_of_code-step_code _ = refl
 
 -- distinct steps have distinct numbers
 pub step_number_injective : (s t : Step) → Fits s → Fits t → step_number s ≡ step_number t → s ≡ t

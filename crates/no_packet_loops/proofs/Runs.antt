@@ -186,14 +186,8 @@ module _ (n : Network) (N : IsWired n) (p : Prefix) (w : World) (pfd : ℕ → �
 
 -- a step leaves the length of the list of routers as they published last
 published_count : (w : World) (rs : List Router) (s : Step) → length (published_after w rs s) ≡ length rs
-published_count w rs (LinkUp l) = refl
-published_count w rs (LinkDown l) = refl
-published_count w rs (SetCost i q cost) = refl
-published_count w rs (Deliver i q) = refl
 published_count w rs (Publish i) = option_map_or-ind (λ (xs : List Router). length xs ≡ length rs) (λ r. slice_set rs i r) (slice_get w.routers i) rs refl (λ r at. length-set rs i r)
-published_count w rs (Release i) = refl
-published_count w rs (Attach i k cost) = refl
-published_count w rs (Detach i k) = refl
+published_count w rs _ = refl
 
 -- a run of the view leads to the view of w, with rs as the routers when they published last; w keeps what worlds keep
 pub record Reached (n : Network) (N : IsWired n) (p : Prefix) (w : World) (rs : List Router) : Type 0 where

@@ -45,9 +45,7 @@ silent_to_none n p i r R known e sound meets j out =
 -- no item of a link changes an attachment
 item_leaves : (q : ℕ) (item : SeenItem) (a : Option ℕ) → attachment_after (event_of q item) a ≡ a
 item_leaves q (UpNotice s c) a = refl
-item_leaves q (DownNotice s) a = refl
-item_leaves q (CostNotice s c) a = refl
-item_leaves q (Reported m) a = refl
+item_leaves q _ a = refl
 
 module _ (n : Network) (N : IsWired n) (p : Prefix) (w : World) (pfd : ℕ → ℕ) (K : WorldKept n p w) (I : Invariant (topology n N) (view n p w pfd))
     (i q : ℕ) (x0 : Place) (laid_a : lay n (at_port i q) ≡ Some x0) (k : Link) (at : slice_get w.links x0.link ≡ Some k) (r : Router) (router_at : slice_get w.routers i ≡ Some r)
