@@ -59,12 +59,8 @@ IsNextStart more from bit row = (row ≤ 32) × (row % 2 ^ (4 - more) ≡ 0) × 
 
 pub next_start : (more : ℕ) → more < 5 → (from bit : ℕ) → from ≤ 2 ^ (more + 1) → 2 ^ (more + 1) - 2 + from ≤ bit
     → IsNextStart more from bit (min (bit - (2 ^ (more + 1) - 2)) (2 ^ (more + 1)) * 2 ^ (4 - more))
-next_start zero few from bit within found = (omega arith, omega arith, omega arith, λ v s l h. (omega arith, omega arith))
-next_start (suc zero) few from bit within found = (omega arith, omega arith, omega arith, λ v s l h. (omega arith, omega arith))
-next_start (suc (suc zero)) few from bit within found = (omega arith, omega arith, omega arith, λ v s l h. (omega arith, omega arith))
-next_start (suc (suc (suc zero))) few from bit within found = (omega arith, omega arith, omega arith, λ v s l h. (omega arith, omega arith))
-next_start (suc (suc (suc (suc zero)))) few from bit within found = (omega arith, omega arith, omega arith, λ v s l h. (omega arith, omega arith))
 next_start (suc (suc (suc (suc (suc n))))) few from bit within found = absurd (omega arith)
+next_start _ few from bit within found = (omega arith, omega arith, omega arith, λ v s l h. (omega arith, omega arith))
 
 -- as the code computes it
 pub next_start_is : (more from bit row : ℕ) → more < 5 → from ≤ 2 ^ (more + 1) → 2 ^ (more + 1) - 2 + from ≤ bit → row ≡ min (bit - (2 ^ (more + 1) - 2)) (2 ^ (more + 1)) * 2 ^ (4 - more)
@@ -73,30 +69,18 @@ next_start_is more from bit row few within found is = subst (IsNextStart more fr
 
 -- as many values as a length has
 pub values_few : (more : ℕ) → more < 5 → 2 ^ (more + 1) ≤ 32
-values_few zero few = omega arith
-values_few (suc zero) few = omega arith
-values_few (suc (suc zero)) few = omega arith
-values_few (suc (suc (suc zero))) few = omega arith
-values_few (suc (suc (suc (suc zero)))) few = omega arith
 values_few (suc (suc (suc (suc (suc n))))) few = absurd (omega arith)
+values_few _ few = omega arith
 
 -- a value of them, as the code shifts it
 pub value_shifted : (more value : ℕ) → more < 5 → value < 2 ^ (more + 1) → value * 2 ^ (4 - more) % 4294967296 ≡ value * 2 ^ (4 - more)
-value_shifted zero value few small = omega arith
-value_shifted (suc zero) value few small = omega arith
-value_shifted (suc (suc zero)) value few small = omega arith
-value_shifted (suc (suc (suc zero))) value few small = omega arith
-value_shifted (suc (suc (suc (suc zero)))) value few small = omega arith
 value_shifted (suc (suc (suc (suc (suc n))))) value few small = absurd (omega arith)
+value_shifted _ value few small = omega arith
 
 -- where there is none
 pub values_end : (more : ℕ) → more < 5 → 32 ≡ 2 ^ (more + 1) * 2 ^ (4 - more)
-values_end zero few = refl
-values_end (suc zero) few = refl
-values_end (suc (suc zero)) few = refl
-values_end (suc (suc (suc zero))) few = refl
-values_end (suc (suc (suc (suc zero)))) few = refl
 values_end (suc (suc (suc (suc (suc n))))) few = absurd (omega arith)
+values_end _ few = refl
 
 -- ---- the next place
 
@@ -114,22 +98,15 @@ module _ (five more : ℕ) (small : five < 32) where
   -- of no greater length
   pub after_short : (len v : ℕ) → len < 5 → len ≤ more → more < 5 → v % 2 ^ (4 - len) ≡ 0
       → ((five / 2 ^ (4 - len) + 1) * 2 ^ (4 - len) ≤ v → spot_number five more < spot_number v len) × (spot_number five more < spot_number v len → (five / 2 ^ (4 - len) + 1) * 2 ^ (4 - len) ≤ v)
-  after_short zero v few le m s = (λ h. omega arith, λ h. omega arith)
-  after_short (suc zero) v few le m s = (λ h. omega arith, λ h. omega arith)
-  after_short (suc (suc zero)) v few le m s = (λ h. omega arith, λ h. omega arith)
-  after_short (suc (suc (suc zero))) v few le m s = (λ h. omega arith, λ h. omega arith)
-  after_short (suc (suc (suc (suc zero)))) v few le m s = (λ h. omega arith, λ h. omega arith)
   after_short (suc (suc (suc (suc (suc n))))) v few le m s = absurd (omega arith)
+  after_short _ v few le m s = (λ h. omega arith, λ h. omega arith)
 
   -- of a greater length
   pub after_long : (len v : ℕ) → len < 5 → more < len → v % 2 ^ (4 - len) ≡ 0 → five % 2 ^ (4 - len) ≡ 0
       → (five / 2 ^ (4 - len) * 2 ^ (4 - len) ≤ v → spot_number five more < spot_number v len) × (spot_number five more < spot_number v len → five / 2 ^ (4 - len) * 2 ^ (4 - len) ≤ v)
   after_long zero v few l s t = absurd (omega arith)
-  after_long (suc zero) v few l s t = (λ h. omega arith, λ h. omega arith)
-  after_long (suc (suc zero)) v few l s t = (λ h. omega arith, λ h. omega arith)
-  after_long (suc (suc (suc zero))) v few l s t = (λ h. omega arith, λ h. omega arith)
-  after_long (suc (suc (suc (suc zero)))) v few l s t = (λ h. omega arith, λ h. omega arith)
   after_long (suc (suc (suc (suc (suc n))))) v few l s t = absurd (omega arith)
+  after_long _ v few l s t = (λ h. omega arith, λ h. omega arith)
 
 -- the next place, as far as the rows of the first so many lengths say
 pub record IsSpotTo (rows level five more len : ℕ) (next : Spot) : Type 0 where

@@ -1,5 +1,5 @@
 -- The first bits of a path, by fives.
-use Rattle.std.proofs.Common.{ℕ, zero, suc, ◌≡◌, ◌+◌, ◌-◌, ◌*◌, ◌/◌, ◌%◌, ◌^◌, ◌<◌, ◌≤◌, arith, sym, ap, ◌∙◌, inl, inr}
+use Rattle.std.proofs.Common.{ℕ, suc, ◌≡◌, ◌+◌, ◌-◌, ◌*◌, ◌/◌, ◌%◌, ◌^◌, ◌<◌, ◌≤◌, arith, sym, ap, ◌∙◌, inl, inr}
 use Rattle.std.proofs.lemmas.Nat.{shr-shr, same_from_place, pow-add, pow_pos}
 use Rattle.std.proofs.lemmas.Bool.{cases_order}
 use Rattle.std.proofs.Math.Nat.{pow-le-pow_right}
@@ -15,12 +15,8 @@ next_level p level h =
 
 -- all but the last bits of a number, by its 32nd part and its last five bits
 parts : (x more : ℕ) → more < 5 → x / 2 ^ (4 - more) ≡ x / 32 * 2 ^ (more + 1) + x % 32 / 2 ^ (4 - more)
-parts x zero h = omega arith
-parts x (suc zero) h = omega arith
-parts x (suc (suc zero)) h = omega arith
-parts x (suc (suc (suc zero))) h = omega arith
-parts x (suc (suc (suc (suc zero)))) h = omega arith
 parts x (suc (suc (suc (suc (suc n))))) h = absurd (omega arith)
+parts x _ h = omega arith
 
 -- the first bits of a path that end in a block: those above it, and the first of the five bits there
 pub path_start_in : (p level more : ℕ) → level ≤ 5 → more < 5
@@ -48,21 +44,13 @@ after_level p q level h e f = omega (arith, next_level p level h, next_level q l
 
 -- the first of five bits are few
 pub first_small : (five more : ℕ) → five < 32 → more < 5 → five / 2 ^ (4 - more) < 2 ^ (more + 1)
-first_small five zero h l = omega arith
-first_small five (suc zero) h l = omega arith
-first_small five (suc (suc zero)) h l = omega arith
-first_small five (suc (suc (suc zero))) h l = omega arith
-first_small five (suc (suc (suc (suc zero)))) h l = omega arith
 first_small five (suc (suc (suc (suc (suc n))))) h l = absurd (omega arith)
+first_small five _ h l = omega arith
 
 -- a block has 62 row bits
 pub row_bit_small : (five more : ℕ) → five < 32 → more < 5 → row_bit five more < 62
-row_bit_small five zero h l = omega arith
-row_bit_small five (suc zero) h l = omega arith
-row_bit_small five (suc (suc zero)) h l = omega arith
-row_bit_small five (suc (suc (suc zero))) h l = omega arith
-row_bit_small five (suc (suc (suc (suc zero)))) h l = omega arith
 row_bit_small five (suc (suc (suc (suc (suc n))))) h l = absurd (omega arith)
+row_bit_small five _ h l = omega arith
 
 -- two, or more
 two_or_more : (l : ℕ) → 2 ≤ 2 ^ (l + 1)

@@ -14,11 +14,8 @@ top_step p depth h =
 
 -- all but the last bits of a number, by its sixteenth and its last four bits
 sixteenths : (x len : ℕ) → len < 4 → x / 2 ^ (4 - len) ≡ x / 16 * 2 ^ len + x % 16 / 2 ^ (4 - len)
-sixteenths x zero h = omega arith
-sixteenths x (suc zero) h = omega arith
-sixteenths x (suc (suc zero)) h = omega arith
-sixteenths x (suc (suc (suc zero))) h = omega arith
 sixteenths x (suc (suc (suc (suc n)))) h = absurd (omega arith)
+sixteenths x _ h = omega arith
 
 -- the first bits of a path within a node: those above it, and the first of the four bits there
 pub path_start_in : (p depth len : ℕ) → depth ≤ 8 → len < 4
@@ -84,11 +81,8 @@ internal_bit_same f g l (suc (suc (suc (suc n)))) a b h k e = absurd (omega arit
 
 -- the first bits of four are few
 last_small : (f len : ℕ) → f < 16 → len < 4 → f / 2 ^ (4 - len) < 2 ^ len
-last_small f zero h l = omega arith
-last_small f (suc zero) h l = omega arith
-last_small f (suc (suc zero)) h l = omega arith
-last_small f (suc (suc (suc zero))) h l = omega arith
 last_small f (suc (suc (suc (suc n)))) h l = absurd (omega arith)
+last_small f _ h l = omega arith
 
 -- the same first bits, by nibbles and what is left
 pub parts_from_first : (p q depth len : ℕ) → depth ≤ 8 → len < 4 → path_top p (4 * depth + len) ≡ path_top q (4 * depth + len)
@@ -111,8 +105,5 @@ first_from_parts p q depth len a b h l same last =
 
 -- a node has 15 internal bits
 pub internal_bit_small : (four len : ℕ) → four < 16 → len < 4 → internal_bit four len < 15
-internal_bit_small four zero h l = omega arith
-internal_bit_small four (suc zero) h l = omega arith
-internal_bit_small four (suc (suc zero)) h l = omega arith
-internal_bit_small four (suc (suc (suc zero))) h l = omega arith
 internal_bit_small four (suc (suc (suc (suc n)))) h l = absurd (omega arith)
+internal_bit_small four _ h l = omega arith
