@@ -45,48 +45,24 @@ name_key name = 256 * length name + slice_index name 0
 module _ (P : Words → Type 0) (rows : List Row) where
   pub of_check : ((f : Bor Text) (e : Bool) → AsksByMatches rows (Check f e) → P (Check f e)) → (w : Words) → AsksAs (codes "check") rows w → P w
   of_check it (Check f e) h = it f e h.1
-  of_check it (Run f t k j n e o p) h = absurd (omega (arith, ap name_key h.0))
-  of_check it (Replay f j e o p) h = absurd (omega (arith, ap name_key h.0))
-  of_check it (Time f t s e o) h = absurd (omega (arith, ap name_key h.0))
-  of_check it (Explain k) h = absurd (omega (arith, ap name_key h.0))
-  of_check it (Shell f j n e o) h = absurd (omega (arith, ap name_key h.0))
+  of_check it _ h = absurd (omega (arith, ap name_key h.0))
 
   pub of_run : ((f : Bor Text) (t k : ℕ) (j : Option (Bor Text)) (n e : Bool) (o : Format) (p : Bool) → AsksByMatches rows (Run f t k j n e o p) → P (Run f t k j n e o p)) → (w : Words) → AsksAs (codes "run") rows w → P w
-  of_run it (Check f e) h = absurd (omega (arith, ap name_key h.0))
   of_run it (Run f t k j n e o p) h = it f t k j n e o p h.1
-  of_run it (Replay f j e o p) h = absurd (omega (arith, ap name_key h.0))
-  of_run it (Time f t s e o) h = absurd (omega (arith, ap name_key h.0))
-  of_run it (Explain k) h = absurd (omega (arith, ap name_key h.0))
-  of_run it (Shell f j n e o) h = absurd (omega (arith, ap name_key h.0))
+  of_run it _ h = absurd (omega (arith, ap name_key h.0))
 
   pub of_replay : ((f j : Bor Text) (e : Bool) (o : Format) (p : Bool) → AsksByMatches rows (Replay f j e o p) → P (Replay f j e o p)) → (w : Words) → AsksAs (codes "replay") rows w → P w
-  of_replay it (Check f e) h = absurd (omega (arith, ap name_key h.0))
-  of_replay it (Run f t k j n e o p) h = absurd (omega (arith, ap name_key h.0))
   of_replay it (Replay f j e o p) h = it f j e o p h.1
-  of_replay it (Time f t s e o) h = absurd (omega (arith, ap name_key h.0))
-  of_replay it (Explain k) h = absurd (omega (arith, ap name_key h.0))
-  of_replay it (Shell f j n e o) h = absurd (omega (arith, ap name_key h.0))
+  of_replay it _ h = absurd (omega (arith, ap name_key h.0))
 
   pub of_time : ((f t : Bor Text) (s e : Bool) (o : Format) → AsksByMatches rows (Time f t s e o) → P (Time f t s e o)) → (w : Words) → AsksAs (codes "time") rows w → P w
-  of_time it (Check f e) h = absurd (omega (arith, ap name_key h.0))
-  of_time it (Run f t k j n e o p) h = absurd (omega (arith, ap name_key h.0))
-  of_time it (Replay f j e o p) h = absurd (omega (arith, ap name_key h.0))
   of_time it (Time f t s e o) h = it f t s e o h.1
-  of_time it (Explain k) h = absurd (omega (arith, ap name_key h.0))
-  of_time it (Shell f j n e o) h = absurd (omega (arith, ap name_key h.0))
+  of_time it _ h = absurd (omega (arith, ap name_key h.0))
 
   pub of_explain : ((k : FaultKind) → AsksByMatches rows (Explain k) → P (Explain k)) → (w : Words) → AsksAs (codes "explain") rows w → P w
-  of_explain it (Check f e) h = absurd (omega (arith, ap name_key h.0))
-  of_explain it (Run f t k j n e o p) h = absurd (omega (arith, ap name_key h.0))
-  of_explain it (Replay f j e o p) h = absurd (omega (arith, ap name_key h.0))
-  of_explain it (Time f t s e o) h = absurd (omega (arith, ap name_key h.0))
   of_explain it (Explain k) h = it k h.1
-  of_explain it (Shell f j n e o) h = absurd (omega (arith, ap name_key h.0))
+  of_explain it _ h = absurd (omega (arith, ap name_key h.0))
 
   pub of_shell : ((f : Bor Text) (j : Option (Bor Text)) (n e : Bool) (o : Format) → AsksByMatches rows (Shell f j n e o) → P (Shell f j n e o)) → (w : Words) → AsksAs (codes "shell") rows w → P w
-  of_shell it (Check f e) h = absurd (omega (arith, ap name_key h.0))
-  of_shell it (Run f t k j n e o p) h = absurd (omega (arith, ap name_key h.0))
-  of_shell it (Replay f j e o p) h = absurd (omega (arith, ap name_key h.0))
-  of_shell it (Time f t s e o) h = absurd (omega (arith, ap name_key h.0))
-  of_shell it (Explain k) h = absurd (omega (arith, ap name_key h.0))
   of_shell it (Shell f j n e o) h = it f j n e o h.1
+  of_shell it _ h = absurd (omega (arith, ap name_key h.0))

@@ -15,9 +15,7 @@ images-changed_router i f w same = map-changed_at f image_in_force i w.routers (
 
 image-accepting : (q : ℕ) (item : Item) (r : Router) → image_in_force (router_accepting q item r) ≡ image_in_force r
 image-accepting q (Item.Up session cost) r = refl
-image-accepting q (Item.Down session) r = refl
-image-accepting q (Item.Cost session cost) r = refl
-image-accepting q (Item.Message m) r = refl
+image-accepting q _ r = refl
 
 -- it puts no other image in force
 pub images_stay : (w : World) (s : Step) → ((i : ℕ) → s ≡ Publish i → ⊥) → images_in_force (next w s) ≡ images_in_force w

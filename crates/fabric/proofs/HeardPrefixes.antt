@@ -3,7 +3,7 @@ use Rattle.std.proofs.Common.{refl, sym, ap, subst, ◌∙◌, ◌≡◌, ℕ, z
 use Rattle.std.specs.FinMap.{find as row_of, put}
 use Rattle.no_packet_loops.proofs.Common.{find-put, Prefix, prefix_cmp, prefix_eq, prefix_cmp_total, Event, Item, Notice, End, Port, Machine, Reaction, reaction, changed_at, event_at_home, Link, Router, World, machine_of, next, reactions, entry_of, chosen_rows, changed_link, with_cost, with_front_taken, with_message, with_delivered, with_noticed, with_notice_taken, with_released, front_at, notice_at, release_at, changed_attachments, router_noticing, router_accepting, router_at_home, router_publishing, router_releasing, option_map_or-ind, find-map, routers-changed_link}
 use Rattle.network_model.specs.declared.step.Step.{Step}
-use Rattle.network_model.specs.declared.step.Step.TheVariants.{LinkUp, LinkDown, SetCost, Deliver, Publish, Release, Attach, Detach}
+use Rattle.network_model.specs.declared.step.Step.TheVariants.{SetCost, Deliver, Publish, Release}
 use Rattle.fabric.specs.Writers.{IsHeard}
 
 -- ---- a router
@@ -58,8 +58,6 @@ module _ (p : Prefix) where
 
   -- what a router has heard of stays so at every step
   pub heard_next : (w : World) (s : Step) (i : ℕ) → IsHeard w i p → IsHeard (next w s) i p
-  heard_next w (LinkUp l) i has = has
-  heard_next w (LinkDown l) i has = has
   heard_next w (SetCost j q cost) i has = has-changed_link j q (with_cost cost) w i has
   heard_next w (Deliver j q) i has = option_map_or-ind (λ v. IsHeard v i p) (with_delivered j q w) (front_at w j q) _
       (option_map_or-ind (λ v. IsHeard v i p) (with_noticed j w) (notice_at w j q) w has
@@ -68,8 +66,7 @@ module _ (p : Prefix) where
   heard_next w (Publish j) i has = has-changed_at router_publishing (λ r h. h) j i w.routers has
   heard_next w (Release j) i has = option_map_or-ind (λ v. IsHeard v i p) (with_released j w) (release_at w j) w has
       (λ h _. has-changed_at router_releasing (λ r x. x) j i (changed_link j h.port (with_message h) w).routers (has-changed_link j h.port (with_message h) w i has))
-  heard_next w (Attach j k cost) i has = has
-  heard_next w (Detach j k) i has = has
+  heard_next w _ i has = has
 
 -- ---- chosen rows
 

@@ -2,7 +2,7 @@
 use Rattle.std.proofs.Common.{inl, inr, refl, sym, ap, subst, ◌∙◌, arith, ◌≡◌, ◌⊎◌, ℕ, zero, suc, ◌+◌, ◌-◌, ◌<◌, ◌||◌, Bool, true, false, cond, nat_lt, List, [], ◌∷◌, drop, length, map, replicate, set, Option, Some, None, IfSome, is_some, slice_get, option_map, ltb-true, lt-ltb}
 use Rattle.no_packet_loops.proofs.Common.{⊤, option_map_or, false≢true, slice_get-map, Held, changed_at, Router, World, next, changed_rows, changed_link, is_due, ripe_front, with_cost, with_delivered, with_front_taken, with_message, with_noticed, with_released, front_at, notice_at, release_at, router_accepting, router_at_home, router_publishing, router_releasing, Patch, None_not_Some, Some_injective, option_map_or-ind, routers-changed_link}
 use Rattle.network_model.specs.declared.step.Step.{Step}
-use Rattle.network_model.specs.declared.step.Step.TheVariants.{LinkUp, LinkDown, SetCost, Deliver, Publish, Release, Attach, Detach}
+use Rattle.network_model.specs.declared.step.Step.TheVariants.{SetCost, Deliver, Publish, Release}
 use Rattle.image_patch.specs.Patches.{patched}
 use Rattle.publication.specs.Lists.{Writing}
 use Rattle.publication.proofs.Places.{each_there, there_each}
@@ -73,14 +73,9 @@ lent_set (x ∷ xs) (suc i) (suc k) y out = behind (lent_set xs i k y out)
 
 -- the step is no delivery and no publication at router i: what is due there stays
 abbrev pub Spares : Step → ℕ → Type 0
-Spares (LinkUp l) i = ⊤
-Spares (LinkDown l) i = ⊤
-Spares (SetCost j q cost) i = ⊤
 Spares (Deliver j q) i = i ≡ j → ⊥
 Spares (Publish j) i = i ≡ j → ⊥
-Spares (Release j) i = ⊤
-Spares (Attach j p cost) i = ⊤
-Spares (Detach j p) i = ⊤
+Spares _ i = ⊤
 
 module _ {A : Type 0} (P : A → Type 0) (f : A → A) where
   -- an element of which a fact holds is there still where one is changed, and the fact holds of it
@@ -132,8 +127,6 @@ module _ (p : Patch) (i : ℕ) where
 
   -- what is due stays due at every step that spares the router
   due_next : (w : World) (s : Step) → Spares s i → Due w.routers → Due (next w s).routers
-  due_next w (LinkUp l) _ due = due
-  due_next w (LinkDown l) _ due = due
   due_next w (SetCost j q cost) _ due = due_link j q (with_cost cost) w due
   due_next w (Deliver j q) spared due = option_map_or-ind (λ v. Due v.routers) (with_delivered j q w) (front_at w j q) (option_map_or (with_noticed j w) (notice_at w j q) w)
       (option_map_or-ind (λ v. Due v.routers) (with_noticed j w) (notice_at w j q) w due (λ n _. due_changed j (router_at_home n) w.routers due (λ same. absurd (spared same))))
@@ -142,8 +135,7 @@ module _ (p : Patch) (i : ℕ) where
   due_next w (Release j) _ due = option_map_or-ind (λ v. Due v.routers) (with_released j w) (release_at w j) w due
       (λ h is. subst (λ rs. Due (changed_at j router_releasing rs)) (sym (routers-changed_link j h.port (with_message h) w))
       (due_changed j router_releasing w.routers due (λ same. due_released p due.0 (ripe_there w h due (ap (release_at w) same ∙ is)) due.2)))
-  due_next w (Attach j q cost) _ due = due
-  due_next w (Detach j q) _ due = due
+  due_next w _ _ due = due
 
   pub pending_next : (w : World) (s : Step) → Spares s i → IsPending w i p → IsPending (next w s) i p
   pending_next w s spared is =
@@ -152,14 +144,9 @@ module _ (p : Patch) (i : ℕ) where
 
 -- a step that waits for no writer spares each router whose writer is out
 pub spared : (f : Fabric) (s : Step) → awaits_writer f s ≡ false → (i : ℕ) → is_lent f i ≡ true → Spares s i
-spared f (LinkUp l) free i out = tt
-spared f (LinkDown l) free i out = tt
-spared f (SetCost j q cost) free i out = tt
 spared f (Deliver j q) free i out = λ same. false≢true (sym free ∙ ap (is_lent f) (sym same) ∙ out)
 spared f (Publish j) free i out = λ same. false≢true (sym free ∙ ap (is_lent f) (sym same) ∙ out)
-spared f (Release j) free i out = tt
-spared f (Attach j p cost) free i out = tt
-spared f (Detach j p) free i out = tt
+spared f _ free i out = tt
 
 -- each patch with which a writer is out is the one that is due
 pub lent_due : (w : World) (desks : List Desk) → ArePending w desks → (i : ℕ) (patch : Patch) → lent_at (all_lent desks) i ≡ Some patch → IsPending w i patch

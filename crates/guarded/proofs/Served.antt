@@ -1,7 +1,7 @@
 -- What a fabric under a lock can have become: nothing at first, then step after step; and what the sum of its journal tells.
 use Rattle.std.proofs.Common.{inl, inr, refl, sym, ap, subst, ◌∙◌, ◌≡◌, ◌≢◌, ◌⊎◌, ℕ, ◌+◌, ◌≤◌, Bool, true, false, not, find, map, if◌then◌else◌, List, [], ◌∷◌, ◌++◌, Option, Some, None, nat_lt, ltb-false, is_none, is_some, length, slice_get, option_and_then, Result, Ok, Err, append_assoc, append-nil}
 use Rattle.network_model.proofs.Common.{option_map_or, false≢true, most_steps, first_cause, is_lawful, next_step, Lawful_to_refusal, None_not_Some, Some_injective, option_map_or-ind, slice_get-changed_at_other, routers-changed_link, range_with_len, Router, World, degree_of, Patch, Lawful, next, refusal, is_due, ripe_front, changed_link, with_cost, with_delivered, with_front_taken, with_message, with_noticed, with_released, front_at, notice_at, release_at, router_accepting, router_at_home, router_publishing, router_releasing, Runs}
-use Rattle.network_model.specs.declared.step.Step.TheVariants.{LinkUp, LinkDown, SetCost, Deliver, Publish, Release, Attach, Detach}
+use Rattle.network_model.specs.declared.step.Step.TheVariants.{SetCost, Deliver, Publish, Release}
 use Rattle.network_model.specs.declared.step.Refusal.{Refusal}
 use Rattle.world.specs.Steps.{CanBeRefused, IsDoneOr}
 use Rattle.network_model.specs.declared.step.Refusal.TheVariants.{UnknownRouter, NothingDue, NothingRipe}
@@ -44,10 +44,6 @@ is_next w i due lawful = (by_test _ (is_lawful w (Release i)) refl due, ap is_no
 
 -- a lawful step that is no delivery and no publication at a router leaves one that publishes next as it was
 router_stays : (w : World) (s : Step) (i : ℕ) → Spares s i → Lawful w s → PublishesNext w i → slice_get (next w s).routers i ≡ slice_get w.routers i
-router_stays w (LinkUp l) i _ _ _ = refl
-router_stays w (LinkDown l) i _ _ _ = refl
-router_stays w (Attach j p cost) i _ _ _ = refl
-router_stays w (Detach j p) i _ _ _ = refl
 router_stays w (SetCost j q cost) i _ _ _ = ap (λ rs. slice_get rs i) (routers-changed_link j q (with_cost cost) w)
 router_stays w (Deliver j q) i apart _ _ = option_map_or-ind (λ v. slice_get v.routers i ≡ slice_get w.routers i) (with_delivered j q w) (front_at w j q) (option_map_or (with_noticed j w) (notice_at w j q) w)
     (option_map_or-ind (λ v. slice_get v.routers i ≡ slice_get w.routers i) (with_noticed j w) (notice_at w j q) w refl (λ n _. slice_get-changed_at_other (router_at_home n) j i w.routers apart))
@@ -58,6 +54,7 @@ router_stays w (Release j) i _ lawful is = option_map_or-ind (λ v. slice_get v.
   where
     apart : i ≢ j
     apart same = false≢true (sym is.0 ∙ ap is_none (Lawful_to_refusal w (Release i) (subst (λ k. Lawful w (Release k)) (sym same) lawful)))
+router_stays w _ i _ _ _ = refl
 
 pub stays_next : (w : World) (s : Step) (i : ℕ) → Spares s i → Lawful w s → PublishesNext w i → PublishesNext (next w s) i
 stays_next w s i spares lawful is = next_by (next w s) w i (router_stays w s i spares lawful is) is
@@ -110,14 +107,8 @@ next_router w i j is = by_tests (is_lawful w (Release i)) (is_lawful w (Publish 
     qs = range_with_len 0 (option_map_or (λ d. d + 1) (degree_of w i) 0)
 
     of : Step → ℕ
-    of (LinkUp l) = 0
-    of (LinkDown l) = 0
-    of (SetCost k q cost) = 0
-    of (Deliver k q) = 0
     of (Publish k) = k
-    of (Release k) = 0
-    of (Attach k p cost) = 0
-    of (Detach k p) = 0
+    of _ = 0
 
     delivered : (xs : List ℕ) → find (is_lawful w) (map (λ q. Deliver i q) xs) ≡ Some (Publish j) → ⊥
     delivered [] none = None_not_Some none

@@ -2,7 +2,7 @@
 use Rattle.std.proofs.Common.{◌≡◌, ◌≢◌, ℕ, ◌+◌, List, [], ◌∷◌, ◌++◌, length, codes, decimal, arith, refl, sym, ap, subst, ◌∙◌, inl, inr, false, bytes_eq, append_assoc}
 use Rattle.script.proofs.Common.{decimal_injective, all_zipped_more, Prefix, SpellsPrefix, IsFirstFault, PrefixFault, IsFirstFault-spelled, LinkSpec, Step, LinkUp, LinkDown, SetCost, Deliver, Publish, Release, Attach, Detach, Text, IsCost, NamesTextAndNumber, NamesBadPrefix, AsksStep, AsksBadStep, AsksNoStep, AsksBadCost}
 use Rattle.script.specs.declared.fault.LineFault.{LineFault}
-use Rattle.script.specs.declared.fault.LineFault.TheVariants.{BadName, BadLine, BadCost, Prefix as OfPrefix, BadCommand, TooLarge, NoMemory}
+use Rattle.script.specs.declared.fault.LineFault.TheVariants.{BadCost, Prefix as OfPrefix, BadCommand}
 use Rattle.script.proofs.StepTexts.{clash, parts_unique, text_unique}
 use Rattle.journal.specs.declared.read.Version.{Version}
 use Rattle.journal.specs.Steps.{SaysStep}
@@ -38,15 +38,12 @@ verb_of (Detach router prefix) = codes "detach"
 module _ (names : List Text) (links : List LinkSpec) (attachments : List (Prefix × ℕ × ℕ)) (words : List Text) where
   -- words that ask for a step begin with its verb
   asks_verb : (s : Step) → AsksStep names links attachments words s → (rest : List Text) × (words ≡ verb_of s ∷ rest)
-  asks_verb (LinkUp link) asks = (_, asks.1.spelled)
-  asks_verb (LinkDown link) asks = (_, asks.1.spelled)
   asks_verb (SetCost router port cost) asks = (_, asks.0.1.spelled)
   asks_verb (Deliver router port) (inl asks, small) = (_, asks.1.spelled)
   asks_verb (Deliver router port) (inr asks, small) = (_, asks.0.spelled)
   asks_verb (Publish router) asks = (_, asks.spelled)
   asks_verb (Release router) asks = (_, asks.spelled)
-  asks_verb (Attach router prefix cost) asks = (_, asks.1.spelled)
-  asks_verb (Detach router prefix) asks = (_, asks.1.spelled)
+  asks_verb _ asks = (_, asks.1.spelled)
 
   other_step : (verb : Text) (rest : List Text) → words ≡ verb ∷ rest → (s : Step) → bytes_eq verb (verb_of s) ≡ false → ¬ (AsksStep names links attachments words s)
   other_step verb rest is s apart asks = let other = asks_verb s asks in clash verb (verb_of s) rest other.0 apart (sym is ∙ other.1)
@@ -96,25 +93,18 @@ module _ (names : List Text) (links : List LinkSpec) (attachments : List (Prefix
       IsFirstFault-spelled asks.0 fault prefix (subst (λ t. IsFirstFault t fault) same bad.3) asks.2
 
   bad_no_step : (e : LineFault) → AsksBadStep names links words e → (s : Step) → ¬ (AsksStep names links attachments words s)
-  bad_no_step BadName never = absurd never
-  bad_no_step BadLine never = absurd never
   bad_no_step BadCost (inl bad) = no_cost_no_step bad
   bad_no_step BadCost (inr bad) = no_values_no_step bad.0 bad.1 bad.2 bad.4 (λ prefix spelled. bad.6)
   bad_no_step (OfPrefix fault) (inl bad) = no_prefix_no_step fault bad
   bad_no_step (OfPrefix fault) (inr bad) = no_values_no_step bad.0 bad.1 bad.2 bad.3 (λ prefix spelled. absurd (IsFirstFault-spelled bad.2 fault prefix bad.4 spelled))
-  bad_no_step BadCommand never = absurd never
-  bad_no_step TooLarge never = absurd never
-  bad_no_step NoMemory never = absurd never
+  bad_no_step _ never = absurd never
 
   -- a line that is refused says no step
   pub says_no_step : (e : LineFault) → AsksNoStep names links attachments words e → (s : Step) → ¬ (AsksStep names links attachments words s)
-  says_no_step BadName never = absurd never
-  says_no_step BadLine never = absurd never
   says_no_step BadCost bad = bad_no_step BadCost bad
   says_no_step (OfPrefix fault) bad = bad_no_step (OfPrefix fault) bad
   says_no_step BadCommand none = none.0
-  says_no_step TooLarge never = absurd never
-  says_no_step NoMemory never = absurd never
+  says_no_step _ never = absurd never
 
 -- ---- where reading stops
 

@@ -7,7 +7,7 @@ use Rattle.std.proofs.lemmas.Bool.{cases_eq, false≢true}
 use Rattle.std.proofs.lemmas.Option.{none-some, same_Some, slice_get_read, slice_get_within}
 use Rattle.ipv4_prefix.specs.Prefix.{Prefix, prefix_cmp}
 use Rattle.network_model.specs.declared.step.Step.{Step}
-use Rattle.network_model.specs.declared.step.Step.TheVariants.{LinkUp, LinkDown, SetCost, Deliver, Publish, Release, Attach, Detach}
+use Rattle.network_model.specs.declared.step.Step.TheVariants.{Publish, Release}
 use Rattle.network_model.specs.Machine.{Machine}
 use Rattle.network_model.specs.World.{Attachments, Network, Router, World}
 use Rattle.network_model.specs.Step.{chosen_rows, next}
@@ -277,14 +277,9 @@ touched_or_not (Some k) i = by_number (cases_eq k i)
 
 -- a step that does not touch a router does not touch its attachments either
 spares_attachments : (w : World) (s : Step) (i : ℕ) → touched_router w s ≢ Some i → (touched_by s w).attachments ≢ Some i
-spares_attachments w (LinkUp l) i apart = apart
-spares_attachments w (LinkDown l) i apart = apart
-spares_attachments w (SetCost k q cost) i apart = apart
-spares_attachments w (Deliver k q) i apart = apart
 spares_attachments w (Publish k) i apart = none-some i
 spares_attachments w (Release k) i apart = none-some i
-spares_attachments w (Attach k p cost) i apart = apart
-spares_attachments w (Detach k p) i apart = apart
+spares_attachments w _ i apart = apart
 
 -- nor does it touch the router itself
 spares_router : (r o : Option ℕ) (i : ℕ) → either_of r o ≢ Some i → r ≢ Some i

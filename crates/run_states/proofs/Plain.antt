@@ -15,7 +15,7 @@ use Rattle.network_model.specs.declared.network.End.{End}
 use Rattle.network_model.specs.declared.network.LinkSpec.{LinkSpec}
 use Rattle.network_model.specs.declared.network.Place.{Place}
 use Rattle.network_model.specs.declared.route.Entry.{Entry}
-use Rattle.network_model.specs.declared.route.Entry.TheVariants.{Local, Via, Unreachable}
+use Rattle.network_model.specs.declared.route.Entry.TheVariants.{Via}
 use Rattle.network_model.specs.World.{Network, World, place_at}
 use Rattle.serde_json.specs.Data.{Data, null, boolean, object, Members, no_members, member, put}
 use Rattle.serde_json.specs.View.{items_of}
@@ -91,10 +91,8 @@ port_plain w i q = of_place (place_at w i q)
     of_place (Some p) = refl
 
 entry_plain : (w : World) (i : ℕ) (e : Option Entry) → has_float (entry_data w i e) ≡ false
-entry_plain w i None = refl
-entry_plain w i (Some Local) = refl
-entry_plain w i (Some Unreachable) = refl
 entry_plain w i (Some (Via q session)) = or_false (port_plain w i q) refl
+entry_plain w i _ = refl
 
 machine_plain : (w : World) (i p : ℕ) (m : MachineShown) → has_float (machine_data w i p m) ≡ false
 machine_plain w i p m = by_origin (m.at).origin
@@ -107,10 +105,8 @@ machine_plain w i p m = by_origin (m.at).origin
     by_origin (Some origin) = or_false (map_plain (port_data w i) (filter (set.contains m.awaited) (range_with_len 0 32)) (port_plain w i)) rest
 
 item_plain : (ps : List Prefix) (item : Item) → has_float (item_data ps item) ≡ false
-item_plain ps (Item.Up session cost) = refl
-item_plain ps (Item.Down session) = refl
-item_plain ps (Item.Cost session cost) = refl
 item_plain ps (Item.Message m) = or_false (distance_plain m.value) refl
+item_plain ps _ = refl
 
 queue_plain : (ps : List Prefix) (l : ℕ) (e : End) (c : QueueChange) → has_float (queue_data ps l e c) ≡ false
 queue_plain ps l e c =

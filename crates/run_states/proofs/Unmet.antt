@@ -163,11 +163,8 @@ module _ (w : World) (i : ℕ) (x y : Router) (p : Prefix) (at : slice_get w.rou
       released_heard : (o : Option Held) → slice_get (option_map_or (with_released i w) o w).routers i ≡ Some y → Remembers p x y
       released_heard None there = stays_heard p x y (same_is w refl there)
       released_heard (Some h) there = subst (λ z. Remembers p x z) (changed_is router_releasing (changed_link i h.port (with_message h) w) (routers-changed_link i h.port (with_message h) w) there) (λ none. none)
-  remembered (LinkUp l) is there = stays_heard p x y (same_is w refl there)
-  remembered (LinkDown l) is there = stays_heard p x y (same_is w refl there)
   remembered (SetCost j q cost) is there = stays_heard p x y (same_is (changed_link j q (with_cost cost) w) (routers-changed_link j q (with_cost cost) w) there)
-  remembered (Attach j k cost) is there = stays_heard p x y (same_is w refl there)
-  remembered (Detach j k) is there = stays_heard p x y (same_is w refl there)
+  remembered _ is there = stays_heard p x y (same_is w refl there)
 
   -- the router that a step touches has for each prefix that it does not touch what it had
   pub machine_untouched : (s : Step) → touched_router w s ≡ Some i → slice_get (next w s).routers i ≡ Some y → may_touch w s p ≡ false → SameMachine p x y

@@ -1,26 +1,16 @@
 -- What a document's table says of the four lists.
 use Rattle.std.proofs.Common.{◌≡◌, List, Option, Some, None, option_and_then, refl, sym, ap, ◌∙◌, codes, ne_eqb}
-use Rattle.toml.specs.Data.{Data, string, integer, float, boolean, datetime, array, table, as_array, Items, Members, get_member}
+use Rattle.toml.specs.Data.{Data, array, as_array, Items, Members, get_member}
 use Rattle.texts.specs.Words.{Text}
 use Rattle.scenario.specs.Scenario.{texts_of, array_texts, texts_at, key_count, lists_in}
 
 of_array : (d : Data) (ds : Items) → Some ds ≡ as_array d → array_texts d ≡ texts_of ds
-of_array (string t) ds e = cc
-of_array (integer z) ds e = cc
-of_array (float z) ds e = cc
-of_array (boolean z) ds e = cc
-of_array (datetime z) ds e = cc
 of_array (array es) ds e = ap texts_of (ap (λ o. elim o [ Some v ↦ v | None ↦ ds ]) (sym e))
-of_array (table z) ds e = cc
+of_array _ ds e = cc
 
 of_other : (d : Data) → None ≡ as_array d → array_texts d ≡ None
-of_other (string t) e = refl
-of_other (integer z) e = refl
-of_other (float z) e = refl
-of_other (boolean z) e = refl
-of_other (datetime z) e = refl
 of_other (array es) e = cc
-of_other (table z) e = refl
+of_other _ e = refl
 
 pub at_array : (k : Text) (t : Members) (d : Data) (ds : Items) → Some d ≡ get_member k t → Some ds ≡ as_array d → texts_at k t ≡ texts_of ds
 at_array k t d ds here e = ap (option_and_then array_texts) (sym here) ∙ of_array d ds e

@@ -72,13 +72,9 @@ no_seed verb rest apart seed h = clash _ _ _ _ apart h.spelled
 
 -- words that are not three ask for no trace where they name no router and address
 pub two_word_fault : (names rest : List Text) → ((a b c : Text) → rest ≢ a ∷ b ∷ c ∷ []) → (fault : LineFault) → NamesNoAddress names (codes "trace") (codes "trace" ∷ rest) fault → AsksNoTrace names (codes "trace" ∷ rest) fault
-two_word_fault names rest apart BadName h = h
-two_word_fault names rest apart BadLine h = h
-two_word_fault names rest apart BadCost h = h
 two_word_fault names rest apart (OfPrefix fault) h = (h.0, inl h.1)
 two_word_fault names rest apart BadCommand h = (h, λ router text n. apart n.name text (codes "--through") (rest_same _ _ _ _ n.spelled))
-two_word_fault names rest apart TooLarge h = h
-two_word_fault names rest apart NoMemory h = h
+two_word_fault names rest apart _ h = h
 
 -- ---- words that ask for no command
 
@@ -104,11 +100,7 @@ module _ (names : List Text) (links : List LinkSpec) (attachments : List (Prefix
       commands (Command.Try s) h = (tried h.0 h.1).0 s h.2
       commands (Command.RouterUp router) h = routers _ (3, omega arith, refl) router h
       commands (Command.RouterDown router) h = routers _ (4, omega arith, refl) router h
-      commands Command.Settle h = single _ h
       commands (Command.SettleDrawn seed) h = drawn seed h
-      commands Command.Count h = single _ h
-      commands Command.Save h = single _ h
-      commands Command.Restore h = single _ h
       commands (Command.State router prefix) h = state.0 router prefix h
       commands (Command.Table router) h = routers _ (0, omega arith, refl) router h
       commands (Command.Next router) h = routers _ (1, omega arith, refl) router h
@@ -118,19 +110,13 @@ module _ (names : List Text) (links : List LinkSpec) (attachments : List (Prefix
       commands (Command.Inject router addr) h = address _ (1, omega arith, refl) router h.0 h.1
       commands (Command.Trace router addr) h = address _ (2, omega arith, refl) router h.0 h.1
       commands (Command.TraceThrough router addr) h = through router h.0 h.1
-      commands Command.Drain h = single _ h
-      commands Command.Report h = single _ h
+      commands _ h = single _ h
 
       questions : (fault : LineFault) → ¬ (AsksBadQuestion names (verb ∷ rest) fault)
-      questions BadName h = h
-      questions BadLine h = h
-      questions BadCost h = h
       questions (OfPrefix fault) (inl h) = state.1 fault h
       questions (OfPrefix fault) (inr (is, inl h)) = address h.0 h.1 h.2.0 h.2.1 h.2.2
       questions (OfPrefix fault) (inr (is, inr h)) = through h.0 h.1 h.2
-      questions BadCommand h = h
-      questions TooLarge h = h
-      questions NoMemory h = h
+      questions _ h = h
 
       faults : (fault : LineFault) → ¬ (HasBadValue names links (verb ∷ rest) fault)
       faults fault (inl h) = step.1 fault h
@@ -190,13 +176,9 @@ module _ (names : List Text) (links : List LinkSpec) (attachments : List (Prefix
     address_fault : (verb : Text) → Contains address_verbs verb → AsksNoStep names links attachments (verb ∷ rest) BadCommand
         → bytes_eq verb (codes "try") ≡ false → bytes_eq verb (codes "state") ≡ false → list_any (bytes_eq verb) router_verbs ≡ false → bytes_eq verb (codes "queue") ≡ false → bytes_eq verb (codes "settle") ≡ false → bytes_eq verb (codes "trace") ≡ false
         → (fault : LineFault) → NamesNoAddress names verb (verb ∷ rest) fault → AsksNothing names links attachments (verb ∷ rest) fault
-    address_fault verb among step tried state routers queue settle trace BadName h = absurd h
-    address_fault verb among step tried state routers queue settle trace BadLine h = absurd h
-    address_fault verb among step tried state routers queue settle trace BadCost h = absurd h
     address_fault verb among step tried state routers queue settle trace (OfPrefix fault) h = inr (inr (inr (h.0, inl (verb, among, h.1))))
     address_fault verb among step tried state routers queue settle trace BadCommand h = no_address verb step tried state routers queue settle h (λ router text n. clash _ _ _ _ trace n.spelled)
-    address_fault verb among step tried state routers queue settle trace TooLarge h = absurd h
-    address_fault verb among step tried state routers queue settle trace NoMemory h = absurd h
+    address_fault verb among step tried state routers queue settle trace _ h = absurd h
 
     pub lookup_fault : (fault : LineFault) → NamesNoAddress names (codes "lookup") (codes "lookup" ∷ rest) fault → AsksNothing names links attachments (codes "lookup" ∷ rest) fault
     lookup_fault = address_fault _ (0, omega arith, refl) (no_verb names links attachments _ rest refl refl refl refl refl refl refl refl) refl refl refl refl refl refl
@@ -205,37 +187,16 @@ module _ (names : List Text) (links : List LinkSpec) (attachments : List (Prefix
     inject_fault = address_fault _ (1, omega arith, refl) (no_verb names links attachments _ rest refl refl refl refl refl refl refl refl) refl refl refl refl refl refl
 
     pub trace_fault : (fault : LineFault) → AsksNoTrace names (codes "trace" ∷ rest) fault → AsksNothing names links attachments (codes "trace" ∷ rest) fault
-    trace_fault BadName h = absurd h
-    trace_fault BadLine h = absurd h
-    trace_fault BadCost h = absurd h
     trace_fault (OfPrefix fault) (is, inl h) = inr (inr (inr (is, inl (codes "trace", (2, omega arith, refl), h))))
     trace_fault (OfPrefix fault) (is, inr h) = inr (inr (inr (is, inr h)))
     trace_fault BadCommand h = no_address _ (no_verb names links attachments _ rest refl refl refl refl refl refl refl refl) refl refl refl refl refl h.0 h.1
-    trace_fault TooLarge h = absurd h
-    trace_fault NoMemory h = absurd h
+    trace_fault _ h = absurd h
 
     -- a trace that words ask for is a command that they ask for
     pub trace_asks : (command : Command) → AsksTrace names (codes "trace" ∷ rest) command → Asks names links attachments (codes "trace" ∷ rest) command
-    trace_asks (Command.Step s) h = absurd h
-    trace_asks (Command.Try s) h = absurd h
-    trace_asks (Command.RouterUp router) h = absurd h
-    trace_asks (Command.RouterDown router) h = absurd h
-    trace_asks Command.Settle h = absurd h
-    trace_asks (Command.SettleDrawn seed) h = absurd h
-    trace_asks Command.Count h = absurd h
-    trace_asks Command.Save h = absurd h
-    trace_asks Command.Restore h = absurd h
-    trace_asks (Command.State router prefix) h = absurd h
-    trace_asks (Command.Table router) h = absurd h
-    trace_asks (Command.Next router) h = absurd h
-    trace_asks (Command.Queue router port) h = absurd h
-    trace_asks (Command.Held router) h = absurd h
-    trace_asks (Command.Lookup router addr) h = absurd h
-    trace_asks (Command.Inject router addr) h = absurd h
     trace_asks (Command.Trace router addr) h = h
     trace_asks (Command.TraceThrough router addr) h = h
-    trace_asks Command.Drain h = absurd h
-    trace_asks Command.Report h = absurd h
+    trace_asks _ h = absurd h
 
     -- why a verb that takes a router or two, and names no router alone, asks for nothing
     links_fault : (verb : Text) → bytes_eq verb (codes "try") ≡ false → bytes_eq verb (codes "state") ≡ false → bytes_eq verb (codes "queue") ≡ false → bytes_eq verb (codes "trace") ≡ false
@@ -272,10 +233,5 @@ module _ (names : List Text) (links : List LinkSpec) (attachments : List (Prefix
         (λ seed n. settle (first_same _ _ _ _ n.spelled))
 
     pub step_fault : (fault : LineFault) → AsksNoStep names links attachments (verb ∷ rest) fault → AsksNothing names links attachments (verb ∷ rest) fault
-    step_fault BadName h = inl h
-    step_fault BadLine h = inl h
-    step_fault BadCost h = inl h
-    step_fault (OfPrefix fault) h = inl h
     step_fault BadCommand h = no_step_command h
-    step_fault TooLarge h = inl h
-    step_fault NoMemory h = inl h
+    step_fault _ h = inl h

@@ -192,15 +192,11 @@ module _ (names : List Text) (links : List LinkSpec) (attachments : List (Prefix
       steps (Detach router prefix) h = detach.0 router prefix h
 
       faults : (fault : LineFault) → ¬ (AsksBadStep names links words fault)
-      faults BadName h = h
-      faults BadLine h = h
       faults BadCost (inl h) = cost h.0 h.1 h.2 h.3
       faults BadCost (inr h) = attach.1 BadCost h
       faults (OfPrefix fault) (inl h) = detach.1 fault h
       faults (OfPrefix fault) (inr h) = attach.1 (OfPrefix fault) h
-      faults BadCommand h = h
-      faults TooLarge h = h
-      faults NoMemory h = h
+      faults _ h = h
 
   module _ (verb word : Text) (rest : List Text) (apart : bytes_eq verb word ≡ false) where
     pub other_router : (router : ℕ) → ¬ (NamesRouter names word (verb ∷ rest) router)
@@ -253,28 +249,19 @@ module _ (names : List Text) (links : List LinkSpec) (attachments : List (Prefix
 
     -- why words after `cost`, `attach` or `detach` ask for no step
     pub cost_fault : (fault : LineFault) → AsksNoCost names links (codes "cost" ∷ rest) fault → AsksNoStep names links attachments (codes "cost" ∷ rest) fault
-    cost_fault BadName h = h
-    cost_fault BadLine h = h
     cost_fault BadCost h = inl h
     cost_fault (OfPrefix fault) h = absurd h
     cost_fault BadCommand h = no_step _ (other_link _ _ _ refl) (other_link _ _ _ refl) h (other_deliver _ _ refl) (other_router _ _ _ refl) (other_router _ _ _ refl) (other_attach _ _ refl) (other_prefix _ _ _ refl)
-    cost_fault TooLarge h = h
-    cost_fault NoMemory h = h
+    cost_fault _ h = h
 
     pub attach_fault : (fault : LineFault) → AsksNoAttachment names attachments (codes "attach" ∷ rest) fault → AsksNoStep names links attachments (codes "attach" ∷ rest) fault
-    attach_fault BadName h = h
-    attach_fault BadLine h = h
     attach_fault BadCost h = inr h
     attach_fault (OfPrefix fault) h = inr h
     attach_fault BadCommand h = no_step _ (other_link _ _ _ refl) (other_link _ _ _ refl) (other_cost _ _ refl) (other_deliver _ _ refl) (other_router _ _ _ refl) (other_router _ _ _ refl) h (other_prefix _ _ _ refl)
-    attach_fault TooLarge h = h
-    attach_fault NoMemory h = h
+    attach_fault _ h = h
 
     pub detach_fault : (fault : LineFault) → NamesNoPrefix names attachments (codes "detach") (codes "detach" ∷ rest) fault → AsksNoStep names links attachments (codes "detach" ∷ rest) fault
-    detach_fault BadName h = h
-    detach_fault BadLine h = h
     detach_fault BadCost h = absurd h
     detach_fault (OfPrefix fault) h = inl h
     detach_fault BadCommand h = no_step _ (other_link _ _ _ refl) (other_link _ _ _ refl) (other_cost _ _ refl) (other_deliver _ _ refl) (other_router _ _ _ refl) (other_router _ _ _ refl) (other_attach _ _ refl) h
-    detach_fault TooLarge h = h
-    detach_fault NoMemory h = h
+    detach_fault _ h = h

@@ -159,9 +159,7 @@ module _ (p : Prefix) where
 
   row_accepting : (q : ℕ) (item : Item) (r : Router) → row_in p (router_accepting q item r) ≡ row_in p r
   row_accepting q (Item.Up session cost) r = refl
-  row_accepting q (Item.Down session) r = refl
-  row_accepting q (Item.Cost session cost) r = refl
-  row_accepting q (Item.Message m) r = refl
+  row_accepting q _ r = refl
 
   -- a router that publishes the row that it had published
   row_publishing : (w : World) (i : ℕ) → control_entry w i p ≡ published_entry w i p → (r : Router) → slice_get w.routers i ≡ Some r → row_in p (router_publishing r) ≡ row_in p r

@@ -98,11 +98,5 @@ unmet_elsewhere w i q (Some p) (m, front, same) c (inr unmet) = inr (m, front, a
 
 -- and after each step
 pub passed_elsewhere : (w : World) (s : Step) (told : Option Prefix) → IfSome told (IsToldPrefix w s) → (c : Watched) → IsPassedBy s told c → IsElsewhere w s c
-passed_elsewhere w (LinkUp l) told tells c passed = tt
-passed_elsewhere w (LinkDown l) told tells c passed = tt
-passed_elsewhere w (SetCost i q cost) told tells c passed = tt
 passed_elsewhere w (Deliver i q) told tells c passed = unmet_elsewhere w i q told tells c passed
-passed_elsewhere w (Publish i) told tells c passed = tt
-passed_elsewhere w (Release i) told tells c passed = tt
-passed_elsewhere w (Attach i p cost) told tells c passed = tt
-passed_elsewhere w (Detach i p) told tells c passed = tt
+passed_elsewhere w _ told tells c passed = tt

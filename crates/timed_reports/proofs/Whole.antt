@@ -12,7 +12,7 @@ use Rattle.reachability.specs.Ways.{IsCutOff, IsJoined}
 use Rattle.reachability.proofs.Joined.{joined}
 use Rattle.no_packet_loops.proofs.WorldLaws.{Runs-shape, next-shape}
 use Rattle.network_model.specs.declared.step.Step.{Step}
-use Rattle.network_model.specs.declared.step.Step.TheVariants.{LinkUp, LinkDown, SetCost, Deliver, Publish, Release, Attach, Detach}
+use Rattle.network_model.specs.declared.step.Step.TheVariants.{SetCost, Deliver, Release}
 use Rattle.timed_reports.specs.declared.spells.Spell.{Spell}
 use Rattle.timed_reports.specs.declared.spells.Watched.{Watched}
 use Rattle.timed_reports.specs.Going.{IsComputing}
@@ -58,16 +58,12 @@ link_prefixes : (w : World) (i q : ℕ) (f : End → Link → Link) → (changed
 link_prefixes w i q f = option_map_or-ind (λ (v : World). v.prefixes ≡ w.prefixes) (λ (x : Place). record w { links = changed_at x.link (f x.end) w.links }) (place_at w i q) w refl (λ x is. refl)
 
 prefixes_next : (w : World) (s : Step) → (next w s).prefixes ≡ w.prefixes
-prefixes_next w (LinkUp l) = refl
-prefixes_next w (LinkDown l) = refl
 prefixes_next w (SetCost i q cost) = link_prefixes w i q (with_cost cost)
 prefixes_next w (Deliver i q) = option_map_or-ind (λ (v : World). v.prefixes ≡ w.prefixes) (with_delivered i q w) (front_at w i q) (option_map_or (with_noticed i w) (notice_at w i q) w)
     (option_map_or-ind (λ (v : World). v.prefixes ≡ w.prefixes) (with_noticed i w) (notice_at w i q) w refl (λ n is. refl))
     (λ item is. link_prefixes w i q with_front_taken)
-prefixes_next w (Publish i) = refl
 prefixes_next w (Release i) = option_map_or-ind (λ (v : World). v.prefixes ≡ w.prefixes) (with_released i w) (release_at w i) w refl (λ h is. link_prefixes w i h.port (with_message h))
-prefixes_next w (Attach i p cost) = refl
-prefixes_next w (Detach i p) = refl
+prefixes_next w _ = refl
 
 prefixes_run : (w : World) (ss : List Step) (v : World) → Runs w ss v → v.prefixes ≡ w.prefixes
 prefixes_run w [] v same = ap (λ (u : World). u.prefixes) (sym same)

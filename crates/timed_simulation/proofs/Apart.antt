@@ -28,18 +28,12 @@ own_at s m = record { moment = m; step = s; given = false }
 
 -- a router that a step does not touch keeps its time
 time_untouched : (now : ℕ) (w : World) (s : Step) (xs : List RouterTime) (i : ℕ) → (touched_by s w).router ≢ Some i → slice_get (routers_after now (begins_at w s) xs) i ≡ slice_get xs i
-time_untouched now w (LinkUp l) xs i apart = refl
-time_untouched now w (LinkDown l) xs i apart = refl
-time_untouched now w (SetCost j q cost) xs i apart = refl
 time_untouched now w (Deliver j q) xs i apart = by_due (is_due_at w j)
   where
     by_due : (b : Bool) → slice_get (routers_after now (if b then None else Some j) xs) i ≡ slice_get xs i
     by_due true = refl
     by_due false = slice_get-changed_at_other (λ (x : RouterTime). record x { since = now }) j i xs (λ e. apart (ap Some (sym e)))
-time_untouched now w (Publish j) xs i apart = refl
-time_untouched now w (Release j) xs i apart = refl
-time_untouched now w (Attach j p cost) xs i apart = refl
-time_untouched now w (Detach j p) xs i apart = refl
+time_untouched now w _ xs i apart = refl
 
 -- a link other than the one that is moved keeps its items' moments
 moved_other : (now : ℕ) (motion : Place → Motion) (o : Option Place) (ks : List TimedLink) (l : ℕ) → option_map (λ (p : Place). p.link) o ≢ Some l

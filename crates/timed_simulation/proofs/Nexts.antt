@@ -6,7 +6,7 @@ use Rattle.no_packet_loops.proofs.Common.{length-map-range_with_len, slice_get_w
 use Rattle.no_packet_loops.proofs.Places.{Laid, laid}
 use Rattle.no_packet_loops.proofs.WorldLaws.{Runs-shape, next-shape}
 use Rattle.network_model.specs.declared.step.Step.{Step}
-use Rattle.network_model.specs.declared.step.Step.TheVariants.{LinkUp, LinkDown, SetCost, Deliver, Publish, Release, Attach, Detach}
+use Rattle.network_model.specs.declared.step.Step.TheVariants.{Deliver, Publish, Release, Attach, Detach}
 use Rattle.world.specs.declared.touched.Touched.{Touched}
 use Rattle.world.specs.Touched.{touched_by}
 use Rattle.world.proofs.Rest.{opening-rests, settled}
@@ -226,14 +226,12 @@ module _ (u : Timed) where
 
 -- a router that is not asked is apart from the event
 owner_apart : (w : World) (s : Step) (i : ℕ) → owner_of (touched_by s w) ≢ Some i → ((touched_by s w).router ≢ Some i) × ((touched_by s w).attachments ≢ Some i)
-owner_apart w (LinkUp l) i other = (λ e. None_not_Some e, λ e. None_not_Some e)
-owner_apart w (LinkDown l) i other = (λ e. None_not_Some e, λ e. None_not_Some e)
-owner_apart w (SetCost j q cost) i other = (λ e. None_not_Some e, λ e. None_not_Some e)
 owner_apart w (Deliver j q) i other = (other, other)
 owner_apart w (Publish j) i other = (other, λ e. None_not_Some e)
 owner_apart w (Release j) i other = (other, λ e. None_not_Some e)
 owner_apart w (Attach j p cost) i other = (λ e. None_not_Some e, other)
 owner_apart w (Detach j p) i other = (λ e. None_not_Some e, other)
+owner_apart w _ i other = (λ e. None_not_Some e, λ e. None_not_Some e)
 
 -- nor is a link at one of its ports touched, where it is at neither end of the link that is
 link_apart : (n : Network) (ss : List Step) (w : World) → Runs (opening n) ss w → (x : Touched) (i : ℕ) → ((a b : ℕ) → ends_of n x ≡ Some (a, b) → (a ≢ i) × (b ≢ i))

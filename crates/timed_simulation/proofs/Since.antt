@@ -84,18 +84,12 @@ module _ (w : World) (i : ℕ) where
 
   -- and had nothing before
   had_nothing : (s : Step) → begins_at w s ≡ Some i → is_due_at w i ≡ false
-  had_nothing (LinkUp l) is = absurd (None_not_Some is)
-  had_nothing (LinkDown l) is = absurd (None_not_Some is)
-  had_nothing (SetCost j q cost) is = absurd (None_not_Some is)
   had_nothing (Deliver j q) is = by_due (is_due_at w j) refl is
     where
       by_due : (b : Bool) → is_due_at w j ≡ b → (if b then None else Some j) ≡ Some i → is_due_at w i ≡ false
       by_due true _ never = absurd (None_not_Some never)
       by_due false none here = ap (is_due_at w) (sym (Some_injective here)) ∙ none
-  had_nothing (Publish j) is = absurd (None_not_Some is)
-  had_nothing (Release j) is = absurd (None_not_Some is)
-  had_nothing (Attach j p cost) is = absurd (None_not_Some is)
-  had_nothing (Detach j p) is = absurd (None_not_Some is)
+  had_nothing _ is = absurd (None_not_Some is)
 
 -- ---- what is kept
 

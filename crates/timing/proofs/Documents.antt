@@ -6,7 +6,7 @@ use Rattle.std.specs.Result.{OkIff, result_ok}
 use lib.IntN.{pos, negsuc, nat_abs}
 use lib.Signed.{mag}
 use mir.Val.{SFits}
-use Rattle.toml.specs.Data.{Data, string, integer, float, boolean, datetime, array, table, as_integer, Members}
+use Rattle.toml.specs.Data.{Data, integer, as_integer, Members}
 use Rattle.texts.specs.Words.{Text}
 use Rattle.scenario.specs.Scenario.{array_texts, key_count}
 use Rattle.timing.specs.Document.{delay_at, delay_of, natural, known_keys, list_at, times_in}
@@ -36,22 +36,12 @@ list_there (Some d) there = refl
 -- ---- numbers
 
 pub delay_is : (d : Data) (z : ℤ) → as_integer d ≡ Some z → delay_of d ≡ natural z
-delay_is (string s) z is = cc
 delay_is (integer y) z is = ap natural (ap (λ o. elim o [ Some v ↦ v | None ↦ y ]) is)
-delay_is (float x) z is = cc
-delay_is (boolean b) z is = cc
-delay_is (datetime x) z is = cc
-delay_is (array ds) z is = cc
-delay_is (table ms) z is = cc
+delay_is _ z is = cc
 
 pub delay_none : (d : Data) → as_integer d ≡ None → delay_of d ≡ None
-delay_none (string s) is = refl
 delay_none (integer y) is = cc
-delay_none (float x) is = refl
-delay_none (boolean b) is = refl
-delay_none (datetime x) is = refl
-delay_none (array ds) is = refl
-delay_none (table ms) is = refl
+delay_none _ is = refl
 
 -- what `try_from` makes of a number that is 0 or more
 pub natural_read : {E : Type 0} (z : ℤ) (r : Result ℕ E) → SFits w64 z → OkIff r (FitsUnsignedBits 64 z) (nat_abs z) → result_ok r ≡ natural z

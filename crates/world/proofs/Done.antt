@@ -186,9 +186,7 @@ takes ports q x link (y ∷ ys) item at some leads = subst (λ z. CanTake ports 
 
     by_item : (y : Item) → ItemsLead x.up link (y ∷ ys) → CanTake ports q y
     by_item (Item.Up session cost) leads = up_is ∙ leads.0
-    by_item (Item.Down session) leads = up_is ∙ leads.0
-    by_item (Item.Cost session cost) leads = up_is ∙ leads.0
-    by_item (Item.Message m) leads = up_is ∙ leads.0
+    by_item _ leads = up_is ∙ leads.0
 
 -- the port is one that its router knows
 pub port_known : (w : World) (i q : ℕ) (p : Place) (r : Router) → IsWorld w → slice_get w.routers i ≡ Some r → place_at w i q ≡ Some p → q < length r.ports

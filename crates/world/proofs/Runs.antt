@@ -39,9 +39,7 @@ room-changed_link n i q f w room = subst (All (λ (r : Router). r.generation + n
 
 generation-accepting : (q : ℕ) (item : Item) (r : Router) → (router_accepting q item r).generation ≡ r.generation
 generation-accepting q (Item.Up session cost) r = refl
-generation-accepting q (Item.Down session) r = refl
-generation-accepting q (Item.Cost session cost) r = refl
-generation-accepting q (Item.Message m) r = refl
+generation-accepting q _ r = refl
 
 -- a step takes room for one publication at most
 pub next-room : (n : ℕ) (w : World) (s : Step) → HasRoomForSteps (suc n) w → HasRoomForSteps n (next w s)

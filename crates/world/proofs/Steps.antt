@@ -119,17 +119,13 @@ changed_at-id zero (x ∷ xs) = refl
 changed_at-id (suc k) (x ∷ xs) = ap (λ ys. x ∷ ys) (changed_at-id k xs)
 
 ports-accepting : (q : ℕ) (item : Item) (r : Router) → (router_accepting q item r).ports ≡ changed_at q (port_taking item) r.ports
-ports-accepting q (Item.Up session cost) r = refl
-ports-accepting q (Item.Down session) r = refl
-ports-accepting q (Item.Cost session cost) r = refl
 ports-accepting q (Item.Message m) r = sym (changed_at-id q r.ports)
+ports-accepting q _ r = refl
 
 -- the rest of the items leads on from the port as it is then
 leads_on : (x : Port) (link : Bool) (item : Item) (rest : List Item) → ItemsLead x.up link (item ∷ rest) → ItemsLead (port_taking item x).up link rest
 leads_on x link (Item.Up session cost) rest h = h.1
-leads_on x link (Item.Down session) rest h = h.1
-leads_on x link (Item.Cost session cost) rest h = h.1
-leads_on x link (Item.Message m) rest h = h.1
+leads_on x link _ rest h = h.1
 
 -- the end of a link from which the front item is taken
 front_taken-here : (e : End) (k : Link) → (side e (with_front_taken e k)).inbox ≡ drop 1 (side e k).inbox

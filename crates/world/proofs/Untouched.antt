@@ -41,14 +41,12 @@ link_untouched w (SetCost i q cost) l apart = changed_link-other w i q (with_cos
 link_untouched w (Deliver i q) l apart = option_map_or-ind (SameLink w l) (with_delivered i q w) (front_at w i q) (option_map_or (with_noticed i w) (notice_at w i q) w)
     (option_map_or-ind (SameLink w l) (with_noticed i w) (notice_at w i q) w refl (λ n at. refl))
     (λ item at. changed_link-other w i q with_front_taken l apart)
-link_untouched w (Publish i) l apart = refl
 link_untouched w (Release i) l apart = by_release (release_at w i) apart
   where
     by_release : (o : Option Held) → option_and_then (λ h. link_number w i h.port) o ≢ Some l → SameLink w l (option_map_or (with_released i w) o w)
     by_release None apart = refl
     by_release (Some h) apart = changed_link-other w i h.port (with_message h) l apart
-link_untouched w (Attach i p cost) l apart = refl
-link_untouched w (Detach i p) l apart = refl
+link_untouched w _ l apart = refl
 
 -- ---- routers
 
@@ -65,8 +63,6 @@ changed_link-routers w i q f j = option_map_or-ind (SameRouter w j) (λ p. recor
 
 -- a step leaves each router that it does not touch
 router_untouched : (w : World) (s : Step) (j : ℕ) → (touched_by s w).router ≢ Some j → SameRouter w j (next w s)
-router_untouched w (LinkUp k) j apart = refl
-router_untouched w (LinkDown k) j apart = refl
 router_untouched w (SetCost i q cost) j apart = changed_link-routers w i q (with_cost cost) j
 router_untouched w (Deliver i q) j apart = option_map_or-ind (SameRouter w j) (with_delivered i q w) (front_at w i q) (option_map_or (with_noticed i w) (notice_at w i q) w)
     (option_map_or-ind (SameRouter w j) (with_noticed i w) (notice_at w i q) w refl
@@ -75,8 +71,7 @@ router_untouched w (Deliver i q) j apart = option_map_or-ind (SameRouter w j) (w
 router_untouched w (Publish i) j apart = changed_router-other w w i router_publishing j apart refl
 router_untouched w (Release i) j apart = option_map_or-ind (SameRouter w j) (with_released i w) (release_at w i) w refl
     (λ h at. changed_router-other w (changed_link i h.port (with_message h) w) i router_releasing j apart (changed_link-routers w i h.port (with_message h) j))
-router_untouched w (Attach i p cost) j apart = refl
-router_untouched w (Detach i p) j apart = refl
+router_untouched w _ j apart = refl
 
 -- ---- attachments
 
@@ -93,16 +88,14 @@ changed_link-attachments w i q f j = option_map_or-ind (SameAttachments w j) (λ
 
 -- a step leaves the attachments of each router whose attachments it does not touch
 attachments_untouched : (w : World) (s : Step) (j : ℕ) → (touched_by s w).attachments ≢ Some j → SameAttachments w j (next w s)
-attachments_untouched w (LinkUp k) j apart = refl
-attachments_untouched w (LinkDown k) j apart = refl
 attachments_untouched w (SetCost i q cost) j apart = changed_link-attachments w i q (with_cost cost) j
 attachments_untouched w (Deliver i q) j apart = option_map_or-ind (SameAttachments w j) (with_delivered i q w) (front_at w i q) (option_map_or (with_noticed i w) (notice_at w i q) w)
     (option_map_or-ind (SameAttachments w j) (with_noticed i w) (notice_at w i q) w refl (λ n at. changed_attachments-other w i with_notice_taken j apart))
     (λ item at. changed_link-attachments w i q with_front_taken j)
-attachments_untouched w (Publish i) j apart = refl
 attachments_untouched w (Release i) j apart = option_map_or-ind (SameAttachments w j) (with_released i w) (release_at w i) w refl (λ h at. changed_link-attachments w i h.port (with_message h) j)
 attachments_untouched w (Attach i p cost) j apart = changed_attachments-other w i (with_attachment p cost) j apart
 attachments_untouched w (Detach i p) j apart = changed_attachments-other w i (without_attachment p) j apart
+attachments_untouched w _ j apart = refl
 
 -- ---- all
 

@@ -1,7 +1,7 @@
 use Rattle.std.proofs.Common.{◌≡◌, ◌<◌, ℕ, List, Option, length, refl, ap, subst, sym}
 use Rattle.ipv4_prefix.specs.Prefix.{Prefix}
 use Rattle.network_model.specs.declared.step.Step.{Step}
-use Rattle.network_model.specs.declared.step.Step.TheVariants.{LinkUp, LinkDown, SetCost, Deliver, Publish, Release, Attach, Detach}
+use Rattle.network_model.specs.declared.step.Step.TheVariants.{Deliver}
 use Rattle.network_model.specs.World.{Router}
 use Rattle.timed_reports.specs.declared.spells.Watched.{Watched}
 use Rattle.timed_reports.specs.Going.{IsComputing}
@@ -12,14 +12,8 @@ use Rattle.timed_reports.proofs.looks.look_for_computations.Goals as goal
 
 -- no machine meets anything but where an item is taken
 passed : (s : Step) (told : Option Prefix) → ((i q : ℕ) → s ≡ Deliver i q → ⊥) → (c : Watched) → IsPassedBy s told c
-passed (LinkUp l) told other c = tt
-passed (LinkDown l) told other c = tt
-passed (SetCost i q cost) told other c = tt
 passed (Deliver i q) told other c = absurd (other i q refl)
-passed (Publish i) told other c = tt
-passed (Release i) told other c = tt
-passed (Attach i p cost) told other c = tt
-passed (Detach i p) told other c = tt
+passed _ told other c = tt
 
 pub look_at_router-requires-clause-order : goal.look_at_router-requires-clause-order
 look_at_router-requires-clause-order g c =
