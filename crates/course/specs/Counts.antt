@@ -3,7 +3,7 @@ use Rattle.std.specs.Prelude.{ℕ, ◌+◌, if◌then◌else◌, Option, Some, N
 use Rattle.metric.specs.declared.kind.Kind.{Kind}
 use Rattle.metric.specs.declared.kind.Kind.TheVariants.{Update, Query, Reply}
 use Rattle.network_model.specs.declared.step.Step.{Step}
-use Rattle.network_model.specs.declared.step.Step.TheVariants.{LinkUp, LinkDown, SetCost, Deliver, Publish, Release, Attach, Detach}
+use Rattle.network_model.specs.declared.step.Step.TheVariants.{Release}
 use Rattle.network_model.specs.World.{World}
 use Rattle.network_model.specs.Step.{release_at}
 use Rattle.world.specs.Steps.{is_stale}
@@ -19,14 +19,8 @@ sent_count s = s.updates + s.queries + s.replies
 
 -- the kind of the message that a step puts on a link; none where it puts none, or releases one whose session is over
 abbrev pub leaving : World → Step → Option Kind
-leaving w (LinkUp l) = None
-leaving w (LinkDown l) = None
-leaving w (SetCost i q cost) = None
-leaving w (Deliver i q) = None
-leaving w (Publish i) = None
 leaving w (Release i) = option_and_then (λ h. if is_stale w i h then None else Some (h.message).kind) (release_at w i)
-leaving w (Attach i p cost) = None
-leaving w (Detach i p) = None
+leaving w _ = None
 
 -- with one message of this kind more
 abbrev pub one_sent : Kind → Sent → Sent

@@ -12,7 +12,7 @@ use Rattle.loop_freedom.specs.Network.{Topology}
 use Rattle.router_core.specs.Alone.{may_forget}
 use Rattle.single_router.specs.Openings.{made_router}
 use Rattle.daemon_laws.specs.Processes.{Carried, Processes}
-use Rattle.daemon_laws.specs.Happenings.{Happening, Tells, Takes, Loses, Publishes, PublishesSome, Forgets, Releases, BeginsAnew, after_happening, after_happenings, IsOpening, AllCanHappen}
+use Rattle.daemon_laws.specs.Happenings.{Happening, Publishes, PublishesSome, Forgets, BeginsAnew, after_happening, after_happenings, IsOpening, AllCanHappen}
 
 -- ---- an end of a link
 
@@ -52,14 +52,11 @@ fd_then p rows r fd = if is_some (row_of prefix_cmp p rows) then (machine_of r p
 -- after this: that of a router that publishes is its present one, and so is that of a router that forgets the prefix; that of a router that
 -- is made counts as published
 abbrev pub fds_next : Prefix → Processes → Happening → (ℕ → ℕ) → ℕ → ℕ
-fds_next p w (Tells i input) fds j = fds j
-fds_next p w (Takes e) fds j = fds j
-fds_next p w (Loses e) fds j = fds j
 fds_next p w (Publishes i) fds j = if j == i then (machine_of (w.routers i) p).fd else fds j
 fds_next p w (PublishesSome i n) fds j = if j == i then fd_then p (take n (changed_rows (w.routers i).table)) (w.routers i) (fds j) else fds j
 fds_next p w (Forgets i k) fds j = if (j == i) && prefix_eq p k && may_forget k (w.routers i) then infinity else fds j
-fds_next p w (Releases i) fds j = fds j
 fds_next p w (BeginsAnew i costs attachments) fds j = if j == i then (machine_of (made_router costs attachments) p).fd else fds j
+fds_next p w _ fds j = fds j
 
 -- after all this
 abbrev pub fds_after : Topology → Prefix → Processes → List Happening → (ℕ → ℕ) → ℕ → ℕ

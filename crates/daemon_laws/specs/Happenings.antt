@@ -52,13 +52,8 @@ IsLocalInput w i (Detached p) = ⊤
 -- what a process tells is its own, and a router that it makes has no fault; all else may happen
 abbrev pub CanHappen : Processes → Happening → Type 0
 CanHappen w (Tells i input) = IsLocalInput w i input
-CanHappen w (Takes e) = ⊤
-CanHappen w (Loses e) = ⊤
-CanHappen w (Publishes i) = ⊤
-CanHappen w (PublishesSome i n) = ⊤
-CanHappen w (Forgets i p) = ⊤
-CanHappen w (Releases i) = ⊤
 CanHappen w (BeginsAnew i costs attachments) = make_fault costs attachments ≡ None
+CanHappen w _ = ⊤
 
 -- ---- what comes of it
 

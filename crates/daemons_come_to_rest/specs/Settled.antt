@@ -8,31 +8,19 @@ use Rattle.coming_to_rest.specs.Rest.{IsFinite}
 use Rattle.single_router.specs.Inputs.{attachment_of}
 use Rattle.daemon_laws.specs.Processes.{Processes}
 use Rattle.daemon_laws.specs.Packets.{is_in_session}
-use Rattle.daemon_laws.specs.Happenings.{Happening, Tells, Takes, Loses, Publishes, PublishesSome, Forgets, Releases, BeginsAnew, after_happenings, HoldsAlways, IsOpening, AllCanHappen}
+use Rattle.daemon_laws.specs.Happenings.{Happening, Loses, Forgets, after_happenings, HoldsAlways, IsOpening, AllCanHappen}
 use Rattle.daemon_laws.specs.Rest.{IsUpIn, NothingLost, AreAtRest, ProcessHasBestRow}
 use Rattle.daemons_come_to_rest.specs.Rest.{HappensAlone, AllAlone, HasMostHappenings}
 
 -- whether a message is lost
 abbrev pub is_loss : Happening → Bool
-is_loss (Tells i input) = false
-is_loss (Takes e) = false
 is_loss (Loses e) = true
-is_loss (Publishes i) = false
-is_loss (PublishesSome i n) = false
-is_loss (Forgets i p) = false
-is_loss (Releases i) = false
-is_loss (BeginsAnew i costs attachments) = false
+is_loss _ = false
 
 -- whether a prefix is forgotten
 abbrev pub forgets : Happening → Bool
-forgets (Tells i input) = false
-forgets (Takes e) = false
-forgets (Loses e) = false
-forgets (Publishes i) = false
-forgets (PublishesSome i n) = false
 forgets (Forgets i p) = true
-forgets (Releases i) = false
-forgets (BeginsAnew i costs attachments) = false
+forgets _ = false
 
 -- nothing more happens among the first n routers, but that messages may be lost which no end takes, and prefixes forgotten of which nothing is
 -- known

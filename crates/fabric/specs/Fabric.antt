@@ -4,7 +4,7 @@ use Rattle.std.specs.List.{AllByRecursion}
 use Rattle.std.specs.Option.{option_map_or}
 use Rattle.ipv4_prefix.specs.LongestMatch.{longest_match}
 use Rattle.network_model.specs.declared.step.Step.{Step}
-use Rattle.network_model.specs.declared.step.Step.TheVariants.{LinkUp, LinkDown, SetCost, Deliver, Publish, Release, Attach, Detach}
+use Rattle.network_model.specs.declared.step.Step.TheVariants.{Deliver, Publish}
 use Rattle.network_model.specs.declared.step.Refusal.{Refusal}
 use Rattle.network_model.specs.World.{Network, Router, World, opening}
 use Rattle.network_model.specs.Step.{next, refusal}
@@ -55,14 +55,9 @@ with_lent f i l = fabric_of f.network f.journal f.world f.images (set f.lent i l
 
 -- whether a step has to wait for one of the writers that are out: a delivery or a publication at its router
 abbrev pub awaits_lent : List (Option Patch) → Step → Bool
-awaits_lent lent (LinkUp l) = false
-awaits_lent lent (LinkDown l) = false
-awaits_lent lent (SetCost i q cost) = false
 awaits_lent lent (Deliver i q) = is_some (lent_at lent i)
 awaits_lent lent (Publish i) = is_some (lent_at lent i)
-awaits_lent lent (Release i) = false
-awaits_lent lent (Attach i p cost) = false
-awaits_lent lent (Detach i p) = false
+awaits_lent lent _ = false
 
 -- the same in a fabric
 abbrev pub awaits_writer : Fabric → Step → Bool

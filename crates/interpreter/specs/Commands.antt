@@ -8,7 +8,7 @@ use Rattle.network_model.specs.declared.step.Refusal.{Refusal}
 use Rattle.network_model.specs.World.{Link, World}
 use Rattle.world.specs.Steps.{CanBeRefused}
 use Rattle.script.specs.declared.command.Command.{Command}
-use Rattle.script.specs.declared.command.Command.TheVariants.{Step, Try, Settle, SettleDrawn, State, Table, Next, Queue, Held, Lookup, Inject, Trace, TraceThrough, Drain, Report, RouterUp, RouterDown, Count, Save, Restore}
+use Rattle.script.specs.declared.command.Command.TheVariants.{Step, Try, Settle, SettleDrawn, State, Table, Next, Queue, Held, Lookup, Inject, Trace, TraceThrough, Drain, RouterUp, RouterDown, Save, Restore}
 use Rattle.script.specs.declared.place.Key.TheVariants.{Script}
 use Rattle.plans.specs.declared.fault.Fault.{Fault}
 use Rattle.plans.specs.Faults.{at_line, OfRefusal}
@@ -74,23 +74,11 @@ IsDone k (RouterUp router) f g = IsPut k true router f g
 IsDone k (RouterDown router) f g = IsPut k false router f g
 IsDone k Save f g = k.saved f g
 IsDone k Restore f g = k.restored f g
-IsDone k (State router prefix) f g = g ≡ f
-IsDone k (Table router) f g = g ≡ f
-IsDone k (Next router) f g = g ≡ f
-IsDone k (Queue router port) f g = g ≡ f
-IsDone k (Held router) f g = g ≡ f
-IsDone k (Lookup router addr) f g = g ≡ f
-IsDone k (Inject router addr) f g = g ≡ f
-IsDone k (Trace router addr) f g = g ≡ f
-IsDone k (TraceThrough router addr) f g = g ≡ f
-IsDone k Count f g = g ≡ f
-IsDone k Drain f g = g ≡ f
-IsDone k Report f g = g ≡ f
+IsDone k _ f g = g ≡ f
 
 -- a command that is refused: a step for its cause, in a network that settles the step that comes next, of the links of a router the first that cannot be put so, and a command on a router where there is no such router; all else as the network refuses it
 abbrev pub IsRefused : {S : Type 0} → Meaning S → Command → S → S → FaultKind → Type 0
 IsRefused k (Step s) f g kind = OfRefusal (CanBeRefused (k.refusal f s)) kind × (g ≡ f)
-IsRefused k (Try s) f g kind = ⊥
 IsRefused k Settle f g kind = OfRefusal (k.unsettled f g) kind
 IsRefused k (SettleDrawn seed) f g kind = OfRefusal (k.unsettled f g) kind
 IsRefused k (RouterUp router) f g kind = OfRefusal (CannotPut k true router f g) kind
@@ -106,9 +94,8 @@ IsRefused k (Lookup router addr) f g kind = OfRefusal (k.not_looked_up f router 
 IsRefused k (Inject router addr) f g kind = k.not_given f router kind × (g ≡ f)
 IsRefused k (Trace router addr) f g kind = OfRefusal (k.not_traced f router) kind × (g ≡ f)
 IsRefused k (TraceThrough router addr) f g kind = OfRefusal (k.not_traced f router) kind × (g ≡ f)
-IsRefused k Count f g kind = ⊥
 IsRefused k Drain f g kind = k.not_answered f kind × (g ≡ f)
-IsRefused k Report f g kind = ⊥
+IsRefused k _ f g kind = ⊥
 
 -- the commands, done one after another, lead from one network to the other
 abbrev pub AreDone : {S : Type 0} → Meaning S → List Command → S → S → Type 0

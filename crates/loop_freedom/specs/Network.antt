@@ -26,9 +26,7 @@ event_of q (Reported m) = Message q m.kind m.value
 -- the session seen at a port after an item is taken there
 abbrev pub seen_after : SeenItem → ℕ → ℕ
 seen_after (UpNotice s c) old = s
-seen_after (DownNotice s) old = old
-seen_after (CostNotice s c) old = old
-seen_after (Reported m) old = old
+seen_after _ old = old
 
 -- the items without the messages
 abbrev pub notices : List SeenItem → List SeenItem

@@ -81,20 +81,12 @@ is_active m = is_some m.computation
 -- whether an event is a message of kind k from port p
 abbrev pub is_message : Kind → ℕ → Event → Bool
 is_message k p (Message q kind value) = (q == p) && is_kind k kind
-is_message k p (Up q cost) = false
-is_message k p (Down q) = false
-is_message k p (Cost q cost) = false
-is_message k p (Attached cost) = false
-is_message k p Detached = false
+is_message k p _ = false
 
 -- whether an event is the loss of the link at port p
 abbrev pub is_down : ℕ → Event → Bool
-is_down p (Message q kind value) = false
-is_down p (Up q cost) = false
 is_down p (Down q) = q == p
-is_down p (Cost q cost) = false
-is_down p (Attached cost) = false
-is_down p Detached = false
+is_down p _ = false
 
 -- an event that the machine may meet: its port is there, up or down as it should be, and its numbers are in range
 abbrev pub Meets : Machine → Event → Type 0

@@ -28,10 +28,8 @@ use Rattle.network_model.specs.Network.{first_cause}
 
 -- whether an item tells of the link itself
 abbrev pub is_notice : Item → Bool
-is_notice (Item.Up session cost) = true
-is_notice (Item.Down session) = true
-is_notice (Item.Cost session cost) = true
 is_notice (Item.Message message) = false
+is_notice _ = true
 
 -- the side with one more item at the back
 abbrev pub with_item : Item → Side → Side
@@ -271,14 +269,9 @@ Lawful w (Detach i p) = (r : Router) × (cost : ℕ) × (slice_get w.routers i �
 
 -- a step that can be asked: a cost that is set is a cost
 abbrev pub CanBeAsked : Step → Type 0
-CanBeAsked (LinkUp l) = Unit {0}
-CanBeAsked (LinkDown l) = Unit {0}
 CanBeAsked (SetCost i q cost) = IsCost cost
-CanBeAsked (Deliver i q) = Unit {0}
-CanBeAsked (Publish i) = Unit {0}
-CanBeAsked (Release i) = Unit {0}
 CanBeAsked (Attach i p cost) = IsCost cost
-CanBeAsked (Detach i p) = Unit {0}
+CanBeAsked _ = Unit {0}
 
 -- ---- refusals
 

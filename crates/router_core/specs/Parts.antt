@@ -6,7 +6,7 @@ use Rattle.ipv4_prefix.specs.Prefix.{Prefix, prefix_cmp}
 use Rattle.network_model.specs.declared.machine.Neighbour.{Neighbour}
 use Rattle.network_model.specs.declared.network.Port.{Port}
 use Rattle.network_model.specs.declared.machine.Event.{Event}
-use Rattle.network_model.specs.declared.machine.Event.TheVariants.{Message, Up, Down, Cost, Attached, Detached}
+use Rattle.network_model.specs.declared.machine.Event.TheVariants.{Up, Down}
 use Rattle.network_model.specs.Machine.{Machine, changed_at}
 use Rattle.network_model.specs.World.{Table, Gate, Router}
 use Rattle.network_model.specs.Step.{chosen_rows}
@@ -44,7 +44,4 @@ router_of ports machines table gate generation = record { ports = ports; machine
 abbrev pub ups_after : Event → List Bool → List Bool
 ups_after (Up q cost) bs = changed_at q (λ _. true) bs
 ups_after (Down q) bs = changed_at q (λ _. false) bs
-ups_after (Message q kind value) bs = bs
-ups_after (Cost q cost) bs = bs
-ups_after (Attached cost) bs = bs
-ups_after Detached bs = bs
+ups_after _ bs = bs

@@ -25,7 +25,5 @@ NoticeNeedsMemory r = OutgrowsRoom (length r.machines * (length r.ports + 1)) r
 
 -- an item from a port may need memory
 abbrev pub ItemNeedsMemory : Item → Router → Type 0
-ItemNeedsMemory (Item.Up session cost) r = NoticeNeedsMemory r
-ItemNeedsMemory (Item.Down session) r = NoticeNeedsMemory r
-ItemNeedsMemory (Item.Cost session cost) r = NoticeNeedsMemory r
 ItemNeedsMemory (Item.Message message) r = MeetingNeedsMemory message.prefix r
+ItemNeedsMemory _ r = NoticeNeedsMemory r

@@ -11,6 +11,4 @@ is_port_up ports q = option_map_or (λ p. p.up) (slice_get ports q) false
 -- a port that is down takes the notice that its link came up; one that is up takes all else
 abbrev pub CanTake : List Port → ℕ → Item → Type 0
 CanTake ports q (Item.Up session cost) = is_port_up ports q ≡ false
-CanTake ports q (Item.Down session) = is_port_up ports q ≡ true
-CanTake ports q (Item.Cost session cost) = is_port_up ports q ≡ true
-CanTake ports q (Item.Message message) = is_port_up ports q ≡ true
+CanTake ports q _ = is_port_up ports q ≡ true

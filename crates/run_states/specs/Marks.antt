@@ -5,7 +5,7 @@ use Rattle.std.specs.Option.{option_map_or}
 use Rattle.ipv4_prefix.specs.Prefix.{Prefix, prefix_cmp}
 use Rattle.network_model.specs.declared.item.Item.{Item}
 use Rattle.network_model.specs.declared.step.Step.{Step}
-use Rattle.network_model.specs.declared.step.Step.TheVariants.{LinkUp, LinkDown, SetCost, Deliver, Publish, Release, Attach, Detach}
+use Rattle.network_model.specs.declared.step.Step.TheVariants.{LinkDown, Deliver, Publish}
 use Rattle.network_model.specs.World.{World}
 use Rattle.network_model.specs.Step.{changed_rows, front_at}
 use Rattle.world.specs.Touched.{touched_by}
@@ -31,33 +31,19 @@ touched_router w s = either_of (touched_by s w).router (touched_by s w).attachme
 -- the prefix of an item that is a message
 abbrev pub message_prefix : Option Item → Option Prefix
 message_prefix (Some (Item.Message m)) = Some m.prefix
-message_prefix (Some (Item.Up session cost)) = None
-message_prefix (Some (Item.Down session)) = None
-message_prefix (Some (Item.Cost session cost)) = None
-message_prefix None = None
+message_prefix _ = None
 
 -- whether a step may change the machine of that router for a prefix, or one of its rows: a message is for one prefix, all else that is
 -- delivered may be for each, and a publication puts the rows in force that changed
 abbrev pub may_touch : World → Step → Prefix → Bool
-may_touch w (LinkUp l) p = false
-may_touch w (LinkDown l) p = false
-may_touch w (SetCost i q cost) p = false
 may_touch w (Deliver i q) p = matches_prefix (message_prefix (front_at w i q)) p
 may_touch w (Publish i) p = option_map_or (λ r. is_some (row_of prefix_cmp p (changed_rows r.table))) (slice_get w.routers i) false
-may_touch w (Release i) p = false
-may_touch w (Attach i p' cost) p = false
-may_touch w (Detach i p') p = false
+may_touch w _ p = false
 
 -- whether a step takes from a link the messages that stood on it: only one that brings the link down
 abbrev pub cuts : Step → Bool
-cuts (LinkUp l) = false
 cuts (LinkDown l) = true
-cuts (SetCost i q cost) = false
-cuts (Deliver i q) = false
-cuts (Publish i) = false
-cuts (Release i) = false
-cuts (Attach i p cost) = false
-cuts (Detach i p) = false
+cuts _ = false
 
 -- the book of this link is cut now exactly if it was cut before or the link goes down. Each other book keeps its flag
 pub record AreCut (link : Option ℕ) (goes_down : Bool) (before after : List LinkBook) : Type 0 where

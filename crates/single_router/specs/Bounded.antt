@@ -31,12 +31,9 @@ crowd_fault p b = if is_one_too_many p b then Some TooManyPrefixes else None
 
 -- that an input would have the router know one prefix too many
 abbrev pub input_crowd_fault : Input → BoundedRouter → Option CallFault
-input_crowd_fault (input.Up port session cost) b = None
-input_crowd_fault (input.Down port) b = None
-input_crowd_fault (input.Cost port cost) b = None
 input_crowd_fault (input.Message port session m) b = crowd_fault m.prefix b
 input_crowd_fault (input.Attached p cost) b = crowd_fault p b
-input_crowd_fault (input.Detached p) b = None
+input_crowd_fault _ b = None
 
 -- why a router is not told an input: what the input's tests find, or else that a prefix would be one too many
 abbrev pub bounded_fault : Input → BoundedRouter → Option CallFault

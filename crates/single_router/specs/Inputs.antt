@@ -137,9 +137,7 @@ IsRefusedOnlyBy None needs fault = (fault ≡ NoMemory) × needs
 
 -- an input may need memory
 abbrev pub InputNeedsMemory : Input → Router → Type 0
-InputNeedsMemory (input.Up port session cost) r = NoticeNeedsMemory r
-InputNeedsMemory (input.Down port) r = NoticeNeedsMemory r
-InputNeedsMemory (input.Cost port cost) r = NoticeNeedsMemory r
 InputNeedsMemory (input.Message port session m) r = MeetingNeedsMemory m.prefix r
 InputNeedsMemory (input.Attached p cost) r = MeetingNeedsMemory p r
 InputNeedsMemory (input.Detached p) r = MeetingNeedsMemory p r
+InputNeedsMemory _ r = NoticeNeedsMemory r

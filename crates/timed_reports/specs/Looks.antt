@@ -4,7 +4,7 @@ use Rattle.ipv4_prefix.specs.Prefix.{Prefix, prefix_eq}
 use Rattle.network_model.specs.declared.item.Item.{Item}
 use Rattle.network_model.specs.declared.item.Message.{Message}
 use Rattle.network_model.specs.declared.step.Step.{Step}
-use Rattle.network_model.specs.declared.step.Step.TheVariants.{LinkUp, LinkDown, SetCost, Deliver, Publish, Release, Attach, Detach}
+use Rattle.network_model.specs.declared.step.Step.TheVariants.{Deliver}
 use Rattle.network_model.specs.Step.{front_at}
 use Rattle.network_model.specs.World.{World}
 use Rattle.reachability.specs.Marks.{Marks, is_marked, size}
@@ -26,13 +26,7 @@ HasRoomForMarks w m = size m ≡ length w.routers
 -- the step takes a message for this prefix
 abbrev pub IsToldPrefix : World → Step → Prefix → Type 0
 IsToldPrefix w (Deliver i q) p = (m : Message) × (front_at w i q ≡ Some (Item.Message m)) × (m.prefix ≡ p)
-IsToldPrefix w (LinkUp l) p = ⊥
-IsToldPrefix w (LinkDown l) p = ⊥
-IsToldPrefix w (SetCost i q cost) p = ⊥
-IsToldPrefix w (Publish i) p = ⊥
-IsToldPrefix w (Release i) p = ⊥
-IsToldPrefix w (Attach i q cost) p = ⊥
-IsToldPrefix w (Detach i q) p = ⊥
+IsToldPrefix w _ p = ⊥
 
 -- whether a router's machine for the prefix meets what the router takes: where a message is known to be for one prefix, its machine alone does, else each may
 abbrev pub meets : Option Prefix → Prefix → Bool
@@ -46,13 +40,7 @@ IsUnmet i told c = (c.router ≢ i) ⊎ (meets told c.prefix ≡ false)
 -- the machine does not meet what the step takes
 abbrev pub IsPassedBy : Step → Option Prefix → Watched → Type 0
 IsPassedBy (Deliver i q) told c = IsUnmet i told c
-IsPassedBy (LinkUp l) told c = Unit {0}
-IsPassedBy (LinkDown l) told c = Unit {0}
-IsPassedBy (SetCost i q cost) told c = Unit {0}
-IsPassedBy (Publish i) told c = Unit {0}
-IsPassedBy (Release i) told c = Unit {0}
-IsPassedBy (Attach i p cost) told c = Unit {0}
-IsPassedBy (Detach i p) told c = Unit {0}
+IsPassedBy _ told c = Unit {0}
 
 -- ---- outages
 

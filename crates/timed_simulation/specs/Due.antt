@@ -1,7 +1,7 @@
 -- What is left to do and when it is due, whichever of it is first; and that nothing of it is late.
 use Rattle.std.specs.Prelude.{ℕ, ◌≡◌, ◌≤◌, ◌<◌, ◌⊎◌, true, MatchBool, List, [], ◌∷◌, map, length, Some, slice_get}
 use Rattle.network_model.specs.declared.step.Step.{Step}
-use Rattle.network_model.specs.declared.step.Step.TheVariants.{LinkUp, LinkDown, SetCost, Deliver, Publish, Release, Attach, Detach}
+use Rattle.network_model.specs.declared.step.Step.TheVariants.{Deliver, Publish, Release}
 use Rattle.network_model.specs.declared.item.Item.{Item}
 use Rattle.network_model.specs.declared.item.Held.{Held}
 use Rattle.network_model.specs.declared.item.Notice.{Notice}
@@ -60,11 +60,7 @@ abbrev pub IsOwnDue : Timed → ℕ → Step → Type 0
 IsOwnDue t moment (Release i) = ReleasesAt t moment i
 IsOwnDue t moment (Publish i) = PublishesAt t moment i
 IsOwnDue t moment (Deliver i q) = ArrivesAt t moment i q ⊎ IsToldAt t moment i q
-IsOwnDue t moment (LinkUp l) = ⊥
-IsOwnDue t moment (LinkDown l) = ⊥
-IsOwnDue t moment (SetCost i q cost) = ⊥
-IsOwnDue t moment (Attach i p cost) = ⊥
-IsOwnDue t moment (Detach i p) = ⊥
+IsOwnDue t moment _ = ⊥
 
 -- one of the changes that were given
 pub record IsChange (t : Timed) (moment : ℕ) (step : Step) : Type 0 where

@@ -2,7 +2,7 @@
 use Rattle.std.specs.Prelude.{ℕ, ◌+◌, ◌-◌, ◌^◌, ◌<◌, ◌≡◌, ⊤, true, false, Bool, min, if◌then◌else◌, List, [], ◌∷◌, ◌++◌, filter, drop, Option, Some, None, slice_get, option_map, option_and_then}
 use Rattle.std.specs.VecDeque.{deque_len, deque_capacity}
 use Rattle.network_model.specs.declared.step.Step.{Step}
-use Rattle.network_model.specs.declared.step.Step.TheVariants.{LinkUp, LinkDown, SetCost, Deliver, Publish, Release, Attach, Detach}
+use Rattle.network_model.specs.declared.step.Step.TheVariants.{LinkUp, LinkDown, SetCost, Deliver, Release}
 use Rattle.network_model.specs.declared.network.End.{End}
 use Rattle.network_model.specs.declared.network.End.TheVariants.{A, B}
 use Rattle.network_model.specs.Machine.{changed_at}
@@ -92,10 +92,8 @@ motion_of w (LinkUp l) = Some (l, Told)
 motion_of w (LinkDown l) = Some (l, Cut)
 motion_of w (SetCost i q cost) = option_map (λ p. (p.link, Put p.end true)) (place_at w i q)
 motion_of w (Deliver i q) = option_map (λ p. (p.link, Taken p.end)) (place_at w i q)
-motion_of w (Publish i) = None
 motion_of w (Release i) = option_and_then (λ h. if is_stale w i h then None else option_map (λ p. (p.link, Put (other p.end) false)) (place_at w i h.port)) (release_at w i)
-motion_of w (Attach i p cost) = None
-motion_of w (Detach i p) = None
+motion_of w _ = None
 
 -- ---- room
 

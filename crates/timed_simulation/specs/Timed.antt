@@ -2,7 +2,7 @@
 use Rattle.std.specs.Prelude.{ℕ, Bool, false, if◌then◌else◌, List, [], ◌∷◌, map, drop, length, Option, Some, None, slice_get, nat_lt, unwrap_or, position, insert}
 use Rattle.std.specs.Option.{option_map_or}
 use Rattle.network_model.specs.declared.step.Step.{Step}
-use Rattle.network_model.specs.declared.step.Step.TheVariants.{LinkUp, LinkDown, SetCost, Deliver, Publish, Release, Attach, Detach}
+use Rattle.network_model.specs.declared.step.Step.TheVariants.{Deliver}
 use Rattle.network_model.specs.Machine.{changed_at}
 use Rattle.network_model.specs.World.{Network, World}
 use Rattle.network_model.specs.Step.{is_due}
@@ -43,14 +43,8 @@ is_due_at w i = option_map_or is_due (slice_get w.routers i) false
 
 -- the router that takes an item by this step and had nothing to publish before
 abbrev pub begins_at : World → Step → Option ℕ
-begins_at w (LinkUp l) = None
-begins_at w (LinkDown l) = None
-begins_at w (SetCost i q cost) = None
 begins_at w (Deliver i q) = if is_due_at w i then None else Some i
-begins_at w (Publish i) = None
-begins_at w (Release i) = None
-begins_at w (Attach i p cost) = None
-begins_at w (Detach i p) = None
+begins_at w _ = None
 
 -- what that router may have to publish, it has since this moment. The others have what they have since the moment that stands there
 abbrev pub routers_after : ℕ → Option ℕ → List RouterTime → List RouterTime

@@ -13,25 +13,19 @@ use Rattle.network_model.specs.Kinds.{refusal_kind}
 abbrev pub IsBeginFault : PoolFault → Type 0
 IsBeginFault NoThread = ⊤
 IsBeginFault (Memory _) = ⊤
-IsBeginFault Closed = ⊥
-IsBeginFault (Refused _) = ⊥
-IsBeginFault (Gather _) = ⊥
+IsBeginFault _ = ⊥
 
 -- a job is not taken: there is no memory, or nobody takes it
 abbrev pub IsInjectFault : PoolFault → Type 0
-IsInjectFault NoThread = ⊥
 IsInjectFault (Memory _) = ⊤
 IsInjectFault Closed = ⊤
-IsInjectFault (Refused _) = ⊥
-IsInjectFault (Gather _) = ⊥
+IsInjectFault _ = ⊥
 
 -- there are no replies: there is no memory for them, or a worker was refused memory or had no image
 abbrev pub IsWorkFault : PoolFault → Type 0
-IsWorkFault NoThread = ⊥
 IsWorkFault (Memory _) = ⊤
-IsWorkFault Closed = ⊥
 IsWorkFault (Refused r) = (r ≡ Refusal.NoMemory) ⊎ (r ≡ Refusal.NoImage)
-IsWorkFault (Gather _) = ⊥
+IsWorkFault _ = ⊥
 
 -- jobs are not answered: there are no replies, or some whose fault it is that they are not those to the jobs
 abbrev pub IsDrainFault : {X : Type 0} → List (Job X) → PoolFault → Type 0
