@@ -21,12 +21,7 @@ abbrev pub is_kind : Kind → Kind → Bool
 is_kind Update Update = true
 is_kind Query Query = true
 is_kind Reply Reply = true
-is_kind Update Query = false
-is_kind Update Reply = false
-is_kind Query Update = false
-is_kind Query Reply = false
-is_kind Reply Update = false
-is_kind Reply Query = false
+is_kind _ _ = false
 
 -- what is sent to port p, in order
 abbrev pub sent_to : ℕ → List Outgoing → List Outgoing

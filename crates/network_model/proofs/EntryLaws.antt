@@ -17,21 +17,11 @@ pub entry_from_eq : (e f : Entry) → entry_eq e f ≡ true → e ≡ f
 entry_from_eq Local Local h = refl
 entry_from_eq (Via p s) (Via q t) h = let parts = and_parts _ _ h in λ i. Via (eqb-true p q parts.0 i) (eqb-true s t parts.1 i)
 entry_from_eq Unreachable Unreachable h = refl
-entry_from_eq Local (Via q t) h = absurd (cc)
-entry_from_eq Local Unreachable h = absurd (cc)
-entry_from_eq (Via p s) Local h = absurd (cc)
-entry_from_eq (Via p s) Unreachable h = absurd (cc)
-entry_from_eq Unreachable Local h = absurd (cc)
-entry_from_eq Unreachable (Via q t) h = absurd (cc)
+entry_from_eq _ _ h = absurd (cc)
 
 -- what `==` answers at entries
 pub entry_partial_eq : (e f : Entry) → (DerivedEq.ghosts).eq e f ≡ entry_eq e f
 entry_partial_eq Local Local = refl
-entry_partial_eq Local (Via p s) = refl
-entry_partial_eq Local Unreachable = refl
-entry_partial_eq (Via p s) Local = refl
 entry_partial_eq (Via p s) (Via q t) = refl
-entry_partial_eq (Via p s) Unreachable = refl
-entry_partial_eq Unreachable Local = refl
-entry_partial_eq Unreachable (Via p s) = refl
 entry_partial_eq Unreachable Unreachable = refl
+entry_partial_eq _ _ = refl

@@ -56,12 +56,7 @@ kind_same : (a b : Kind) → (KindEq.ghosts).eq a b ≡ true → a ≡ b
 kind_same Update Update h = refl
 kind_same Query Query h = refl
 kind_same Reply Reply h = refl
-kind_same Update Query h = absurd (cc)
-kind_same Update Reply h = absurd (cc)
-kind_same Query Update h = absurd (cc)
-kind_same Query Reply h = absurd (cc)
-kind_same Reply Update h = absurd (cc)
-kind_same Reply Query h = absurd (cc)
+kind_same _ _ h = absurd (cc)
 
 message_same : (a b : Message) → (MessageEq.ghosts).eq a b ≡ true → a ≡ b
 message_same a b h =
@@ -75,18 +70,7 @@ item_same (Item.Up s c) (Item.Up t d) h = let parts = and_parts _ _ h in λ i. I
 item_same (Item.Down s) (Item.Down t) h = ap Item.Down (eqb-true s t h)
 item_same (Item.Cost s c) (Item.Cost t d) h = let parts = and_parts _ _ h in λ i. Item.Cost (eqb-true s t parts.0 i) (eqb-true c d parts.1 i)
 item_same (Item.Message m) (Item.Message n) h = ap Item.Message (message_same m n h)
-item_same (Item.Up s c) (Item.Down t) h = absurd (cc)
-item_same (Item.Up s c) (Item.Cost t d) h = absurd (cc)
-item_same (Item.Up s c) (Item.Message n) h = absurd (cc)
-item_same (Item.Down s) (Item.Up t d) h = absurd (cc)
-item_same (Item.Down s) (Item.Cost t d) h = absurd (cc)
-item_same (Item.Down s) (Item.Message n) h = absurd (cc)
-item_same (Item.Cost s c) (Item.Up t d) h = absurd (cc)
-item_same (Item.Cost s c) (Item.Down t) h = absurd (cc)
-item_same (Item.Cost s c) (Item.Message n) h = absurd (cc)
-item_same (Item.Message m) (Item.Up t d) h = absurd (cc)
-item_same (Item.Message m) (Item.Down t) h = absurd (cc)
-item_same (Item.Message m) (Item.Cost t d) h = absurd (cc)
+item_same _ _ h = absurd (cc)
 
 pub link_same : (a b : LinkState) → (LinkEq.ghosts).eq a b ≡ true → a ≡ b
 link_same a b h =
