@@ -1,11 +1,7 @@
 -- Along a way of a packet matches get longer, or stay and feasible distances fall: so it meets no router twice. This is said
 -- of any rows, whoever has them.
-use Rattle.std.proofs.Common.{refl, sym, ap, subst, ◌∙◌, inl, inr, arith, ◌<◌, ◌≡◌, ◌⊎◌, ℕ, Bool, true, false, ◌||◌, ◌==◌, nat_lt, List, [], ◌∷◌, Option, Some, None, option_and_then, eqb-true}
-use Rattle.std.specs.FinMap.{find as row_of}
-use Rattle.std.specs.FinMap.Entries.{is_sorted}
-use Rattle.std.proofs.lemmas.Bool.{ltb-true, ltb-false}
-use Rattle.ipv4_prefix.proofs.LongestMatches.{longest_match-found}
-use Rattle.no_packet_loops.proofs.Common.{Prefix, prefix_cmp, covers, longest_match, Entry, is_met, meets_twice, None_not_Some, Some_injective}
+use Rattle.std.proofs.Common.{refl, sym, ap, subst, ◌∙◌, inl, inr, arith, ◌<◌, ◌≡◌, ◌⊎◌, ℕ, Bool, true, false, ◌||◌, ◌==◌, nat_lt, List, [], ◌∷◌, Option, Some, None, option_and_then, eqb-true, ltb-true, ltb-false}
+use Rattle.no_packet_loops.proofs.Common.{Prefix, prefix_cmp, covers, longest_match, Entry, is_met, meets_twice, None_not_Some, Some_injective, find as row_of, is_sorted, longest_match-found}
 use Rattle.no_packet_loops.proofs.Walks.{match_is_row}
 use Rattle.all_packets.specs.Packets.{IsWayBy}
 use Rattle.all_packets.proofs.Matches.{Found, GoesBefore, found}

@@ -1,7 +1,6 @@
 -- Where a packet is followed whichever prefixes match it, its trace is a way, and ends.
 use Rattle.std.proofs.Common.{refl, sym, ap, subst, ◌∙◌, arith, ◌≡◌, ◌≢◌, ℕ, zero, suc, ◌<◌, Bool, true, false, if◌then◌else◌, List, [], ◌∷◌, ◌++◌, length, Option, Some, None, option_and_then}
-use Rattle.no_packet_loops.proofs.Common.{Prefix, Entry, Local, Via, Unreachable, Ending, World, row_for, entry_leads, Onward, Ends, Goes, over_link, by_entry, by_row, is_crossed, onward, Trace, traced_by, trace_from, None_not_Some, Some_injective}
-use Rattle.network_model.specs.Forwarding.{hop}
+use Rattle.no_packet_loops.proofs.Common.{Prefix, Entry, Local, Via, Unreachable, Ending, World, row_for, entry_leads, Onward, Ends, Goes, over_link, by_entry, by_row, is_crossed, onward, Trace, traced_by, trace_from, None_not_Some, Some_injective, hop}
 use Rattle.no_packet_loops.specs.Packets.{HoldsInEveryWorld}
 use Rattle.no_packet_loops.proofs.Traces.{by_entry-goes}
 use Rattle.all_packets.specs.Packets.{IsWay, NoPacketCircles, WaysEnd}

@@ -1,6 +1,5 @@
 -- Values that are picked by a bit, without a branch.
-use Rattle.std.proofs.Common.{ℕ, ◌≡◌, ◌≢◌, inl, inr, ◌*◌, ◌<◌, ◌≤◌, arith, ap, ◌∙◌}
-use Rattle.std.specs.Prelude.{eqb, not}
+use Rattle.std.proofs.Common.{ℕ, ◌≡◌, ◌≢◌, inl, inr, ◌*◌, ◌<◌, ◌≤◌, arith, ap, ◌∙◌, eqb, not}
 use Rattle.std.specs.Int.{from_bool}
 use Rattle.std.proofs.lemmas.Bool.{cases_eq, eq-eqb, ne_eqb}
 

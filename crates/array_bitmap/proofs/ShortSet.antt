@@ -1,7 +1,6 @@
 -- A short row is set in the arrays of the code.
-use Rattle.std.proofs.Common.{ℕ, ◌≡◌, ◌≢◌, ◌+◌, ◌-◌, ◌*◌, ◌^◌, ◌<◌, ◌≤◌, List, length, get_or, slice_set, slice_index_or, Option, Some, None, cond, nat_le, ◌==◌, arith, refl, sym, ap, subst, ◌∙◌}
+use Rattle.std.proofs.Common.{ℕ, ◌≡◌, ◌≢◌, ◌+◌, ◌-◌, ◌*◌, ◌^◌, ◌<◌, ◌≤◌, List, length, get_or, slice_set, slice_index_or, Option, Some, None, cond, nat_le, ◌==◌, arith, refl, sym, ap, subst, ◌∙◌, pow_pos}
 use Rattle.std.proofs.lemmas.List.{get_or-set_same, get_or-set_other, get_or_read}
-use Rattle.std.proofs.lemmas.Nat.{pow_pos}
 use Rattle.array_bitmap.specs.Bits.{depth_of, path_start}
 use Rattle.array_bitmap.specs.Words.{nothing, len_of, shown, found, IsRowWord}
 use Rattle.bitmaps.specs.Greatest.{GreatestBelow}

@@ -5,11 +5,10 @@
 --     tokens, hands                  what such a call is handed beside its arguments
 --     heap_had                       an allocator is had for nothing
 --     leaves_result                  the end of a function of one parameter
-use Rattle.std.proofs.Common.{◌≡◌, List, [], ◌∷◌, refl}
+use Rattle.std.proofs.Common.{◌≡◌, List, [], ◌∷◌, refl, Bool}
 use seplogic.Ra.Ura.{Ura}
 use mir.Raw.{raw as bare}
 use mir.Syntax.{Dict, Symbol, impl, tnil, tcons, dnil}
-use mathlib.Core.Bool.{Bool}
 use mir.Val.{Val, vunit, vbool, vstruct, vcons, vnil}
 use base.Fraction.{full_share}
 use base.Logic.{emp}

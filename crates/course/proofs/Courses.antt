@@ -1,10 +1,6 @@
 -- What a step leaves of what every course keeps.
-use Rattle.std.proofs.Common.{refl, sym, ap, ◌∙◌, arith, length-append, ◌≡◌, ◌+◌, ◌^◌, ◌<◌, ◌≤◌, List, [], ◌∷◌, ◌++◌, length, if◌then◌else◌, Option, Some, None, Result, Err}
-use Rattle.std.proofs.lemmas.Bool.{lt-ltb}
-use Rattle.no_packet_loops.proofs.Common.{World, Network, opening, IsNetwork, Lawful, next, refusal, Refusal}
-use Rattle.metric.specs.declared.kind.Kind.{Kind}
-use Rattle.metric.specs.declared.kind.Kind.TheVariants.{Update, Query, Reply}
-use Rattle.network_model.specs.declared.step.Step.{Step}
+use Rattle.std.proofs.Common.{refl, sym, ap, ◌∙◌, arith, length-append, ◌≡◌, ◌+◌, ◌^◌, ◌<◌, ◌≤◌, List, [], ◌∷◌, ◌++◌, length, if◌then◌else◌, Option, Some, None, Result, Err, lt-ltb}
+use Rattle.no_packet_loops.proofs.Common.{World, Network, opening, IsNetwork, Lawful, next, refusal, Refusal, Kind, Update, Query, Reply, Step}
 use Rattle.world.specs.Headline.{IsReached}
 use Rattle.world.specs.Steps.{CanBeRefused, HasRoomForSteps, IsDoneOr}
 use Rattle.world.proofs.Runs.{with_last_step, run-room, opening-room}

@@ -1,7 +1,6 @@
 -- A network is settled exactly where no router has anything to do.
 use Rattle.std.proofs.Common.{arith, ◌∙◌, ◌≡◌, ℕ, ◌<◌, Bool, true, false, List, length, Option, Some, None, refl}
-use Rattle.no_packet_loops.proofs.Common.{length-map-range_with_len, World, Network, opening, opening_router_of, IsNetwork, Runs, next_step, is_settled}
-use Rattle.network_model.specs.declared.step.Step.{Step}
+use Rattle.no_packet_loops.proofs.Common.{length-map-range_with_len, World, Network, opening, opening_router_of, IsNetwork, Runs, next_step, is_settled, Step}
 use Rattle.no_packet_loops.proofs.WorldLaws.{Runs-shape}
 use Rattle.convergence.proofs.AtRest.{rest_settled, settled_rests}
 use Rattle.convergence.proofs.Turns.{idle_rests, next_chosen}

@@ -1,8 +1,6 @@
 -- What a step does to the images in force.
 use Rattle.std.proofs.Common.{refl, sym, ap, subst, ◌∙◌, ◌≡◌, ℕ, zero, suc, ◌<◌, Bool, true, false, cond, List, [], ◌∷◌, map, length, set, Option, Some, None, IsSome, slice_get, get_or, option_map, option_and_then}
-use Rattle.no_packet_loops.proofs.Common.{false≢true, length-map, slice_get_read, slice_get_within, slice_get-map, map-changed_at, changed_at, Item, End, Link, Router, World, Network, opening_router_of, Lawful, next, is_due, changed_router, changed_link, with_cost, with_front_taken, with_message, with_delivered, with_noticed, with_notice_taken, with_released, front_at, notice_at, release_at, changed_attachments, router_accepting, router_at_home, router_publishing, router_releasing, Image, option_map_or-ind, None_not_Some, Some_injective, routers-changed_link}
-use Rattle.network_model.specs.declared.step.Step.{Step}
-use Rattle.network_model.specs.declared.step.Step.TheVariants.{LinkUp, LinkDown, SetCost, Deliver, Publish, Release, Attach, Detach}
+use Rattle.no_packet_loops.proofs.Common.{false≢true, length-map, slice_get_read, slice_get_within, slice_get-map, map-changed_at, changed_at, Item, End, Link, Router, World, Network, opening_router_of, Lawful, next, is_due, changed_router, changed_link, with_cost, with_front_taken, with_message, with_delivered, with_noticed, with_notice_taken, with_released, front_at, notice_at, release_at, changed_attachments, router_accepting, router_at_home, router_publishing, router_releasing, Image, option_map_or-ind, None_not_Some, Some_injective, routers-changed_link, Step, LinkUp, LinkDown, SetCost, Deliver, Publish, Release, Attach, Detach}
 use Rattle.course.specs.Images.{chosen_image, due_at, image_in_force, images_in_force}
 
 -- ---- a step that is no publication

@@ -1,9 +1,6 @@
 -- The kind of the message that a router puts on a link.
-use Rattle.std.proofs.Common.{refl, sym, ap, ◌∙◌, subst, ◌≡◌, ◌≢◌, ◌<◌, ℕ, List, length, Bool, true, false, not, ◌&&◌, ◌==◌, if◌then◌else◌, Option, Some, None, slice_get, option_and_then}
-use Rattle.std.proofs.lemmas.Bool.{eq-eqb, ne_eqb}
-use Rattle.no_packet_loops.proofs.Common.{option_map_or, Held, Place, Link, World, place_at, release_at, is_up_in, element_there}
-use Rattle.metric.specs.declared.kind.Kind.{Kind}
-use Rattle.network_model.specs.declared.step.Step.TheVariants.{Release}
+use Rattle.std.proofs.Common.{refl, sym, ap, ◌∙◌, subst, ◌≡◌, ◌≢◌, ◌<◌, ℕ, List, length, Bool, true, false, not, ◌&&◌, ◌==◌, if◌then◌else◌, Option, Some, None, slice_get, option_and_then, eq-eqb, ne_eqb}
+use Rattle.no_packet_loops.proofs.Common.{option_map_or, Held, Place, Link, World, place_at, release_at, is_up_in, element_there, Release, Kind}
 use Rattle.world.specs.Steps.{is_stale}
 use Rattle.course.specs.Counts.{leaving}
 use Rattle.course.specs.Links.{HasLinksOfPorts}

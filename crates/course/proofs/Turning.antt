@@ -1,8 +1,6 @@
 -- Steps that routers do in turn.
 use Rattle.std.proofs.Common.{refl, sym, ap, subst, ◌∙◌, arith, inl, inr, length-append, ◌≡◌, ◌⊎◌, ℕ, ◌+◌, ◌^◌, ◌<◌, ◌≤◌, Bool, true, false, if◌then◌else◌, nat_lt, List, [], ◌∷◌, ◌++◌, length, Option, Some, None}
-use Rattle.std.proofs.lemmas.Bool.{cases_lt, ltb-false}
-use Rattle.no_packet_loops.proofs.Common.{World, Lawful, Lawful_to_refusal, next, refusal, Refusal, Runs}
-use Rattle.network_model.specs.declared.step.Step.{Step}
+use Rattle.no_packet_loops.proofs.Common.{World, Lawful, Lawful_to_refusal, next, refusal, Refusal, Runs, cases_lt, ltb-false, Step}
 use Rattle.world.specs.Steps.{CanBeRefused}
 use Rattle.world.proofs.Runs.{with_last_step}
 use Rattle.convergence.proofs.Turns.{next_chosen}

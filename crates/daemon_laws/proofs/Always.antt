@@ -1,7 +1,6 @@
 -- What holds at every moment, whatever has happened.
 use Rattle.std.proofs.Common.{List, [], ◌∷◌, inl, ℕ}
-use Rattle.no_packet_loops.proofs.Common.{Prefix, Topology}
-use Rattle.loop_freedom.proofs.FourFacts.{link_facts}
+use Rattle.no_packet_loops.proofs.Common.{Prefix, Topology, link_facts}
 use Rattle.daemon_laws.specs.Processes.{Processes}
 use Rattle.daemon_laws.specs.Packets.{NoPacketCirclesAtDaemons, NoPacketLoopsAtDaemons, NoMixtureLoopsAtDaemons, NoUnmarkedCircles, NoUnmarkedLoops, NoUnmarkedMixtureLoops, NoUnmarkedWrittenCircles, NoWrittenCircles}
 use Rattle.daemon_laws.proofs.Shown.{AllShown, next_shown, begins_shown}

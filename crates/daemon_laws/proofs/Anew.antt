@@ -1,10 +1,7 @@
 -- What ends have to exceed once a process has begun anew.
-use Rattle.std.proofs.Common.{refl, sym, ap, subst, ◌∙◌, arith, inl, inr, ◌≡◌, ◌≢◌, ◌⊎◌, ℕ, ◌<◌, ◌≤◌, min, max, Bool, true, false, not, ◌&&◌, ◌||◌, nat_lt, nat_le, if◌then◌else◌, List, [], ◌∷◌, eq-eqb, ne_eqb}
-use Rattle.std.proofs.lemmas.Bool.{ltb-true, leb-true}
-use Rattle.no_packet_loops.proofs.Common.{and_parts, false≢true, Prefix, prefix_eq, msg_of, Reported, Topology, LinkEnd}
+use Rattle.std.proofs.Common.{refl, sym, ap, subst, ◌∙◌, arith, inl, inr, ◌≡◌, ◌≢◌, ◌⊎◌, ℕ, ◌<◌, ◌≤◌, min, max, Bool, true, false, not, ◌&&◌, ◌||◌, nat_lt, nat_le, if◌then◌else◌, List, [], ◌∷◌, eq-eqb, ne_eqb, ltb-true, leb-true}
+use Rattle.no_packet_loops.proofs.Common.{and_parts, false≢true, Prefix, prefix_eq, msg_of, Reported, Topology, LinkEnd, messages, IsLawfullyHeld}
 use Rattle.network_model.proofs.Common.{cases_eq}
-use Rattle.loop_freedom.specs.Facts.{messages}
-use Rattle.loop_freedom.proofs.Notices.{IsLawfullyHeld}
 use Rattle.daemon_laws.specs.Processes.{Carried, Processes}
 use Rattle.daemon_laws.specs.Happenings.{latest, latest_coming, last_anew, may_come_again, lost_anew}
 use Rattle.daemon_laws.proofs.Seen.{carried, arriving_in}

@@ -1,16 +1,7 @@
 -- The invariant holds where routers begin.
-use Rattle.std.proofs.Common.{refl, sym, ap, subst, ◌∙◌, arith, ◌≡◌, ℕ, zero, suc, ◌<◌, ◌≤◌, Bool, true, false, ◌&&◌, ◌==◌, nat_le, nat_lt, cond, if◌then◌else◌, List, [], ◌∷◌, ◌++◌, map, length, Option, Some, None, slice_get, option_map, option_and_then, unwrap_or, take, drop, eq-eqb}
-use Rattle.std.proofs.lemmas.Bool.{leb-true}
-use Rattle.no_packet_loops.proofs.Common.{option_map_or, take-nil, drop-nil, and_parts, None_not_Some, Some_injective, find-put, Prefix, prefix_cmp, prefix_eq, IsCost, Machine, opening_machine, infinity, Neighbour, Port, Entry, Router, neighbours, machine_of, rows_of, session_at, entry_of, chosen_rows, next_hop, next_hop_at, is_next_hop, is_up_at, is_port, test_at, kept, ripe_of, unripe_of, IsSound, prefix_cmp_total, find-map, sorted-map, sorted-rows_of, slice_get-map, Topology, LinkEnd}
-use Rattle.network_model.proofs.Common.{both_ways, and_left, Query, Reply, one_if}
-use Rattle.metric.specs.Distance.{greatest_cost}
-use Rattle.network_model.specs.Network.{most_ports}
-use Rattle.std.specs.FinMap.{find as row_of}
-use Rattle.machine_laws.specs.Laws.{awaits, owes_port, is_active}
-use Rattle.machine_laws.proofs.Opened.{opened_sound}
-use Rattle.loop_freedom.specs.Facts.{pipe, count, messages, live}
-use Rattle.loop_freedom.proofs.Lists.{one_if_at_most_one}
-use Rattle.loop_freedom.proofs.Invariant.{end_invariant_new}
+use Rattle.std.proofs.Common.{refl, sym, ap, subst, ◌∙◌, arith, ◌≡◌, ℕ, zero, suc, ◌<◌, ◌≤◌, Bool, true, false, ◌&&◌, ◌==◌, nat_le, nat_lt, cond, if◌then◌else◌, List, [], ◌∷◌, ◌++◌, map, length, Option, Some, None, slice_get, option_map, option_and_then, unwrap_or, take, drop, eq-eqb, leb-true}
+use Rattle.no_packet_loops.proofs.Common.{option_map_or, take-nil, drop-nil, and_parts, None_not_Some, Some_injective, find-put, Prefix, prefix_cmp, prefix_eq, IsCost, Machine, opening_machine, infinity, Neighbour, Port, Entry, Router, neighbours, machine_of, rows_of, session_at, entry_of, chosen_rows, next_hop, next_hop_at, is_next_hop, is_up_at, is_port, test_at, kept, ripe_of, unripe_of, IsSound, prefix_cmp_total, find-map, sorted-map, sorted-rows_of, slice_get-map, Topology, LinkEnd, most_ports, awaits, owes_port, is_active, opened_sound, pipe, count, messages, live, one_if_at_most_one, end_invariant_new}
+use Rattle.network_model.proofs.Common.{both_ways, and_left, Query, Reply, one_if, greatest_cost, find as row_of}
 use Rattle.single_router.specs.declared.opening.Attachment.{Attachment}
 use Rattle.c_interface.specs.declared.fault.CallFault.{CallFault}
 use Rattle.c_interface.specs.declared.fault.CallFault.TheVariants.{BadCost, TooManyPorts}

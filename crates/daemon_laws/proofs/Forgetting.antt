@@ -1,12 +1,7 @@
 -- A router that forgets a prefix has, for it, what one has that has heard nothing; nothing else changes.
 use Rattle.std.proofs.Common.{refl, sym, ap, subst, ◌∙◌, arith, ◌≡◌, ℕ, zero, suc, ◌≤◌, Bool, true, false, not, ◌&&◌, ◌||◌, ◌==◌, if◌then◌else◌, List, [], ◌∷◌, Option, Some, None, is_some, is_none, slice_get, option_map, option_and_then, unwrap_or, eqb-true}
-use Rattle.std.specs.List.{list_all}
-use Rattle.no_packet_loops.proofs.Common.{option_map_or, None_not_Some, Some_injective, and_parts, and-false, false≢true, slice_get-map, Prefix, prefix_cmp, prefix_eq, Machine, opening_machine, is_port, Neighbour, Port, Router, neighbours, machine_of, session_at, has_row, next_hop, next_hop_at, is_next_hop, IsSound, is_up_at, test_at}
-use Rattle.network_model.proofs.Common.{infinity}
-use Rattle.network_model.specs.declared.route.Entry.TheVariants.{Unreachable}
-use Rattle.std.specs.FinMap.{find as row_of}
-use Rattle.machine_laws.specs.Laws.{awaits_of, owes_of, reported_at, reported_by}
-use Rattle.machine_laws.proofs.Opened.{opened_sound}
+use Rattle.no_packet_loops.proofs.Common.{option_map_or, None_not_Some, Some_injective, and_parts, and-false, false≢true, slice_get-map, Prefix, prefix_cmp, prefix_eq, Machine, opening_machine, is_port, Neighbour, Port, Router, neighbours, machine_of, session_at, has_row, next_hop, next_hop_at, is_next_hop, IsSound, is_up_at, test_at, list_all, Unreachable, awaits_of, owes_of, reported_at, reported_by, opened_sound, ShownAs}
+use Rattle.network_model.proofs.Common.{infinity, find as row_of}
 use Rattle.no_packet_loops.proofs.Machines.{prefix_same}
 use Rattle.route_table.specs.Place.{without}
 use Rattle.route_table.proofs.PrefixPlaces.{sorted-without}
@@ -19,7 +14,6 @@ use Rattle.daemon_laws.proofs.Items.{up_is}
 use Rattle.daemon_laws.proofs.Telling.{none_up}
 use Rattle.daemon_laws.proofs.Cheap.{IsCheap}
 use Rattle.daemon_laws.proofs.SomeRows.{row_forgotten, row_beside, chosen_without}
-use Rattle.loop_freedom.proofs.Published.{ShownAs}
 use Rattle.daemon_laws.proofs.InForce.{AsChosen, PutsInForce, puts_held, puts_nothing}
 
 -- ---- a machine that knows nothing

@@ -1,14 +1,8 @@
 -- A step of one router at all of its ports, in all sessions.
 use Rattle.std.proofs.Common.{refl, sym, ap, subst, ◌∙◌, arith, inl, inr, ◌≡◌, ◌≢◌, ℕ, ◌<◌, ◌≤◌, Bool, true, false, if◌then◌else◌, List, [], ◌++◌, Option, Some, None, slice_get, append-nil}
-use Rattle.no_packet_loops.proofs.Common.{Prefix, prefix_eq, reaction, Event, Outgoing, Notice, Router, machine_of, router_at_home, session_at, event_at_home, kept, ripe_of, unripe_of, IsSound, Meets, meets_home, sent_to, machine_laws, held_for, SeenItem, event_of}
-use Rattle.network_model.proofs.Common.{cases_Bool, cases_eq, Report, infinity}
-use Rattle.loop_freedom.specs.Facts.{live}
-use Rattle.loop_freedom.proofs.Notices.{IsLawfullyHeld, lawfully_held_append, lawfully_held_later}
-use Rattle.loop_freedom.proofs.Meeting.{lawfully_held_for}
-use Rattle.loop_freedom.proofs.Ports.{message_of}
-use Rattle.loop_freedom.proofs.OnTheWay.{live-append}
+use Rattle.no_packet_loops.proofs.Common.{Prefix, prefix_eq, reaction, Event, Outgoing, Notice, Router, machine_of, router_at_home, session_at, event_at_home, kept, ripe_of, unripe_of, IsSound, Meets, meets_home, sent_to, machine_laws, held_for, SeenItem, event_of, live, IsLawfullyHeld, lawfully_held_append, lawfully_held_later, lawfully_held_for, message_of, live-append}
+use Rattle.network_model.proofs.Common.{cases_Bool, cases_eq, Report, infinity, greatest_cost}
 use Rattle.daemon_laws.specs.Processes.{Carried}
-use Rattle.metric.specs.Distance.{greatest_cost}
 use Rattle.daemon_laws.proofs.Cheap.{IsCheap, cheap_after, cheap_event}
 use Rattle.daemon_laws.proofs.Seen.{is_port_in, MayBeIn}
 use Rattle.daemon_laws.proofs.Routers.{RouterKept, Met, Unmoved}

@@ -1,13 +1,8 @@
 -- A router that puts rows in force, or forgets a prefix, keeps the invariant.
 use Rattle.std.proofs.Common.{sym, ap, subst, ◌∙◌, arith, inl, inr, ◌≡◌, ◌≢◌, ℕ, Bool, ◌≤◌, true, ◌&&◌, ◌==◌, List, option_and_then, take, drop}
-use Rattle.no_packet_loops.proofs.Common.{and_parts, Prefix, prefix_cmp, Router, machine_of, session_at, next_hop, kept, ripe_of, unripe_of, IsSound, is_up_at, is_port, is_current, Topology, LinkEnd}
-use Rattle.network_model.proofs.Common.{cases_eq, and_left, infinity}
-use Rattle.network_model.specs.World.{Gate}
-use Rattle.std.specs.FinMap.{find as row_of}
+use Rattle.no_packet_loops.proofs.Common.{and_parts, Prefix, prefix_cmp, Router, machine_of, session_at, next_hop, kept, ripe_of, unripe_of, IsSound, is_up_at, is_port, is_current, Topology, LinkEnd, EndInvariant, ShownAs, invariant_here, invariant_there, IsLawfullyHeld}
+use Rattle.network_model.proofs.Common.{cases_eq, and_left, infinity, Gate, find as row_of}
 use Rattle.loop_freedom.specs.Facts.{End, end_of}
-use Rattle.loop_freedom.proofs.Link.{EndInvariant}
-use Rattle.loop_freedom.proofs.Published.{ShownAs, invariant_here, invariant_there}
-use Rattle.loop_freedom.proofs.Notices.{IsLawfullyHeld}
 use Rattle.daemon_laws.specs.Processes.{Carried, Processes}
 use Rattle.daemon_laws.proofs.Cases.{each_but}
 use Rattle.daemon_laws.proofs.Seen.{carried, arriving_in, end_in, is_port_in}

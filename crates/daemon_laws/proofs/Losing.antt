@@ -1,10 +1,8 @@
 -- A message that is lost keeps the invariant, but for what was told in its session.
 use Rattle.std.proofs.Common.{refl, sym, ap, subst, ◌∙◌, arith, inl, inr, ◌≡◌, ◌⊎◌, ℕ, ◌≤◌, Bool, true, false, ◌&&◌, ◌==◌, if◌then◌else◌, List, [], ◌∷◌, ◌++◌, drop}
-use Rattle.no_packet_loops.proofs.Common.{false≢true, or_parts, Prefix, prefix_eq, msg_of, kept, ripe_of, Reported, Topology, LinkEnd}
+use Rattle.no_packet_loops.proofs.Common.{false≢true, or_parts, Prefix, prefix_eq, msg_of, kept, ripe_of, Reported, Topology, LinkEnd, EndInvariant, IsLawfullyHeld}
 use Rattle.network_model.proofs.Common.{Kind, Query, Reply, Report}
 use Rattle.loop_freedom.specs.Facts.{End, pipe, count, messages, live, AtLeast, AtLeastFromLastQuery}
-use Rattle.loop_freedom.proofs.Link.{EndInvariant}
-use Rattle.loop_freedom.proofs.Notices.{IsLawfullyHeld}
 use Rattle.daemon_laws.specs.Processes.{Carried, Processes}
 use Rattle.daemon_laws.specs.Happenings.{Loses, is_same_end, is_first_of, after_happening}
 use Rattle.daemon_laws.proofs.Told.{Told}

@@ -1,12 +1,7 @@
 -- A step of one router, at one of whose ports something may be taken, keeps the invariant.
 use Rattle.std.proofs.Common.{refl, sym, ap, subst, ◌∙◌, arith, append_assoc, inl, inr, ◌≡◌, ◌≢◌, ℕ, Bool, ◌<◌, ◌≤◌, true, false, [], ◌++◌, Option, None}
-use Rattle.no_packet_loops.proofs.Common.{Prefix, Router, machine_of, session_at, kept, ripe_of, unripe_of, IsSound, Topology, LinkEnd, at_port, place_cases, is_next_hop, next_hop_at}
+use Rattle.no_packet_loops.proofs.Common.{Prefix, Router, machine_of, session_at, kept, ripe_of, unripe_of, IsSound, Topology, LinkEnd, at_port, place_cases, is_next_hop, next_hop_at, live, front, EndInvariant, LinkStep, step_keeps, IsLawfullyHeld, lawfully_held_later}
 use Rattle.network_model.proofs.Common.{cases_eq, Report}
-use Rattle.loop_freedom.specs.Facts.{live}
-use Rattle.loop_freedom.proofs.Lists.{front}
-use Rattle.loop_freedom.proofs.Link.{EndInvariant}
-use Rattle.loop_freedom.proofs.LinkSteps.{LinkStep, step_keeps}
-use Rattle.loop_freedom.proofs.Notices.{IsLawfullyHeld, lawfully_held_later}
 use Rattle.daemon_laws.specs.Processes.{Processes}
 use Rattle.daemon_laws.proofs.Cases.{each_but}
 use Rattle.daemon_laws.proofs.Seen.{carried, messages_arriving, is_port_in, MayBeIn}

@@ -1,6 +1,6 @@
 -- Whatever happens keeps the order of sessions.
 use Rattle.std.proofs.Common.{refl, sym, ap, subst, ◌∙◌, arith, inl, inr, ◌≡◌, ◌⊎◌, ℕ, ◌≤◌, max, Bool, true, false, ◌&&◌, ◌==◌, is_none, if◌then◌else◌, List, [], ◌∷◌, take, drop, Some, None, slice_get, eq-eqb, ne_eqb, min, Option}
-use Rattle.no_packet_loops.proofs.Common.{and_parts, and_from, false≢true, take-append-le, Prefix, Held, Router, machine_of, session_at, router_publishing, router_releasing, ripe_front, next_hop_at, ripe_of, is_up_at, is_port, is_next_hop, Topology, LinkEnd, at_port, place_cases}
+use Rattle.no_packet_loops.proofs.Common.{and_parts, and_from, false≢true, take-append-le, Prefix, Held, Router, machine_of, session_at, router_publishing, router_releasing, ripe_front, next_hop_at, ripe_of, is_up_at, is_port, is_next_hop, Topology, LinkEnd, at_port, place_cases, Message}
 use Rattle.network_model.proofs.Common.{cases_eq, both_ways}
 use Rattle.loop_freedom.specs.Facts.{End}
 use Rattle.router_core.specs.Alone.{router_publishing_some}
@@ -24,7 +24,6 @@ use Rattle.daemon_laws.proofs.Beginning.{Made, made}
 use Rattle.daemon_laws.proofs.Orderly.{CarriedPast, HeldPast, carried_later, carried_append, carried_drop, carried_first, held_later, held_append, held_drop, held_take, stamped_past, HoldsMore, told_more, Shows, Orderly}
 use Rattle.c_interface.specs.declared.fault.CallFault.{CallFault}
 use Rattle.c_interface.specs.Faults.{first_of}
-use Rattle.network_model.specs.declared.item.Message.{Message}
 use Rattle.daemon_laws.proofs.Items.{session_is}
 use Rattle.daemon_laws.proofs.Telling.{passed, neither, message_passes}
 use Rattle.daemon_laws.proofs.Anew.{carried_least, anew_less, anew_least, anew_far}

@@ -1,14 +1,12 @@
 -- A message of the session that its end is in is of no kind that is a fault: a reply that comes is awaited, and a query comes only once
 -- the reply to the one before is sent.
 use Rattle.std.proofs.Common.{refl, sym, ap, subst, ◌∙◌, arith, inl, inr, ◌≡◌, ℕ, ◌+◌, ◌≤◌, Bool, true, false, ◌&&◌, if◌then◌else◌, List, [], ◌∷◌, ◌++◌, drop, Option, Some, None, slice_get, unwrap_or, eq-eqb}
-use Rattle.no_packet_loops.proofs.Common.{None_not_Some, Some_injective, and_parts, Prefix, prefix_eq, Machine, Computation, machine_of, msg_of, Reported, Topology, LinkEnd, kept, ripe_of, test_at}
+use Rattle.no_packet_loops.proofs.Common.{None_not_Some, Some_injective, and_parts, Prefix, prefix_eq, Machine, Computation, machine_of, msg_of, Reported, Topology, LinkEnd, kept, ripe_of, test_at, is_kind, awaits, owes_port, awaits_of, owes_of, count-append, one_if_at_most_one}
 use Rattle.network_model.proofs.Common.{Kind, Query, Reply, Update, one_if}
-use Rattle.machine_laws.specs.Laws.{is_kind, awaits, owes_port, awaits_of, owes_of}
 use Rattle.dual_machine.specs.State.{awaits_at}
 use Rattle.c_interface.specs.declared.fault.CallFault.TheVariants.{AskedTwice, Unasked}
 use Rattle.single_router.specs.Inputs.{owes_at, kind_fault}
 use Rattle.loop_freedom.specs.Facts.{End, count, pipe, messages, live}
-use Rattle.loop_freedom.proofs.Lists.{count-append, one_if_at_most_one}
 use Rattle.daemon_laws.specs.Processes.{Carried, Processes}
 use Rattle.daemon_laws.proofs.Seen.{carried, arriving_in, is_port_in}
 use Rattle.daemon_laws.proofs.Gone.{Gone}

@@ -1,13 +1,7 @@
 -- A router that publishes puts its rows in force.
 use Rattle.std.proofs.Common.{refl, sym, ap, subst, ◌∙◌, arith, append_assoc, take_all, take-append-drop, inl, inr, ◌≡◌, ℕ, ◌<◌, ◌≤◌, true, false, ◌&&◌, ◌==◌, List, [], ◌++◌, length, Option, Some, None, option_map, eqb-true}
-use Rattle.no_packet_loops.proofs.Common.{and_parts, drop_all, slice_get_past, Prefix, Machine, port_count, port_successor, is_port, Neighbour, Router, machine_of, entry_of, session_at, router_publishing, next_hop_at, next_hop_of, kept, ripe_of, unripe_of, IsSound, is_up_at, test_at, is_current, is_next_hop, port_successor_from}
+use Rattle.no_packet_loops.proofs.Common.{and_parts, drop_all, slice_get_past, Prefix, Machine, port_count, port_successor, is_port, Neighbour, Router, machine_of, entry_of, session_at, router_publishing, next_hop_at, next_hop_of, kept, ripe_of, unripe_of, IsSound, is_up_at, test_at, is_current, is_next_hop, port_successor_from, is_port_successor, port_successor_home, live, messages, ShownAs, shown_as_chosen, shown_published, next_hop_seen, published_end, live-append, IsLawfullyHeld, lawfully_held_append}
 use Rattle.network_model.proofs.Common.{cases_lt, and_left, false≢true, false_from_ne_true, none-some}
-use Rattle.machine_laws.proofs.Successors.{is_port_successor, port_successor_home}
-use Rattle.loop_freedom.specs.Facts.{live, messages}
-use Rattle.loop_freedom.proofs.Published.{ShownAs, shown_as_chosen, shown_published}
-use Rattle.loop_freedom.proofs.Publishing.{next_hop_seen, published_end}
-use Rattle.loop_freedom.proofs.OnTheWay.{live-append}
-use Rattle.loop_freedom.proofs.Notices.{IsLawfullyHeld, lawfully_held_append}
 use Rattle.no_packet_loops.proofs.Publishing.{control_row, control_hop, control_sorted}
 use Rattle.no_packet_loops.proofs.View.{kept-append}
 use Rattle.daemon_laws.specs.Processes.{Carried}

@@ -1,8 +1,7 @@
 -- A router that publishes some of its rows puts those in force, and leaves the others.
 use Rattle.std.proofs.Common.{refl, ap, ◌∙◌, arith, ◌≡◌, ℕ, ◌≤◌, Bool, true, false, not, ◌&&◌, if◌then◌else◌, List, take, None, is_some, option_map, option_and_then}
-use Rattle.no_packet_loops.proofs.Common.{Prefix, prefix_cmp, port_successor, is_port, Entry, Router, machine_of, entry_of, session_at, changed_rows, has_row, next_hop, next_hop_at, next_hop_of, IsSound, is_current, is_next_hop}
-use Rattle.network_model.proofs.Common.{infinity}
-use Rattle.std.specs.FinMap.{find as row_of}
+use Rattle.no_packet_loops.proofs.Common.{Prefix, prefix_cmp, port_successor, is_port, Entry, Router, machine_of, entry_of, session_at, changed_rows, has_row, next_hop, next_hop_at, next_hop_of, IsSound, is_current, is_next_hop, ShownAs}
+use Rattle.network_model.proofs.Common.{infinity, find as row_of}
 use Rattle.no_packet_loops.proofs.Publishing.{control_row, control_hop, control_sorted}
 use Rattle.router_core.specs.Alone.{router_publishing_some}
 use Rattle.daemon_laws.specs.Processes.{Carried}
@@ -11,7 +10,6 @@ use Rattle.daemon_laws.proofs.Seen.{end_in}
 use Rattle.daemon_laws.proofs.Routers.{RouterKept}
 use Rattle.daemon_laws.proofs.Cheap.{IsCheap}
 use Rattle.daemon_laws.proofs.SomeRows.{all_in_self, all_in_filter, all_in_take, row_in_force, sorted_in_force}
-use Rattle.loop_freedom.proofs.Published.{ShownAs}
 use Rattle.daemon_laws.proofs.InForce.{AsChosen, PutsInForce, puts_held, puts_nothing}
 use Rattle.daemon_laws.proofs.Publishing.{published_as}
 

@@ -1,13 +1,8 @@
 -- A router that releases a message keeps the invariant.
 use Rattle.std.proofs.Common.{refl, sym, ap, subst, ◌∙◌, arith, append_assoc, inl, inr, ◌≡◌, ◌≢◌, ℕ, ◌+◌, ◌≤◌, Bool, true, false, ◌==◌, if◌then◌else◌, List, [], ◌∷◌, ◌++◌, Some, append-nil, length-drop, eq-eqb, ne_eqb}
-use Rattle.no_packet_loops.proofs.Common.{and_from, and_right, is_next_hop, Prefix, prefix_eq, Held, Router, machine_of, session_at, router_releasing, ripe_front, next_hop_at, kept, is_kept, held_as, ripe_of, unripe_of, IsSound, Topology, LinkEnd, at_port, place_cases}
+use Rattle.no_packet_loops.proofs.Common.{and_from, and_right, is_next_hop, Prefix, prefix_eq, Held, Router, machine_of, session_at, router_releasing, ripe_front, next_hop_at, kept, is_kept, held_as, ripe_of, unripe_of, IsSound, Topology, LinkEnd, at_port, place_cases, count-append, EndInvariant, live-append, IsLawfullyHeld, lawfully_held_append, end_cong, end_invariant_same}
 use Rattle.network_model.proofs.Common.{cases_eq, cases_Bool, both_ways, and_left, Kind, Reply, Report, SeenHeld}
 use Rattle.loop_freedom.specs.Facts.{End, live, count, pipe}
-use Rattle.loop_freedom.proofs.Lists.{count-append}
-use Rattle.loop_freedom.proofs.Link.{EndInvariant}
-use Rattle.loop_freedom.proofs.OnTheWay.{live-append}
-use Rattle.loop_freedom.proofs.Notices.{IsLawfullyHeld, lawfully_held_append}
-use Rattle.loop_freedom.proofs.Invariant.{end_cong, end_invariant_same}
 use Rattle.no_packet_loops.proofs.Releasing.{Front, front_of, ripe_front_is, unripe_left}
 use Rattle.daemon_laws.specs.Processes.{Carried, Processes}
 use Rattle.daemon_laws.proofs.Cases.{each_but}

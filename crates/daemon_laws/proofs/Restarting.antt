@@ -1,13 +1,8 @@
 -- A process that ends, and one that begins in its place, keep the invariant.
 use Rattle.std.proofs.Common.{refl, sym, ap, subst, ◌∙◌, arith, inl, inr, ◌≡◌, ◌≢◌, ◌⊎◌, ℕ, min, ◌<◌, ◌≤◌, true, false, List, [], ◌∷◌, ◌++◌, take, drop, append-nil, ◌==◌}
-use Rattle.no_packet_loops.proofs.Common.{Prefix, Router, machine_of, session_at, is_port, is_next_hop, kept, ripe_of, unripe_of, IsSound, is_up_at, Topology, LinkEnd, at_port, take-nil, drop-nil}
+use Rattle.no_packet_loops.proofs.Common.{Prefix, Router, machine_of, session_at, is_port, is_next_hop, kept, ripe_of, unripe_of, IsSound, is_up_at, Topology, LinkEnd, at_port, take-nil, drop-nil, awaits, owes_port, at_least_left, count-append, one_if_at_most_one, Answered, EndInvariant, IsLawfullyHeld, lawfully_held_later, nothing_held_later, end_invariant_new, end_invariant_same}
 use Rattle.network_model.proofs.Common.{cases_eq, cases_lt, cases_Bool, both_ways, false_from_ne_true, and_left, Kind, Query, Reply, Report, infinity, one_if}
-use Rattle.machine_laws.specs.Laws.{awaits, owes_port}
 use Rattle.loop_freedom.specs.Facts.{End, pipe, count, messages, live, AtLeast}
-use Rattle.loop_freedom.proofs.Lists.{at_least_left, count-append, one_if_at_most_one}
-use Rattle.loop_freedom.proofs.Link.{Answered, EndInvariant}
-use Rattle.loop_freedom.proofs.Notices.{IsLawfullyHeld, lawfully_held_later, nothing_held_later}
-use Rattle.loop_freedom.proofs.Invariant.{end_invariant_new, end_invariant_same}
 use Rattle.daemon_laws.specs.Processes.{Processes}
 use Rattle.daemon_laws.proofs.Cases.{each_but}
 use Rattle.daemon_laws.proofs.Seen.{carried, arriving_in, end_in, is_port_in}

@@ -1,10 +1,7 @@
 -- Where routers in processes of their own are at rest, each has its best row.
 use Rattle.std.proofs.Common.{refl, sym, ap, subst, ◌∙◌, inl, arith, ◌≡◌, ℕ, ◌+◌, ◌<◌, ◌≤◌, Bool, true, false, ◌==◌, if◌then◌else◌, List, [], ◌∷◌, ◌++◌, Option, Some, None, slice_get, eq-eqb}
-use Rattle.no_packet_loops.proofs.Common.{option_map_or, and_parts, and_from, false≢true, Prefix, test_at, Machine, Neighbour, Local, Via, Port, machine_of, is_up_at, Topology, IsEdgeWalk, walk_map, LinkEnd, State, next_hop_at}
+use Rattle.no_packet_loops.proofs.Common.{option_map_or, and_parts, and_from, false≢true, Prefix, test_at, Machine, Neighbour, Local, Via, Port, machine_of, is_up_at, Topology, IsEdgeWalk, walk_map, LinkEnd, State, next_hop_at, most_routers, reported_at, pipe, messages, live}
 use Rattle.network_model.proofs.Common.{infinity}
-use Rattle.network_model.specs.Network.{most_routers}
-use Rattle.machine_laws.specs.Laws.{reported_at}
-use Rattle.loop_freedom.specs.Facts.{pipe, messages, live}
 use Rattle.least_cost.specs.Quiet.{LeadsHome, Follows, IsQuiet, IsRouted, IsOptimal, walk_end, edges_cost}
 use Rattle.least_cost.proofs.Replay.{cost_of}
 use Rattle.least_cost.proofs.Kept.{Kept as NetKept}

@@ -1,11 +1,8 @@
 -- Ports that get other neighbours keep the invariant and the order of sessions.
 use Rattle.std.proofs.Common.{refl, sym, ap, subst, ◌∙◌, arith, inl, inr, ◌≡◌, ℕ, ◌<◌, ◌≤◌, max, Bool, true, false, not, ◌&&◌, ◌==◌, if◌then◌else◌, [], ◌++◌, eq-eqb}
-use Rattle.no_packet_loops.proofs.Common.{and_parts, and_from, Prefix, machine_of, is_port, is_up_at, kept, ripe_of, unripe_of, Topology, LinkEnd}
+use Rattle.no_packet_loops.proofs.Common.{and_parts, and_from, Prefix, machine_of, is_port, is_up_at, kept, ripe_of, unripe_of, Topology, LinkEnd, awaits, owes_port, EndInvariant, IsLawfullyHeld, lawfully_held_later, nothing_held_later}
 use Rattle.network_model.proofs.Common.{cases_Bool, both_ways, false_from_ne_true, and_left}
-use Rattle.machine_laws.specs.Laws.{awaits, owes_port}
 use Rattle.loop_freedom.specs.Facts.{End, messages}
-use Rattle.loop_freedom.proofs.Link.{EndInvariant}
-use Rattle.loop_freedom.proofs.Notices.{IsLawfullyHeld, lawfully_held_later, nothing_held_later}
 use Rattle.daemon_laws.specs.Processes.{Processes}
 use Rattle.daemon_laws.specs.Happenings.{is_same_end, link_stays, is_new_link, MayRewire, rewired}
 use Rattle.daemon_laws.proofs.Seen.{carried, arriving_in, end_in, is_port_in}

@@ -1,8 +1,6 @@
 -- What a router does with what it is told, as one prefix sees it.
 use Rattle.std.proofs.Common.{refl, ap, ◌∙◌, arith, length-append, ◌≡◌, ℕ, ◌≤◌, Bool, true, false, List, [], ◌∷◌, map, length, None}
-use Rattle.no_packet_loops.proofs.Common.{Prefix, prefix_cmp, prefix_eq, Machine, reactions, changed_at, Neighbour, Event, Held, Port, Router, neighbours, machine_of, with_machines, router_noticing, router_meeting, chosen_rows, machine_laws, records_after}
-use Rattle.std.specs.FinMap.{find as row_of}
-use Rattle.std.specs.FinMap.Entries.{is_sorted}
+use Rattle.no_packet_loops.proofs.Common.{Prefix, prefix_cmp, prefix_eq, Machine, reactions, changed_at, Neighbour, Event, Held, Port, Router, neighbours, machine_of, with_machines, router_noticing, router_meeting, chosen_rows, machine_laws, records_after, find as row_of, is_sorted}
 use Rattle.no_packet_loops.proofs.Machines.{StaysOpened, sent}
 use Rattle.no_packet_loops.proofs.Reacting.{MetKeeping, UnmovedKeeping, machines', machine_noticed, unheard_noticed, sorted_noticed, met_notice, rows, more, sorted_met, unheard_met, machine_met, met_here, machine_apart, unmoved_apart}
 

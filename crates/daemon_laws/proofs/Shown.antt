@@ -1,11 +1,8 @@
 -- A prefix for which a router has published no row was unheard there when it published last, whatever has happened.
 use Rattle.std.proofs.Common.{refl, sym, ap, subst, ◌∙◌, inl, inr, ◌≡◌, ◌≢◌, ℕ, Bool, true, false, if◌then◌else◌, List, take, None, is_some, is_none, ◌&&◌, eq-eqb, ne_eqb}
-use Rattle.no_packet_loops.proofs.Common.{Prefix, prefix_cmp, prefix_eq, Entry, infinity, Router, machine_of, router_publishing, router_releasing, Topology}
-use Rattle.network_model.proofs.Common.{cases_eq}
-use Rattle.std.specs.FinMap.{find as row_of}
+use Rattle.no_packet_loops.proofs.Common.{Prefix, prefix_cmp, prefix_eq, Entry, infinity, Router, machine_of, router_publishing, router_releasing, Topology, changed_rows, with_rows}
+use Rattle.network_model.proofs.Common.{cases_eq, find as row_of}
 use Rattle.all_packets.proofs.Known.{Follows, unheard}
-use Rattle.network_model.specs.Step.{changed_rows}
-use Rattle.network_model.specs.Publication.{with_rows}
 use Rattle.route_table.specs.Place.{without}
 use Rattle.router_core.specs.Alone.{router_publishing_some, may_forget, router_forgetting}
 use Rattle.single_router.specs.declared.input.Input.{Input}

@@ -1,10 +1,7 @@
 -- Some rows that are put in force, and the rows of a prefix that is forgotten.
 use Rattle.std.proofs.Common.{refl, sym, ap, ◌∙◌, ◌≡◌, ℕ, zero, suc, Bool, true, false, cond, not, if◌then◌else◌, List, [], ◌∷◌, take, filter, Option, Some, None, is_some}
-use Rattle.no_packet_loops.proofs.Common.{None_not_Some, and_parts, find-put, find-where_key, find_below, below_all, Prefix, prefix_cmp, prefix_eq, prefix_cmp_total, Machine, Entry, Port, chosen_rows, entry_of, sorted-put, with_rows}
-use Rattle.network_model.proofs.Common.{both_ways, false_from_ne_true}
-use Rattle.std.specs.FinMap.{find as row_of, put}
-use Rattle.std.specs.FinMap.Entries.{is_sorted}
-use Rattle.ipv4_prefix.proofs.PrefixOrder.{prefix_cmp-tied}
+use Rattle.no_packet_loops.proofs.Common.{None_not_Some, and_parts, find-put, find-where_key, find_below, below_all, Prefix, prefix_cmp, prefix_eq, prefix_cmp_total, Machine, Entry, Port, chosen_rows, entry_of, sorted-put, with_rows, is_sorted}
+use Rattle.network_model.proofs.Common.{both_ways, false_from_ne_true, find as row_of, put, prefix_cmp-tied}
 use Rattle.no_packet_loops.proofs.Machines.{prefix_same, prefix_itself}
 use Rattle.route_table.specs.Place.{without}
 

@@ -1,11 +1,7 @@
 -- Whatever happens keeps the invariant.
 use Rattle.std.proofs.Common.{refl, sym, ap, subst, ◌∙◌, arith, inl, inr, ◌≡◌, ◌≢◌, ◌⊎◌, ℕ, ◌<◌, ◌≤◌, Bool, true, false, ◌&&◌, ◌==◌, if◌then◌else◌, List, [], ◌∷◌, ◌++◌, take, drop, Some, None, slice_get, eqb-true, eq-eqb, ne_eqb}
-use Rattle.no_packet_loops.proofs.Common.{and_parts, and_from, Prefix, prefix_eq, Held, Router, machine_of, session_at, router_publishing, router_releasing, msg_of, Topology, LinkEnd, at_port}
+use Rattle.no_packet_loops.proofs.Common.{and_parts, and_from, Prefix, prefix_eq, Held, Router, machine_of, session_at, router_publishing, router_releasing, msg_of, Topology, LinkEnd, at_port, changed_rows, live, front, IsLawfullyHeld}
 use Rattle.network_model.proofs.Common.{cases_eq, both_ways, false_from_ne_true, SeenHeld, infinity}
-use Rattle.loop_freedom.specs.Facts.{live}
-use Rattle.loop_freedom.proofs.Lists.{front}
-use Rattle.loop_freedom.proofs.Notices.{IsLawfullyHeld}
-use Rattle.network_model.specs.Step.{changed_rows}
 use Rattle.router_core.specs.Alone.{router_publishing_some, may_forget}
 use Rattle.single_router.specs.declared.input.Input.{Input}
 use Rattle.single_router.specs.declared.input.Input.TheVariants as input

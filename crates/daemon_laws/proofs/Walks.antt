@@ -1,9 +1,7 @@
 -- Along the rows of routers in processes of their own the feasible distances fall, so no packet meets a router twice.
 use Rattle.std.proofs.Common.{refl, sym, ap, subst, ◌∙◌, arith, inl, inr, ◌≡◌, ◌⊎◌, ℕ, ◌<◌, ◌≤◌, max, Bool, true, false, ◌&&◌, ◌==◌, if◌then◌else◌, List, [], ◌∷◌, Option, Some, None, slice_get, option_and_then, eq-eqb}
-use Rattle.no_packet_loops.proofs.Common.{and_parts, and_from, Prefix, prefix_cmp, longest_match, is_port, port_successor_from, Entry, Local, Via, Unreachable, Port, machine_of, session_at, Some_injective, None_not_Some, is_up_at, is_next_hop, Topology, meets_twice, LinkEnd, at_port, next_hop, next_hop_at}
-use Rattle.network_model.proofs.Common.{cases_lt, both_ways}
-use Rattle.std.specs.FinMap.{find as row_of}
-use Rattle.loop_freedom.proofs.Walks.{FallsAlong, falls_distinct}
+use Rattle.no_packet_loops.proofs.Common.{and_parts, and_from, Prefix, prefix_cmp, longest_match, is_port, port_successor_from, Entry, Local, Via, Unreachable, Port, machine_of, session_at, Some_injective, None_not_Some, is_up_at, is_next_hop, Topology, meets_twice, LinkEnd, at_port, next_hop, next_hop_at, FallsAlong, falls_distinct}
+use Rattle.network_model.proofs.Common.{cases_lt, both_ways, find as row_of}
 use Rattle.no_packet_loops.proofs.Walks.{match_is_row}
 use Rattle.no_packet_loops.proofs.Publishing.{control_hop, control_sorted, hop_chosen}
 use Rattle.daemon_laws.specs.Processes.{Processes}

@@ -1,14 +1,10 @@
 -- No packet meets a router twice, whichever prefixes match it on its way between routers in processes of their own.
 use Rattle.std.proofs.Common.{refl, sym, ap, subst, ◌∙◌, inl, inr, arith, ◌≡◌, ℕ, ◌<◌, ◌≤◌, Bool, true, false, ◌&&◌, ◌||◌, ◌==◌, if◌then◌else◌, List, [], ◌∷◌, ne_eqb, Option, Some, None, IsSome, option_and_then}
-use Rattle.no_packet_loops.proofs.Common.{Prefix, prefix_cmp, covers, longest_match, infinity, machine_of, Entry, None_not_Some, Some_injective, false≢true, Topology, LinkEnd, at_port, and_parts, is_met, meets_twice}
-use Rattle.network_model.proofs.Common.{both_ways}
+use Rattle.no_packet_loops.proofs.Common.{Prefix, prefix_cmp, covers, longest_match, infinity, machine_of, Entry, None_not_Some, Some_injective, false≢true, Topology, LinkEnd, at_port, and_parts, is_met, meets_twice, Local, Unreachable, Via, is_sorted, longest_match-found}
+use Rattle.network_model.proofs.Common.{both_ways, find as row_of}
 use Rattle.no_packet_loops.proofs.Publishing.{control_sorted}
-use Rattle.network_model.specs.declared.route.Entry.TheVariants.{Local, Unreachable, Via}
-use Rattle.std.specs.FinMap.{find as row_of}
-use Rattle.std.specs.FinMap.Entries.{is_sorted}
 use Rattle.all_packets.specs.Packets.{IsWayBy}
 use Rattle.all_packets.proofs.Known.{unheard}
-use Rattle.ipv4_prefix.proofs.LongestMatches.{longest_match-found}
 use Rattle.no_packet_loops.proofs.Walks.{match_is_row}
 use Rattle.all_packets.proofs.Matches.{GoesBefore, found}
 use Rattle.all_packets.proofs.Improving.{Improves, Goes, none_twice, matched_once}

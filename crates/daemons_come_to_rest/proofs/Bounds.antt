@@ -1,8 +1,7 @@
 -- What comes to rest has a bound: at each moment only finitely much may still happen.
 use Rattle.std.proofs.Common.{refl, sym, ap, subst, arith, inl, inr, ◌∙◌, ◌≡◌, ◌⊎◌, ℕ, zero, suc, ◌<◌, Bool, true, false, cond, List, [], ◌∷◌, ◌++◌, map, length, Option, Some, None, slice_get}
 use Rattle.no_packet_loops.proofs.Common.{None_not_Some, Some_injective, Prefix, prefix_cmp, prefix_eq, Machine, changed_rows, Held, is_due, ripe_front, Topology, LinkEnd, at_port}
-use Rattle.network_model.proofs.Common.{cases_lt, cases_Bool, both_ways}
-use Rattle.std.specs.FinMap.{find as row_of}
+use Rattle.network_model.proofs.Common.{cases_lt, cases_Bool, both_ways, find as row_of}
 use Rattle.no_packet_loops.proofs.Machines.{prefix_same}
 use Rattle.router_core.specs.Alone.{may_forget}
 use Rattle.coming_to_rest.specs.Rest.{IsFinite}

@@ -1,10 +1,7 @@
 -- What a router has to publish, to release and may have to forget: whatever it does of that leaves less.
 use Rattle.std.proofs.Common.{refl, sym, ap, subst, ◌∙◌, arith, inl, inr, ◌≡◌, ◌⊎◌, ℕ, zero, suc, ◌+◌, ◌<◌, ◌≤◌, Bool, true, false, not, cond, if◌then◌else◌, List, [], ◌∷◌, length, take, filter, Some, is_some, slice_get}
-use Rattle.no_packet_loops.proofs.Common.{option_map_or, false≢true, None_not_Some, Some_injective, Prefix, prefix_cmp, prefix_eq, prefix_cmp_total, Machine, Entry, entry_eq, entry_eq-refl, Router, Table, has_row, changed_rows, with_rows}
-use Rattle.network_model.proofs.Common.{both_ways}
-use Rattle.std.specs.FinMap.{find as row_of}
-use Rattle.std.specs.FinMap.Entries.{is_sorted, length_without}
-use Rattle.ipv4_prefix.proofs.SortedRows.{to_T}
+use Rattle.no_packet_loops.proofs.Common.{option_map_or, false≢true, None_not_Some, Some_injective, Prefix, prefix_cmp, prefix_eq, prefix_cmp_total, Machine, Entry, entry_eq, entry_eq-refl, Router, Table, has_row, changed_rows, with_rows, is_sorted, length_without}
+use Rattle.network_model.proofs.Common.{both_ways, find as row_of, to_T}
 use Rattle.no_packet_loops.proofs.Machines.{prefix_itself}
 use Rattle.route_table.specs.Place.{without}
 use Rattle.router_core.specs.Alone.{with_some_published, router_publishing_some, router_forgetting}

@@ -1,7 +1,6 @@
 -- Whatever still happens makes the measure of the processes fall: at how many ports that are down a report is left that is forgotten with
 -- its prefix, then what counts for all prefixes together, place by place, then the loads of all prefixes, then what is to be done.
-use Rattle.std.proofs.Common.{refl, sym, ap, subst, ◌∙◌, arith, inl, inr, ◌≡◌, ◌≢◌, ◌⊎◌, ℕ, ◌<◌, ◌≤◌, Bool, true, false, if◌then◌else◌, List, [], ◌∷◌, length, drop, Option, Some, None, is_none, slice_get}
-use Rattle.std.proofs.lemmas.Bool.{le-ltb}
+use Rattle.std.proofs.Common.{refl, sym, ap, subst, ◌∙◌, arith, inl, inr, ◌≡◌, ◌≢◌, ◌⊎◌, ℕ, ◌<◌, ◌≤◌, Bool, true, false, if◌then◌else◌, List, [], ◌∷◌, length, drop, Option, Some, None, is_none, slice_get, le-ltb}
 use Rattle.no_packet_loops.proofs.Common.{option_map_or, list_any, None_not_Some, Some_injective, Prefix, prefix_eq, Held, Item, Router, machine_of, kept, ripe_of, unripe_of, changed_rows, is_due, router_accepting, router_publishing, router_releasing, ripe_front, Topology, LinkEnd}
 use Rattle.network_model.proofs.Common.{cases_eq, both_ways, false_from_ne_true, infinity}
 use Rattle.router_core.specs.Alone.{router_publishing_some, may_forget, router_forgetting}

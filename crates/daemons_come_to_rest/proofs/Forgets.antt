@@ -1,10 +1,7 @@
 -- What it does to what counts that a router forgets a prefix: at a port that is down what was reported there may go, and nothing else.
 use Rattle.std.proofs.Common.{refl, sym, ap, subst, ◌∙◌, arith, inl, inr, ◌≡◌, ◌≢◌, ◌⊎◌, ℕ, zero, suc, ◌<◌, ◌≤◌, Bool, true, false, not, ◌&&◌, ◌||◌, ◌==◌, List, [], ◌∷◌, map, min, Option, Some, None, is_some, option_map, option_and_then, slice_get, unwrap_or, eqb-true, eq-eqb}
-use Rattle.std.specs.List.{list_all}
-use Rattle.no_packet_loops.proofs.Common.{option_map_or, false≢true, has_row, Unreachable, None_not_Some, and_parts, and-false, slice_get-map, Prefix, prefix_cmp, prefix_eq, Machine, opening_machine, Neighbour, Port, Router, neighbours, machine_of, kept, ripe_of, unripe_of, Topology, LinkEnd, at_port}
-use Rattle.network_model.proofs.Common.{cases_eq, cases_lt, both_ways, least, ways, infinity, one_if}
-use Rattle.std.specs.FinMap.{find as row_of}
-use Rattle.machine_laws.specs.Laws.{reported_by, reported_at}
+use Rattle.no_packet_loops.proofs.Common.{option_map_or, false≢true, has_row, Unreachable, None_not_Some, and_parts, and-false, slice_get-map, Prefix, prefix_cmp, prefix_eq, Machine, opening_machine, Neighbour, Port, Router, neighbours, machine_of, kept, ripe_of, unripe_of, Topology, LinkEnd, at_port, list_all, reported_by, reported_at}
+use Rattle.network_model.proofs.Common.{cases_eq, cases_lt, both_ways, least, ways, infinity, one_if, find as row_of}
 use Rattle.router_core.specs.Alone.{is_unreported, knows_nothing, may_forget, router_forgetting}
 use Rattle.single_router.specs.Inputs.{attachment_of}
 use Rattle.no_packet_loops.proofs.Machines.{prefix_same}

@@ -1,14 +1,12 @@
 -- What each thing that still happens does to what one prefix sees: nothing counts more, or a message makes it fall.
 use Rattle.std.proofs.Common.{refl, sym, ap, subst, ◌∙◌, arith, inl, inr, ◌≡◌, ◌≢◌, ℕ, ◌<◌, ◌≤◌, Bool, true, false, ◌&&◌, ◌==◌, if◌then◌else◌, List, [], ◌∷◌, ◌++◌, Option, Some, None, option_map, slice_get, append-nil, eq-eqb, ne_eqb}
-use Rattle.no_packet_loops.proofs.Common.{option_map_or, and_from, and_right, and_left, Prefix, prefix_eq, Item, Held, Port, Router, Machine, Neighbour, Event, changed_at, test_at, slice_get-changed_at, slice_get-changed_at_other, machine_of, reaction, session_at, router_accepting, router_publishing, router_releasing, ripe_front, next_hop_at, is_kept, held_as, kept, ripe_of, unripe_of, msg_of, sent_to, held_for, IsSound, Reported, Topology, LinkEnd, at_port, place_cases, eqb_sym}
+use Rattle.no_packet_loops.proofs.Common.{option_map_or, and_from, and_right, and_left, Prefix, prefix_eq, Item, Held, Port, Router, Machine, Neighbour, Event, changed_at, test_at, slice_get-changed_at, slice_get-changed_at_other, machine_of, reaction, session_at, router_accepting, router_publishing, router_releasing, ripe_front, next_hop_at, is_kept, held_as, kept, ripe_of, unripe_of, msg_of, sent_to, held_for, IsSound, Reported, Topology, LinkEnd, at_port, place_cases, eqb_sym, machine_laws, messages}
 use Rattle.network_model.proofs.Common.{cases_eq, both_ways, SeenHeld, Report, infinity}
-use Rattle.loop_freedom.specs.Facts.{messages}
 use Rattle.loop_freedom.specs.Network.{Publish as NetPublish, Release as NetRelease}
 use Rattle.no_packet_loops.proofs.Publishing.{control_hop}
 use Rattle.c_interface.specs.Faults.{first_of}
 use Rattle.single_router.specs.Inputs.{told_fault, message_fault, kind_fault, attachment_of}
 use Rattle.daemon_laws.proofs.Quiet.{attachment_is}
-use Rattle.machine_laws.proofs.MachineLaws.{machine_laws}
 use Rattle.single_router.specs.declared.input.Input.TheVariants as input
 use Rattle.coming_to_rest.specs.Rest.{IsFinite}
 use Rattle.coming_to_rest.proofs.Weights.{changes, changes_without, load}

@@ -1,9 +1,7 @@
 -- Routers in processes of their own as one prefix sees them, in the form in which the measure of a network is said.
 use Rattle.std.proofs.Common.{refl, ap, arith, ◌≡◌, ℕ, ◌≤◌, true, false, not, ◌&&◌, ◌==◌, List, [], ◌∷◌, ◌++◌, Option, None, Some, slice_get}
-use Rattle.no_packet_loops.proofs.Common.{option_map_or, Prefix, Port, Machine, Neighbour, machine_of, session_at, next_hop_at, kept, ripe_of, unripe_of, SeenItem, Reported, State, Topology, LinkEnd}
+use Rattle.no_packet_loops.proofs.Common.{option_map_or, Prefix, Port, Machine, Neighbour, machine_of, session_at, next_hop_at, kept, ripe_of, unripe_of, SeenItem, Reported, State, Topology, LinkEnd, reported_at, messages}
 use Rattle.network_model.proofs.Common.{SeenHeld, infinity, one_if}
-use Rattle.machine_laws.specs.Laws.{reported_at}
-use Rattle.loop_freedom.specs.Facts.{messages}
 use Rattle.coming_to_rest.proofs.Weights.{changes, load}
 use Rattle.coming_to_rest.proofs.Effects.{token, cost_at}
 use Rattle.coming_to_rest.proofs.Sums.{sum_less, ends_sum, ends_less}

@@ -1,8 +1,6 @@
 -- What is due, and what a call answers that gave up, or did not.
 use Rattle.std.proofs.Common.{refl, sym, ap, subst, ◌∙◌, ◌≡◌, ℕ, ◌<◌, List, length, true, false, Option, Some, None, IsSome, Result, Err, slice_get}
-use Rattle.no_packet_loops.proofs.Common.{false≢true, slice_get_within, Prefix, Refusal, World, refusal, Lawful_to_refusal}
-use Rattle.network_model.specs.declared.step.Step.{Step}
-use Rattle.network_model.specs.declared.step.Step.TheVariants.{Publish}
+use Rattle.no_packet_loops.proofs.Common.{false≢true, slice_get_within, Prefix, Refusal, World, refusal, Lawful_to_refusal, Step, Publish}
 use Rattle.world.specs.Steps.{IsDoneOr}
 use Rattle.image_patch.specs.declared.Patch.{Patch as PatchFields}
 use Rattle.course.specs.Images.{due_at}

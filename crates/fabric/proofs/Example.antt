@@ -1,10 +1,6 @@
 -- Two routers and the link between them: the one has heard of the other's prefix, and its writer is out with the row.
 use Rattle.std.proofs.Common.{refl, subst, arith, zero, suc, List, [], ◌∷◌, Some, None, slice_get, unwrap_or}
-use Rattle.no_packet_loops.proofs.Common.{Router, World, opening, opening_router, Via, Patch, Runs, Some_injective, None_not_Some}
-use Rattle.network_model.specs.declared.step.Step.{Step}
-use Rattle.network_model.specs.declared.step.Step.TheVariants.{LinkUp, Deliver, Publish, Release}
-use Rattle.network_model.specs.Run.{run}
-use Rattle.network_model.proofs.Lawful.{run-Runs}
+use Rattle.no_packet_loops.proofs.Common.{Router, World, opening, opening_router, Via, Patch, Runs, Some_injective, None_not_Some, run, run-Runs, Step, LinkUp, Deliver, Publish, Release}
 use Rattle.no_packet_loops.proofs.Example.{pair, pair_good}
 use Rattle.fabric.specs.Ahead.{SomePacketGoesAhead}
 use Rattle.fabric.specs.Fabric.{Fabric, fabric_of}

@@ -1,9 +1,6 @@
 -- What a step leaves of what every fabric keeps.
 use Rattle.std.proofs.Common.{sym, ap, subst, ◌∙◌, arith, length-append, ◌≡◌, ℕ, ◌+◌, ◌*◌, ◌^◌, ◌<◌, ◌≤◌, List, [], ◌∷◌, ◌++◌, map, length, set, Option, Some, refl, slice_get}
-use Rattle.no_packet_loops.proofs.Common.{AllByRecursion, range_with_len, length-map, sum_by_push, slice_get_within, Router, World, Network, opening, Lawful, next, Runs, Image, Patch}
-use Rattle.network_model.specs.declared.step.Step.{Step}
-use Rattle.network_model.specs.declared.step.Step.TheVariants.{Publish}
-use Rattle.network_model.specs.Journal.{Fits, most_steps, step_number, journal_sum}
+use Rattle.no_packet_loops.proofs.Common.{AllByRecursion, range_with_len, length-map, sum_by_push, slice_get_within, Router, World, Network, opening, Lawful, next, Runs, Image, Patch, Step, Publish, Fits, most_steps, step_number, journal_sum}
 use Rattle.world.specs.Steps.{HasRoomForSteps}
 use Rattle.world.proofs.Runs.{with_last_step, run-room, opening-room}
 use Rattle.course.specs.Images.{image_in_force, images_in_force, chosen_image, due_at}

@@ -1,9 +1,6 @@
 -- A prefix that a router has heard of stays so, and what waits with its writer is of such prefixes.
 use Rattle.std.proofs.Common.{refl, sym, ap, subst, ◌∙◌, ◌≡◌, ℕ, zero, suc, Bool, true, false, cond, List, [], ◌∷◌, Option, Some, None, IsSome, slice_get, option_map, option_and_then}
-use Rattle.std.specs.FinMap.{find as row_of, put}
-use Rattle.no_packet_loops.proofs.Common.{find-put, Prefix, prefix_cmp, prefix_eq, prefix_cmp_total, Event, Item, Notice, End, Port, Machine, Reaction, reaction, changed_at, event_at_home, Link, Router, World, machine_of, next, reactions, entry_of, chosen_rows, changed_link, with_cost, with_front_taken, with_message, with_delivered, with_noticed, with_notice_taken, with_released, front_at, notice_at, release_at, changed_attachments, router_noticing, router_accepting, router_at_home, router_publishing, router_releasing, option_map_or-ind, find-map, routers-changed_link}
-use Rattle.network_model.specs.declared.step.Step.{Step}
-use Rattle.network_model.specs.declared.step.Step.TheVariants.{SetCost, Deliver, Publish, Release}
+use Rattle.no_packet_loops.proofs.Common.{find-put, Prefix, prefix_cmp, prefix_eq, prefix_cmp_total, Event, Item, Notice, End, Port, Machine, Reaction, reaction, changed_at, event_at_home, Link, Router, World, machine_of, next, reactions, entry_of, chosen_rows, changed_link, with_cost, with_front_taken, with_message, with_delivered, with_noticed, with_notice_taken, with_released, front_at, notice_at, release_at, changed_attachments, router_noticing, router_accepting, router_at_home, router_publishing, router_releasing, option_map_or-ind, find-map, routers-changed_link, find as row_of, put, Step, SetCost, Deliver, Publish, Release}
 use Rattle.fabric.specs.Writers.{IsHeard}
 
 -- ---- a router

@@ -1,7 +1,6 @@
 -- A fabric that opens: its writers show the images of what its routers chose, and its readers are of its routers.
 use Rattle.std.proofs.Common.{refl, sym, ap, subst, ◌∙◌, arith, ◌≡◌, ◌≤◌, ℕ, zero, suc, true, false, List, [], ◌∷◌, map, length, replicate, All, Some, None, IfSome, slice_get, option_map}
-use Rattle.no_packet_loops.proofs.Common.{⊤, length-map, length-map-range_with_len, slice_get-map, get_or_from_slice_get, Prefix, Entry, Network, Router, World, opening, opening_router_of, most_steps, Image}
-use Rattle.network_model.specs.declared.step.Step.{Step}
+use Rattle.no_packet_loops.proofs.Common.{⊤, length-map, length-map-range_with_len, slice_get-map, get_or_from_slice_get, Prefix, Entry, Network, Router, World, opening, opening_router_of, most_steps, Image, Step}
 use Rattle.publication.specs.declared.known.Known.{Known}
 use Rattle.publication.specs.Lists.{EachAt, Writing, image_of, is_named, new_writing, opening_of}
 use Rattle.fabric.specs.Desks.{all_lent, desk_in, writings}

@@ -1,8 +1,6 @@
 -- A publication: what its patch is for the router's writer, and what is left where it is refused.
 use Rattle.std.proofs.Common.{inl, inr, refl, sym, ap, subst, ◌∙◌, append_assoc, ◌≡◌, ◌⊎◌, ◌<◌, ◌+◌, ◌||◌, ℕ, Bool, true, false, cond, List, [], ◌∷◌, ◌++◌, map, length, set, Option, Some, None, IsSome, get_or, slice_get, option_and_then, append-nil}
-use Rattle.std.specs.FinMap.{find as row_of}
-use Rattle.no_packet_loops.proofs.Common.{list_any, option_map_or, length-map, map-set, list_any-append, get_or_from_slice_get, slice_get-get_or, map-set_same, Prefix, prefix_cmp, prefix_eq, Entry, Network, Router, World, opening, IsNetwork, chosen_rows, is_due, next, router_publishing, Runs, Image, Patch, None_not_Some, Some_injective}
-use Rattle.network_model.specs.declared.step.Step.{Step}
+use Rattle.no_packet_loops.proofs.Common.{list_any, option_map_or, length-map, map-set, list_any-append, get_or_from_slice_get, slice_get-get_or, map-set_same, Prefix, prefix_cmp, prefix_eq, Entry, Network, Router, World, opening, IsNetwork, chosen_rows, is_due, next, router_publishing, Runs, Image, Patch, None_not_Some, Some_injective, find as row_of, Step}
 use Rattle.no_packet_loops.proofs.WorldLaws.{next-shape}
 use Rattle.no_packet_loops.proofs.Wiring.{wired}
 use Rattle.no_packet_loops.proofs.Runs.{reached}

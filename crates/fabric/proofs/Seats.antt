@@ -1,8 +1,6 @@
 -- Writers at their desks: one that is in publishes, goes out with the patch that is due, or comes back.
 use Rattle.std.proofs.Common.{inr, refl, sym, ap, subst, ◌∙◌, arith, ◌≡◌, ◌<◌, ◌+◌, ◌||◌, ℕ, zero, suc, Bool, true, false, cond, List, [], ◌∷◌, ◌++◌, length, set, Option, Some, None, IfSome, is_some, get_or, slice_get, option_map, option_and_then, true≢false}
-use Rattle.no_packet_loops.proofs.Common.{option_map_or, false≢true, length-map, map-set, get_or_from_slice_get, slice_get-get_or, slice_get-map, slice_get_within, or-true, map-set_same, Prefix, Entry, Network, Router, World, IsNetwork, most_steps, Lawful, is_due, next, router_publishing, Patch, None_not_Some, Some_injective}
-use Rattle.network_model.specs.declared.step.Step.{Step}
-use Rattle.network_model.specs.declared.step.Step.TheVariants.{Publish}
+use Rattle.no_packet_loops.proofs.Common.{option_map_or, false≢true, length-map, map-set, get_or_from_slice_get, slice_get-get_or, slice_get-map, slice_get_within, or-true, map-set_same, Prefix, Entry, Network, Router, World, IsNetwork, most_steps, Lawful, is_due, next, router_publishing, Patch, None_not_Some, Some_injective, Step, Publish}
 use Rattle.image_patch.specs.declared.Patch.{Patch as PatchFields}
 use Rattle.image_patch.specs.Patches.{patched}
 use Rattle.publication.specs.declared.known.Known.{Known}

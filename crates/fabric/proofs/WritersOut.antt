@@ -1,8 +1,6 @@
 -- Writers that are out: how many, and what stays due while they are.
 use Rattle.std.proofs.Common.{inl, inr, refl, sym, ap, subst, ◌∙◌, arith, ◌≡◌, ◌⊎◌, ℕ, zero, suc, ◌+◌, ◌-◌, ◌<◌, ◌||◌, Bool, true, false, cond, nat_lt, List, [], ◌∷◌, drop, length, map, replicate, set, Option, Some, None, IfSome, is_some, slice_get, option_map, ltb-true, lt-ltb}
-use Rattle.no_packet_loops.proofs.Common.{⊤, option_map_or, false≢true, slice_get-map, Held, changed_at, Router, World, next, changed_rows, changed_link, is_due, ripe_front, with_cost, with_delivered, with_front_taken, with_message, with_noticed, with_released, front_at, notice_at, release_at, router_accepting, router_at_home, router_publishing, router_releasing, Patch, None_not_Some, Some_injective, option_map_or-ind, routers-changed_link}
-use Rattle.network_model.specs.declared.step.Step.{Step}
-use Rattle.network_model.specs.declared.step.Step.TheVariants.{SetCost, Deliver, Publish, Release}
+use Rattle.no_packet_loops.proofs.Common.{⊤, option_map_or, false≢true, slice_get-map, Held, changed_at, Router, World, next, changed_rows, changed_link, is_due, ripe_front, with_cost, with_delivered, with_front_taken, with_message, with_noticed, with_released, front_at, notice_at, release_at, router_accepting, router_at_home, router_publishing, router_releasing, Patch, None_not_Some, Some_injective, option_map_or-ind, routers-changed_link, Step, SetCost, Deliver, Publish, Release}
 use Rattle.image_patch.specs.Patches.{patched}
 use Rattle.publication.specs.Lists.{Writing}
 use Rattle.publication.proofs.Places.{each_there, there_each}

@@ -1,10 +1,6 @@
 -- Where a packet is followed whichever prefixes match it, its trace by one prefix ends at the first router that matches it by another than the first.
 use Rattle.std.proofs.Common.{refl, sym, ap, subst, ◌∙◌, arith, ◌≡◌, ℕ, zero, suc, ◌+◌, Bool, true, false, not, cond, if◌then◌else◌, List, [], ◌∷◌, length, take, slice_get, add-one, Option, Some, None, option_map, option_and_then}
-use Rattle.std.specs.List.{position_from}
-use Rattle.std.specs.Option.{option_map_or}
-use Rattle.ipv4_prefix.specs.Prefix.{prefix_eq}
-use Rattle.ipv4_prefix.proofs.PrefixOrder.{prefix_eq-Decides}
-use Rattle.no_packet_loops.proofs.Common.{Prefix, Entry, Ending, World, row_for, Onward, Ends, Goes, by_entry, by_row, onward, Trace, traced_by, trace_from, trace, None_not_Some, Some_injective}
+use Rattle.no_packet_loops.proofs.Common.{Prefix, Entry, Ending, World, row_for, Onward, Ends, Goes, by_entry, by_row, onward, Trace, traced_by, trace_from, trace, None_not_Some, Some_injective, position_from, option_map_or, prefix_eq, prefix_eq-Decides}
 use Rattle.no_packet_loops.proofs.Traces.{by_entry-goes}
 use Rattle.all_packets.specs.Through.{through_from, through}
 use Rattle.interpreter.specs.Traces.{crossing_on, matched_at, matches_other}

@@ -1,14 +1,9 @@
 -- How a network stops that is let settle.
 use Rattle.std.specs.Prelude.{⊤}
-use Rattle.network_model.proofs.ListLaws.{None_not_Some}
-use Rattle.network_model.proofs.Common.{false≢true}
+use Rattle.network_model.proofs.Common.{false≢true, None_not_Some, Refusal, JournalFull, NoMemory, Step, is_settled}
 use Rattle.std.proofs.Common.{◌≡◌, ◌⊎◌, inr, true, Option, Some, None, MatchOption, Result, Ok, Err, IfErr, ◌∙◌, ◌+◌, ℕ, inl, List, [], ◌∷◌, length, refl, ap, sym, false, arith}
-use Rattle.network_model.specs.declared.step.Refusal.{Refusal}
-use Rattle.network_model.specs.declared.step.Refusal.TheVariants.{JournalFull, NoMemory}
 use Rattle.fabric.specs.Fabric.{Fabric}
 use Rattle.guarded.specs.Served.{IsServed, IsTurnRefused, none_asked, IsFabricStopped}
-use Rattle.network_model.specs.declared.step.Step.{Step}
-use Rattle.network_model.specs.Turns.{is_settled}
 use Rattle.simulation.specs.Simulation.{Simulation, after_step, after_steps}
 use Rattle.simulation.specs.Settling.{HasTurned}
 use Rattle.interpreter.specs.Settling.{StopsSettling, StopsThere}

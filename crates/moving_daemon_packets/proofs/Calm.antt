@@ -1,18 +1,13 @@
 -- A packet that moves between processes: matches get longer, or stay and published feasible distances fall, while it stays near.
 use Rattle.std.proofs.Common.{refl, sym, ap, subst, ◌∙◌, inl, inr, ◌<◌, ◌≤◌, ◌≡◌, ◌⊎◌, ℕ, Bool, true, false, ◌&&◌, ◌||◌, if◌then◌else◌, take, is_some, eq-eqb, ne_eqb, List, [], ◌∷◌, Some}
-use Rattle.std.specs.FinMap.{find as row_of}
-use Rattle.std.specs.FinMap.Entries.{is_sorted}
-use Rattle.ipv4_prefix.proofs.LongestMatches.{longest_match-found}
-use Rattle.no_packet_loops.proofs.Common.{prefix_eq, Prefix, prefix_cmp, covers, infinity, Entry, Topology, Some_injective, or_parts}
+use Rattle.no_packet_loops.proofs.Common.{prefix_eq, Prefix, prefix_cmp, covers, infinity, Entry, Topology, Some_injective, or_parts, changed_rows, machine_of, is_sorted, longest_match-found}
 use Rattle.no_packet_loops.proofs.Walks.{match_is_row}
 use Rattle.all_packets.proofs.Matches.{GoesBefore, found}
 use Rattle.moving_packets.proofs.Returns.{IsLow, stays_low as low_next, IsOn, Descends, first_on, goes_on, comes_back}
 use Rattle.daemon_laws.specs.Processes.{Processes}
 use Rattle.daemon_laws.specs.Packets.{rows_in_force, session_leads, unmarked_leads}
 use Rattle.daemon_laws.specs.Happenings.{Happening, Publishes, PublishesSome, Forgets, BeginsAnew, CanHappen, MayRewire, AreReached}
-use Rattle.network_model.specs.Step.{changed_rows}
-use Rattle.network_model.specs.World.{machine_of}
-use Rattle.network_model.proofs.Common.{cases_eq}
+use Rattle.network_model.proofs.Common.{cases_eq, find as row_of}
 use Rattle.router_core.specs.Alone.{may_forget}
 use Rattle.single_router.specs.Openings.{made_router}
 use Rattle.daemon_laws.specs.Facts.{fd_then}

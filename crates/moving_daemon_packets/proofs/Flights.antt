@@ -1,7 +1,6 @@
 -- A packet that is long on a link went when it left: the other end was in the session of its row then.
 use Rattle.std.proofs.Common.{refl, sym, ap, subst, ◌∙◌, inl, inr, arith, ◌<◌, ◌≤◌, ◌≡◌, ◌≢◌, ◌⊎◌, ℕ, zero, suc, Bool, true, false, ◌&&◌, ◌==◌, if◌then◌else◌, is_none, eq-eqb, eqb-true, List, [], ◌∷◌, Some, None, slice_get, option_and_then}
-use Rattle.no_packet_loops.proofs.Common.{option_map_or, false≢true, and_parts, and_from, Prefix, Via, Port, Router, Topology, LinkEnd, at_port, None_not_Some, session_at, next_hop, next_hop_at, is_next_hop, router_publishing, router_releasing}
-use Rattle.network_model.specs.Machine.{changed_at}
+use Rattle.no_packet_loops.proofs.Common.{option_map_or, false≢true, and_parts, and_from, Prefix, Via, Port, Router, Topology, LinkEnd, at_port, None_not_Some, session_at, next_hop, next_hop_at, is_next_hop, router_publishing, router_releasing, changed_at}
 use Rattle.network_model.proofs.Common.{cases_eq}
 use Rattle.router_core.specs.Alone.{router_publishing_some}
 use Rattle.single_router.specs.declared.input.Input.{Input}

@@ -1,8 +1,6 @@
 -- Between two happenings a packet goes along a way of one moment: so its hops end once what happens alone does.
 use Rattle.std.proofs.Common.{refl, ap, ◌∙◌, arith, ◌≤◌, ◌≡◌, ℕ, suc, ◌+◌, ◌*◌, Bool, true, false, ◌&&◌, if◌then◌else◌, List, [], ◌∷◌, length, Some, None, option_and_then}
-use Rattle.std.proofs.Math.Nat.{suc-mul, mul-le-mul_right}
-use Rattle.network_model.specs.declared.route.Entry.TheVariants.{Local, Unreachable, Via}
-use Rattle.no_packet_loops.proofs.Common.{Prefix, Entry, None_not_Some, Some_injective, Topology, LinkEnd, at_port, and_parts, is_met, meets_twice, or_parts}
+use Rattle.no_packet_loops.proofs.Common.{Prefix, Entry, None_not_Some, Some_injective, Topology, LinkEnd, at_port, and_parts, is_met, meets_twice, or_parts, Local, Unreachable, Via, suc-mul, mul-le-mul_right}
 use Rattle.no_packet_loops.proofs.Traces.{AllBelow, few}
 use Rattle.all_packets.specs.Packets.{IsWayBy}
 use Rattle.coming_to_rest.specs.Rest.{IsFinite}

@@ -1,9 +1,6 @@
 -- A router that publishes nothing keeps its published rows and feasible distances: so a packet that stays near does not come back to it.
 use Rattle.std.proofs.Common.{refl, ap, arith, ◌≤◌, ◌≡◌, ℕ, ◌+◌, Bool, true, false, ◌&&◌, ◌==◌, if◌then◌else◌, List, [], ◌∷◌, take, is_none}
-use Rattle.std.specs.FinMap.{find as row_of}
-use Rattle.no_packet_loops.proofs.Common.{Prefix, prefix_cmp, prefix_eq, infinity, Router, router_publishing, router_releasing, or_parts}
-use Rattle.network_model.specs.Step.{changed_rows}
-use Rattle.network_model.specs.World.{machine_of}
+use Rattle.no_packet_loops.proofs.Common.{Prefix, prefix_cmp, prefix_eq, infinity, Router, router_publishing, router_releasing, or_parts, changed_rows, machine_of, find as row_of}
 use Rattle.router_core.specs.Alone.{may_forget, router_publishing_some}
 use Rattle.single_router.specs.declared.input.Input.{Input}
 use Rattle.single_router.specs.declared.input.Input.TheVariants as input

@@ -1,10 +1,6 @@
 -- Between two takings a packet goes along a way of one world: so it makes few hops, and in a network that is left alone they end.
 use Rattle.std.proofs.Common.{refl, subst, arith, ◌<◌, ◌≤◌, ◌≡◌, ℕ, suc, ◌+◌, ◌*◌, Bool, true, false, if◌then◌else◌, List, [], ◌∷◌, ◌++◌, length, Option, Some, None, slice_get, option_and_then}
-use Rattle.std.proofs.Math.Nat.{suc-mul, mul-le-mul_right}
-use Rattle.network_model.specs.Forwarding.{hop}
-use Rattle.network_model.specs.Network.{IsNetwork}
-use Rattle.no_packet_loops.proofs.Common.{slice_get_within, Prefix, Entry, Router, World, Network, opening, longest_match, row_for, entry_leads, next, Runs, None_not_Some}
-use Rattle.network_model.specs.declared.step.Step.{Step}
+use Rattle.no_packet_loops.proofs.Common.{slice_get_within, Prefix, Entry, Router, World, Network, opening, longest_match, row_for, entry_leads, next, Runs, None_not_Some, IsNetwork, suc-mul, mul-le-mul_right, hop, Step}
 use Rattle.no_packet_loops.specs.Packets.{HoldsInEveryWorld}
 use Rattle.no_packet_loops.proofs.WorldLaws.{runs_more, next-shape}
 use Rattle.all_packets.specs.Packets.{IsMovingWay}

@@ -1,11 +1,6 @@
 -- What holds of each history that lawful steps make, and of one more step.
 use Rattle.std.proofs.Common.{refl, sym, ap, subst, ◌∙◌, inl, inr, arith, ◌<◌, ◌≤◌, ◌≡◌, ◌⊎◌, ℕ, zero, suc, true, length, List, [], ◌∷◌, ◌++◌, Option, Some, None, slice_get, slice_set, option_and_then}
-use Rattle.std.specs.FinMap.{find as row_of}
-use Rattle.ipv4_prefix.proofs.LongestMatches.{longest_match-found}
-use Rattle.no_packet_loops.proofs.Common.{option_map_or, Prefix, prefix_cmp, covers, longest_match, infinity, Entry, Router, World, Network, IsForwarded, opening, machine_of, Lawful, Runs, History, history, history_from, with_step, with_steps, published_after, None_not_Some, Some_injective}
-use Rattle.network_model.specs.declared.step.Step.{Step}
-use Rattle.network_model.specs.declared.step.Step.TheVariants.{LinkUp, LinkDown, SetCost, Deliver, Publish, Release, Attach, Detach}
-use Rattle.network_model.specs.Network.{IsNetwork}
+use Rattle.no_packet_loops.proofs.Common.{option_map_or, Prefix, prefix_cmp, covers, longest_match, infinity, Entry, Router, World, Network, IsForwarded, opening, machine_of, Lawful, Runs, History, history, history_from, with_step, with_steps, published_after, None_not_Some, Some_injective, IsNetwork, find as row_of, longest_match-found, Step, LinkUp, LinkDown, SetCost, Deliver, Publish, Release, Attach, Detach}
 use Rattle.no_packet_loops.specs.Packets.{DistancesFall, published_entry}
 use Rattle.no_packet_loops.proofs.Wiring.{IsWired, wired}
 use Rattle.no_packet_loops.proofs.Runs.{Reached, reached, history_world}

@@ -1,6 +1,5 @@
 -- When a packet comes back to a router, whatever its moments are: after steps of a network, or after what happens among processes.
-use Rattle.std.proofs.Common.{refl, sym, ap, subst, ◌∙◌, inl, inr, arith, ◌<◌, ◌≤◌, ◌≡◌, ◌≢◌, ◌⊎◌, ℕ, suc, ◌+◌, Bool, true, false, ◌&&◌, ◌||◌, ◌==◌, nat_lt, if◌then◌else◌, Option, Some, None, IsSome, eqb-true}
-use Rattle.std.proofs.lemmas.Bool.{ltb-true, ltb-false}
+use Rattle.std.proofs.Common.{refl, sym, ap, subst, ◌∙◌, inl, inr, arith, ◌<◌, ◌≤◌, ◌≡◌, ◌≢◌, ◌⊎◌, ℕ, suc, ◌+◌, Bool, true, false, ◌&&◌, ◌||◌, ◌==◌, nat_lt, if◌then◌else◌, Option, Some, None, IsSome, eqb-true, ltb-true, ltb-false}
 use Rattle.no_packet_loops.proofs.Common.{false≢true, Prefix, covers, infinity, Entry, or_parts}
 use Rattle.all_packets.proofs.Matches.{GoesBefore}
 use Rattle.moving_packets.specs.Moving.{IsBetter}

@@ -1,9 +1,6 @@
 -- A router that publishes nothing keeps its published rows and feasible distances: so a packet that stays near does not come back to it.
 use Rattle.std.proofs.Common.{refl, sym, ap, ◌∙◌, inl, inr, arith, ◌≤◌, ◌≡◌, ℕ, ◌+◌, Bool, true, false, ◌==◌, List, [], ◌∷◌, Option, Some, None, slice_get, option_and_then, eq-eqb}
-use Rattle.std.specs.FinMap.{find as row_of}
-use Rattle.no_packet_loops.proofs.Common.{option_map_or, cases_eq, false≢true, Prefix, prefix_cmp, Entry, Router, World, Item, changed_link, router_publishing, router_releasing, router_accepting, router_at_home, with_cost, with_front_taken, with_message, with_delivered, with_noticed, with_released, front_at, notice_at, release_at, Lawful, next, History, history, with_step, option_map_or-ind, routers-changed_link, or_parts}
-use Rattle.network_model.specs.declared.step.Step.{Step}
-use Rattle.network_model.specs.declared.step.Step.TheVariants.{LinkUp, LinkDown, SetCost, Deliver, Publish, Release, Attach, Detach}
+use Rattle.no_packet_loops.proofs.Common.{option_map_or, cases_eq, false≢true, Prefix, prefix_cmp, Entry, Router, World, Item, changed_link, router_publishing, router_releasing, router_accepting, router_at_home, with_cost, with_front_taken, with_message, with_delivered, with_noticed, with_released, front_at, notice_at, release_at, Lawful, next, History, history, with_step, option_map_or-ind, routers-changed_link, or_parts, find as row_of, Step, LinkUp, LinkDown, SetCost, Deliver, Publish, Release, Attach, Detach}
 use Rattle.no_packet_loops.specs.Packets.{published_entry}
 use Rattle.no_packet_loops.proofs.View.{on_router-miss, on_router-same}
 use Rattle.all_packets.specs.Journeys.{Event, Goes, Does}

@@ -1,12 +1,10 @@
 -- What goes on is written over the first of the spells that are there.
-use Rattle.std.proofs.Common.{refl, sym, ap, min, ◌∙◌, arith, subst, ◌≡◌, ℕ, zero, suc, ◌+◌, ◌<◌, ◌≤◌, List, [], ◌∷◌, length, take, drop, map, set, length-set, Bool, true, false, slice_get, Some, nat_lt, is_some}
+use Rattle.std.proofs.Common.{refl, sym, ap, min, ◌∙◌, arith, subst, ◌≡◌, ℕ, zero, suc, ◌+◌, ◌<◌, ◌≤◌, List, [], ◌∷◌, length, take, drop, map, set, length-set, Bool, true, false, slice_get, Some, nat_lt, is_some, take_all, le-ltb, lt-ltb}
 use Rattle.std.proofs.Math.ListN.{drop_of_length-le}
 use Rattle.std.proofs.Math.Seq.{drop-length}
 use Rattle.std.specs.List.{filter}
-use Rattle.std.proofs.lemmas.List.{take_all}
 use Rattle.std.proofs.lemmas.List.Filters.{length-filter_more}
 use Rattle.std.proofs.lemmas.Option.{get_or_from_slice_get, slice_get_within, none-some}
-use Rattle.std.proofs.lemmas.Bool.{le-ltb, lt-ltb}
 use Rattle.single_router.specs.States.{flag}
 use Rattle.network_calls.specs.Shown.{AreShownOver}
 use Rattle.network_calls.proofs.Items.{AreFirst}

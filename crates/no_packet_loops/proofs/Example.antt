@@ -1,8 +1,6 @@
 -- Two routers and the link between them: the one that is attached to all addresses tells the other, which sends its packets there.
 use Rattle.std.proofs.Common.{refl, arith, inl, ℕ, zero, suc, List, [], ◌∷◌, slice_get, unwrap_or, All}
-use Rattle.no_packet_loops.proofs.Common.{Prefix, IsPrefix, IsCost, Update, Via, Link, Router, World, Network, opening, opening_link, opening_router, Held, Item, LinkSpec, next, front_at, release_at, HasCosts, IsNetwork, Runs}
-use Rattle.network_model.specs.declared.step.Step.{Step}
-use Rattle.network_model.specs.declared.step.Step.TheVariants.{LinkUp, Deliver, Publish, Release}
+use Rattle.no_packet_loops.proofs.Common.{Prefix, IsPrefix, IsCost, Update, Via, Link, Router, World, Network, opening, opening_link, opening_router, Held, Item, LinkSpec, next, front_at, release_at, HasCosts, IsNetwork, Runs, Step, LinkUp, Deliver, Publish, Release}
 use Rattle.no_packet_loops.specs.Packets.{SomePacketGoes}
 
 -- a link of cost 1 between routers 0 and 1

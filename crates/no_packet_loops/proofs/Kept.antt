@@ -1,8 +1,6 @@
 -- What every world of a run keeps, for one prefix.
 use Rattle.std.proofs.Common.{refl, sym, ap, subst, ◌∙◌, inl, inr, ◌≡◌, ◌≢◌, ◌⊎◌, ℕ, ◌≤◌, true, if◌then◌else◌, List, [], ◌∷◌, map, length, Option, Some, None, slice_get, option_map}
-use Rattle.no_packet_loops.proofs.Common.{option_map_or, cases_eq, slice_get-map, Prefix, prefix_cmp, prefix_eq, IsCost, Notice, changed_at, End, A, B, Side, Link, Router, Attachments, World, Network, other, side, machine_of, places_from, opening, Place, LinkSpec, chosen_rows, changed_side, Some_injective, None_not_Some, map-changed_at, slice_get-changed_at, slice_get-changed_at_other, router_end, LinkEnd, at_port, kept, view, lay}
-use Rattle.std.specs.FinMap.{find as row_of}
-use Rattle.std.specs.FinMap.Entries.{is_sorted}
+use Rattle.no_packet_loops.proofs.Common.{option_map_or, cases_eq, slice_get-map, Prefix, prefix_cmp, prefix_eq, IsCost, Notice, changed_at, End, A, B, Side, Link, Router, Attachments, World, Network, other, side, machine_of, places_from, opening, Place, LinkSpec, chosen_rows, changed_side, Some_injective, None_not_Some, map-changed_at, slice_get-changed_at, slice_get-changed_at_other, router_end, LinkEnd, at_port, kept, view, lay, find as row_of, is_sorted}
 use Rattle.loop_freedom.specs.Network.{Step as NetStep, IsEnd}
 use Rattle.no_packet_loops.proofs.Wiring.{IsWired}
 use Rattle.no_packet_loops.specs.LinkEnds.{across}

@@ -1,7 +1,6 @@
 -- A link that comes up, goes down or has a new cost does so in the view.
 use Rattle.std.proofs.Common.{refl, ap, ◌∙◌, arith, ◌≡◌, ℕ, ◌+◌, ◌≤◌, true, false, List, [], ◌∷◌, ◌++◌, Some, is_some, slice_get, filter}
-use Rattle.no_packet_loops.proofs.Common.{Prefix, changed_at, Item, End, A, B, Side, Link, World, Network, side, Place, next, link_come_up, link_gone_down, with_cost, is_notice, place_of, LinkEnd, SeenItem, UpNotice, DownNotice, CostNotice, view, heard, inbox_of, lay}
-use Rattle.network_model.specs.declared.step.Step.TheVariants.{LinkUp, LinkDown}
+use Rattle.no_packet_loops.proofs.Common.{Prefix, changed_at, Item, End, A, B, Side, Link, World, Network, side, Place, next, link_come_up, link_gone_down, with_cost, is_notice, place_of, LinkEnd, SeenItem, UpNotice, DownNotice, CostNotice, view, heard, inbox_of, lay, LinkUp, LinkDown}
 use Rattle.loop_freedom.specs.Network.{LinkComes, LinkGoes, CostChanges, LinkUp as NetLinkUp, LinkDown as NetLinkDown, SetCost as NetSetCost, IsEnd, notices}
 use Rattle.no_packet_loops.proofs.Wiring.{IsWired}
 use Rattle.no_packet_loops.proofs.Places.{spot, lay-spot, topology}

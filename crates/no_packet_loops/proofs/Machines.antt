@@ -1,10 +1,6 @@
 -- Machines by prefix: one that was not heard of stays as it was opened, and what all of them send.
 use Rattle.std.proofs.Common.{refl, sym, ap, ◌∙◌, ◌≡◌, ℕ, zero, suc, Bool, true, false, cond, List, [], ◌∷◌, ◌++◌, map, Some, None, append-nil}
-use Rattle.std.specs.List.{flat_map}
-use Rattle.no_packet_loops.proofs.Common.{option_map_or, and_parts, Prefix, prefix_cmp, prefix_eq, Neighbour, Event, Up, Down, Cost, Reaction, reaction, opening_machine, least, records_after, changed_at, infinity, Held, Port, neighbours, session_at, held_of, Some_injective, None_not_Some, changed_at-map, kept, prefix_cmp_total, prefix_eq-Decides, equal_from_test, less_from_test, sent_to, NothingHeard, least_unheard, held_for}
-use Rattle.std.specs.Ordering.{is_eq, is_lt}
-use Rattle.std.specs.FinMap.{find as row_of}
-use Rattle.std.specs.FinMap.Entries.{is_sorted, below_all}
+use Rattle.no_packet_loops.proofs.Common.{option_map_or, and_parts, Prefix, prefix_cmp, prefix_eq, Neighbour, Event, Up, Down, Cost, Reaction, reaction, opening_machine, least, records_after, changed_at, infinity, Held, Port, neighbours, session_at, held_of, Some_injective, None_not_Some, changed_at-map, kept, prefix_cmp_total, prefix_eq-Decides, equal_from_test, less_from_test, sent_to, NothingHeard, least_unheard, held_for, flat_map, is_eq, is_lt, find as row_of, is_sorted, below_all}
 use Rattle.no_packet_loops.proofs.View.{kept-append, kept-sent, kept-other}
 
 -- ---- a machine that has heard nothing

@@ -1,7 +1,6 @@
 -- The places of a network's links: each end of each link is one port of one router.
 use Rattle.std.proofs.Common.{refl, sym, ap, ◌∙◌, arith, ◌≡◌, ◌≢◌, ℕ, zero, suc, ◌+◌, ◌<◌, Bool, true, false, ◌==◌, if◌then◌else◌, List, [], ◌∷◌, Option, Some, None, is_some, slice_get, option_map, option_and_then, eq-eqb, ne_eqb}
-use Rattle.std.specs.List.{cons_option}
-use Rattle.no_packet_loops.proofs.Common.{option_map_or, false≢true, End, A, B, Place, LinkSpec, Network, other, places_from, opening, Some_injective, None_not_Some, listed_at, listed_within, router_end, one_if_at, ports_before, place_of, IsPort, place_to_IsPort, LinkEnd, at_port, lay, Topology}
+use Rattle.no_packet_loops.proofs.Common.{option_map_or, false≢true, End, A, B, Place, LinkSpec, Network, other, places_from, opening, Some_injective, None_not_Some, listed_at, listed_within, router_end, one_if_at, ports_before, place_of, IsPort, place_to_IsPort, LinkEnd, at_port, lay, Topology, cons_option}
 use Rattle.no_packet_loops.specs.LinkEnds.{across}
 use Rattle.no_packet_loops.proofs.Wiring.{IsWiredLink, IsWired}
 

@@ -1,8 +1,6 @@
 -- Every run of a network is a run of the view, which shows the feasible distances that were published last.
 use Rattle.std.proofs.Common.{refl, sym, ap, subst, ◌∙◌, arith, inl, inr, length-set, ◌<◌, zero, suc, length, slice_set, if◌then◌else◌, ◌==◌, false, ◌≡◌, ℕ, ◌≤◌, true, List, [], ◌∷◌, Option, Some, None, slice_get, option_map, option_and_then, ◌⊎◌, eq-eqb, eqb-true, ne_eqb}
-use Rattle.no_packet_loops.proofs.Common.{option_map_or, cases_eq, false≢true, slice_get_within, Prefix, Machine, opening_machine, changed_at, infinity, machine_of, Link, Router, Attachments, World, Network, side, place_at, places_from, link_at, opening, Item, Held, Notice, Place, Lawful, next, with_cost, with_front_taken, with_message, router_releasing, with_delivered, with_noticed, with_released, router_accepting, front_at, notice_at, is_at_home, release_at, ripe_front, changed_router, Runs, History, history_from, published_after, with_step, with_steps, history, option_map_or-ind, None_not_Some, listed_within, at_home_there, at_port, view, lay, fd_in, machine_laws, Run, Start, Then, Invariant, opening_keeps, steps_keep}
-use Rattle.network_model.specs.declared.step.Step.{Step}
-use Rattle.network_model.specs.declared.step.Step.TheVariants.{LinkUp, LinkDown, SetCost, Deliver, Publish, Release, Attach, Detach}
+use Rattle.no_packet_loops.proofs.Common.{option_map_or, cases_eq, false≢true, slice_get_within, Prefix, Machine, opening_machine, changed_at, infinity, machine_of, Link, Router, Attachments, World, Network, side, place_at, places_from, link_at, opening, Item, Held, Notice, Place, Lawful, next, with_cost, with_front_taken, with_message, router_releasing, with_delivered, with_noticed, with_released, router_accepting, front_at, notice_at, is_at_home, release_at, ripe_front, changed_router, Runs, History, history_from, published_after, with_step, with_steps, history, option_map_or-ind, None_not_Some, listed_within, at_home_there, at_port, view, lay, fd_in, machine_laws, Run, Start, Then, Invariant, opening_keeps, steps_keep, Step, LinkUp, LinkDown, SetCost, Deliver, Publish, Release, Attach, Detach}
 use Rattle.no_packet_loops.proofs.WorldLaws.{next-shape}
 use Rattle.no_packet_loops.proofs.Wiring.{IsWired}
 use Rattle.no_packet_loops.proofs.Places.{topology, laid}

@@ -1,7 +1,6 @@
 -- A router that takes a notice of its attachment takes it in the view too, or nothing of the prefix changes.
 use Rattle.std.proofs.Common.{refl, sym, ap, subst, ◌∙◌, ◌≡◌, ℕ, suc, ◌<◌, Bool, true, false, if◌then◌else◌, List, [], ◌∷◌, ◌++◌, drop, Option, Some, None, slice_get, option_map, option_and_then}
-use Rattle.no_packet_loops.proofs.Common.{option_map_or, Prefix, prefix_cmp, prefix_eq, IsCost, Machine, reaction, changed_at, opening_machine, attachment_after, event_at_home, Event, Notice, Entry, Router, Attachments, World, Network, machine_of, router_at_home, with_notice_taken, session_at, Some_injective, None_not_Some, slice_get-changed_at, slice_get-changed_at_other, LinkEnd, State, next_hop, kept, ripe_of, unripe_of, next_hop_at, view, IsSound, sent_to, machine_laws, TakesAtHome, Skips, held_for, meets_home, Invariant}
-use Rattle.std.specs.FinMap.{find as row_of}
+use Rattle.no_packet_loops.proofs.Common.{option_map_or, Prefix, prefix_cmp, prefix_eq, IsCost, Machine, reaction, changed_at, opening_machine, attachment_after, event_at_home, Event, Notice, Entry, Router, Attachments, World, Network, machine_of, router_at_home, with_notice_taken, session_at, Some_injective, None_not_Some, slice_get-changed_at, slice_get-changed_at_other, LinkEnd, State, next_hop, kept, ripe_of, unripe_of, next_hop_at, view, IsSound, sent_to, machine_laws, TakesAtHome, Skips, held_for, meets_home, Invariant, find as row_of}
 use Rattle.no_packet_loops.proofs.Wiring.{IsWired}
 use Rattle.no_packet_loops.proofs.Places.{topology}
 use Rattle.no_packet_loops.proofs.View.{on_router-there, on_router-miss, on_router-same}

@@ -1,9 +1,6 @@
 -- Steps keep the shape of a world.
 use Rattle.std.proofs.Common.{refl, sym, ap, subst, ◌∙◌, ◌≡◌, ℕ, false, cond, List, [], ◌∷◌, ◌++◌, length, Some}
-use Rattle.std.specs.FinMap.{find as row_of, put}
-use Rattle.no_packet_loops.proofs.Common.{find-put, Prefix, prefix_cmp, prefix_eq, prefix_cmp_total, End, Link, Router, Attachments, World, place_at, next, changed_link, changed_router, changed_attachments, router_accepting, router_at_home, with_delivered, with_noticed, with_released, with_front_taken, with_notice_taken, with_cost, with_message, front_at, notice_at, Runs, length-changed_at, option_map_or-ind, Lawful}
-use Rattle.network_model.specs.declared.step.Step.{Step}
-use Rattle.network_model.specs.declared.step.Step.TheVariants.{LinkUp, LinkDown, SetCost, Deliver, Publish, Release, Attach, Detach}
+use Rattle.no_packet_loops.proofs.Common.{find-put, Prefix, prefix_cmp, prefix_eq, prefix_cmp_total, End, Link, Router, Attachments, World, place_at, next, changed_link, changed_router, changed_attachments, router_accepting, router_at_home, with_delivered, with_noticed, with_released, with_front_taken, with_notice_taken, with_cost, with_message, front_at, notice_at, Runs, length-changed_at, option_map_or-ind, Lawful, find as row_of, put, Step, LinkUp, LinkDown, SetCost, Deliver, Publish, Release, Attach, Detach}
 
 -- ---- look-ups
 

@@ -1,9 +1,7 @@
 -- How replays end.
 use Rattle.std.proofs.Common.{◌≡◌, ℕ, ◌≤◌, ◌⊎◌, inl, inr, Option, List, length, take, refl, ap, subst, ◌∙◌}
-use Rattle.no_packet_loops.proofs.Common.{Prefix, LinkSpec, opening, Runs}
+use Rattle.no_packet_loops.proofs.Common.{Prefix, LinkSpec, opening, Runs, World, Step}
 use Rattle.faults.specs.declared.kind.FaultKind.{FaultKind}
-use Rattle.network_model.specs.declared.step.Step.{Step}
-use Rattle.network_model.specs.World.{World}
 use Rattle.texts.specs.Words.{Text}
 use Rattle.journal.specs.declared.fault.JournalFault.{JournalFault}
 use Rattle.journal.specs.declared.fault.JournalFault.TheVariants.{NoMemory as NoMemoryForJournal}

@@ -1,9 +1,7 @@
 -- Three routers and a link between two of them: it comes up, and all comes to rest; then the attachment moves, or the link goes
 -- down, and all comes to rest again.
 use Rattle.std.proofs.Common.{refl, arith, List, [], ◌∷◌, ◌++◌}
-use Rattle.no_packet_loops.proofs.Common.{Prefix, IsPrefix, IsCost, World, Network, opening, LinkSpec, HasCosts, IsNetwork, run, run-Runs}
-use Rattle.network_model.specs.declared.step.Step.{Step}
-use Rattle.network_model.specs.declared.step.Step.TheVariants.{LinkUp, LinkDown, Deliver, Publish, Release, Attach, Detach}
+use Rattle.no_packet_loops.proofs.Common.{Prefix, IsPrefix, IsCost, World, Network, opening, LinkSpec, HasCosts, IsNetwork, run, run-Runs, Step, LinkUp, LinkDown, Deliver, Publish, Release, Attach, Detach}
 use Rattle.no_packet_loops.proofs.Example.{all_of_one}
 use Rattle.quiet_routes.specs.Routes.{SomeQuietRuns}
 

@@ -1,7 +1,6 @@
 -- At a quiet world each router has its best row.
 use Rattle.std.proofs.Common.{refl, sym, ap, ◌∙◌, inl, inr, arith, ◌≡◌, ◌⊎◌, ℕ, ◌+◌, ◌<◌, ◌≤◌, true, List, [], map, length, Option, Some, None, is_some, slice_get, option_map, option_and_then, unwrap_or}
-use Rattle.no_packet_loops.proofs.Common.{range_with_len, option_map_or, false≢true, length-map, Prefix, prefix_cmp, Machine, opening_machine, port_count, Local, Unreachable, End, A, B, Link, Router, World, Network, side, machine_of, neighbours, costs_of, opening_router_of, opening, Place, Port, entry_of, IsWalkHome, walk_cost as way_cost, is_quiet, None_not_Some, Topology, IsEdgeWalk as NetWalk, IsNetwork, history, LinkEnd, State, on_link, view, lay, walk_map}
-use Rattle.std.specs.FinMap.{find as row_of}
+use Rattle.no_packet_loops.proofs.Common.{range_with_len, option_map_or, false≢true, length-map, Prefix, prefix_cmp, Machine, opening_machine, port_count, Local, Unreachable, End, A, B, Link, Router, World, Network, side, machine_of, neighbours, costs_of, opening_router_of, opening, Place, Port, entry_of, IsWalkHome, walk_cost as way_cost, is_quiet, None_not_Some, Topology, IsEdgeWalk as NetWalk, IsNetwork, history, LinkEnd, State, on_link, view, lay, walk_map, find as row_of}
 use Rattle.no_packet_loops.specs.Packets.{published_entry}
 use Rattle.no_packet_loops.proofs.Wiring.{IsWired, wired, few_routers}
 use Rattle.no_packet_loops.proofs.Places.{laid, spot, topology}

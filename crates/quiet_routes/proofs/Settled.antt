@@ -1,8 +1,6 @@
 -- A world with nothing left to do is quiet: nothing is on the way, so every machine is passive.
-use Rattle.std.proofs.Common.{refl, sym, ap, ◌∙◌, arith, ◌≡◌, ℕ, ◌≤◌, Bool, true, false, not, ◌&&◌, nat_lt, if◌then◌else◌, List, [], length, Some, None, is_none, slice_get}
-use Rattle.no_packet_loops.proofs.Common.{list_all, and_from, and_parts, false≢true, Prefix, opening_machine, Router, World, Network, machine_of, opening, changed_rows, is_due, is_empty, is_quiet_router, is_quiet_link, has_no_notice, is_quiet, is_settled, is_active, IsNetwork, Runs, history, view, lay, same_truth}
-use Rattle.std.proofs.lemmas.Bool.{le-ltb}
-use Rattle.network_model.specs.declared.step.Step.{Step}
+use Rattle.std.proofs.Common.{refl, sym, ap, ◌∙◌, arith, ◌≡◌, ℕ, ◌≤◌, Bool, true, false, not, ◌&&◌, nat_lt, if◌then◌else◌, List, [], length, Some, None, is_none, slice_get, le-ltb}
+use Rattle.no_packet_loops.proofs.Common.{list_all, and_from, and_parts, false≢true, Prefix, opening_machine, Router, World, Network, machine_of, opening, changed_rows, is_due, is_empty, is_quiet_router, is_quiet_link, has_no_notice, is_quiet, is_settled, is_active, IsNetwork, Runs, history, view, lay, same_truth, Step}
 use Rattle.no_packet_loops.specs.Packets.{HoldsInEveryWorld}
 use Rattle.no_packet_loops.proofs.Wiring.{wired}
 use Rattle.no_packet_loops.proofs.Places.{topology}

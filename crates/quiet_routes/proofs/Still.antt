@@ -1,7 +1,6 @@
 -- A quiet world is a quiet state of the view, and its published rows are those of its machines.
 use Rattle.std.proofs.Common.{refl, sym, ap, ◌∙◌, ◌≡◌, ℕ, true, false, ◌&&◌, List, [], Option, Some, None, slice_get, option_map, option_and_then}
-use Rattle.no_packet_loops.proofs.Common.{list_all, option_map_or, and_parts, Prefix, prefix_cmp, Machine, opening_machine, port_successor, Link, Router, Attachments, World, Network, machine_of, entry_of, session_at, is_quiet_router, is_quiet_link, has_no_notice, is_quiet, is_active, next_hop_of, State, at_port, next_hop, next_hop_at, view, lay}
-use Rattle.std.specs.FinMap.{find as row_of}
+use Rattle.no_packet_loops.proofs.Common.{list_all, option_map_or, and_parts, Prefix, prefix_cmp, Machine, opening_machine, port_successor, Link, Router, Attachments, World, Network, machine_of, entry_of, session_at, is_quiet_router, is_quiet_link, has_no_notice, is_quiet, is_active, next_hop_of, State, at_port, next_hop, next_hop_at, view, lay, find as row_of}
 use Rattle.no_packet_loops.proofs.Wiring.{IsWired}
 use Rattle.no_packet_loops.proofs.Places.{topology}
 use Rattle.no_packet_loops.proofs.Publishing.{control_row, control_hop}

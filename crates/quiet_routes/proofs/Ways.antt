@@ -1,7 +1,6 @@
 -- Walks of the world are walks of the view, and the other way round.
 use Rattle.std.proofs.Common.{refl, sym, ap, subst, ◌∙◌, ◌≡◌, ℕ, ◌+◌, true, false, List, [], ◌∷◌, map, Option, Some, None, is_some, slice_get, option_and_then}
-use Rattle.no_packet_loops.proofs.Common.{option_map_or, false≢true, Prefix, prefix_cmp, Entry, Local, Via, Unreachable, A, Link, Router, World, Network, other, side, Place, IsWalk as IsWay, walk_cost as way_cost, Some_injective, None_not_Some, Topology, IsEdgeWalk, router_end, place_of, LinkEnd, State, NextHop, at_port, next_hop, next_hop_at, on_link, view, lay}
-use Rattle.std.specs.FinMap.{find as row_of}
+use Rattle.no_packet_loops.proofs.Common.{option_map_or, false≢true, Prefix, prefix_cmp, Entry, Local, Via, Unreachable, A, Link, Router, World, Network, other, side, Place, IsWalk as IsWay, walk_cost as way_cost, Some_injective, None_not_Some, Topology, IsEdgeWalk, router_end, place_of, LinkEnd, State, NextHop, at_port, next_hop, next_hop_at, on_link, view, lay, find as row_of}
 use Rattle.no_packet_loops.specs.Packets.{published_entry}
 use Rattle.no_packet_loops.proofs.Wiring.{IsWired}
 use Rattle.no_packet_loops.specs.LinkEnds.{across}

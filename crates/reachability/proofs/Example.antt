@@ -1,8 +1,6 @@
 -- A worked example: router 1 of two is cut off from when the link comes up until it has published its row.
 use Rattle.std.proofs.Common.{refl, sym, subst, ◌∙◌, ap, ◌≡◌, ℕ, zero, suc, true, List, [], ◌∷◌, ◌+◌, Option, Some, None, slice_get, unwrap_or}
-use Rattle.no_packet_loops.proofs.Common.{option_map_or, false≢true, None_not_Some, Some_injective, Prefix, Place, B, Link, Router, World, side, opening, opening_link, opening_router}
-use Rattle.network_model.specs.World.{attachment_at}
-use Rattle.network_model.specs.Forwarding.{IsWalk}
+use Rattle.no_packet_loops.proofs.Common.{option_map_or, false≢true, None_not_Some, Some_injective, Prefix, Place, B, Link, Router, World, side, opening, opening_link, opening_router, attachment_at, IsWalk}
 use Rattle.no_packet_loops.specs.Packets.{published_entry}
 use Rattle.no_packet_loops.proofs.Example.{pair, w7}
 use Rattle.quiet_routes.specs.Routes.{IsChain}

@@ -3,10 +3,9 @@
 --     RouterArg, drops_heap           the first as a call of `Box` passes it, and how it drops an allocator
 --     fits                           a handle's machine value is of its type
 --     hands, handle_had              what a call is handed beside its arguments; a handle is had for what it holds
-use Rattle.std.proofs.Common.{List, [], ◌∷◌, refl}
+use Rattle.std.proofs.Common.{List, [], ◌∷◌, refl, Bool}
 use seplogic.Ra.Ura.{Ura}
 use mir.Syntax.{Dict}
-use mathlib.Core.Bool.{Bool}
 use mir.Val.{vbool}
 use types.Logic.{Logic}
 use types.Kit.{Item, Goal, Step, step, ‵, raw, ◌⊛◌, ◌$◌, fjoin}

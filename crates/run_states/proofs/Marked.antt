@@ -1,6 +1,5 @@
 -- MarksTouched, one after another, and that what is current stays so by a step whose link, router and machines are marked.
-use Rattle.std.proofs.Common.{refl, sym, ap, subst, ◌∙◌, ◌≡◌, ◌≢◌, ◌⊎◌, inl, inr, ℕ, ◌<◌, ◌≤◌, ◌||◌, Bool, false, true, List, All, length, get_or, set, Option, Some, None, slice_get, vec_len, Ok, Err, Result, arith}
-use Rattle.std.specs.Prelude.{OnErr, OnOk, map}
+use Rattle.std.proofs.Common.{refl, sym, ap, subst, ◌∙◌, ◌≡◌, ◌≢◌, ◌⊎◌, inl, inr, ℕ, ◌<◌, ◌≤◌, ◌||◌, Bool, false, true, List, All, length, get_or, set, Option, Some, None, slice_get, vec_len, Ok, Err, Result, arith, OnErr, OnOk, map}
 use Rattle.std.specs.FinMap.{find as row_of}
 use Rattle.std.specs.Vec.{with_item}
 use Rattle.std.proofs.lemmas.Bool.{cases_eq, false≢true}

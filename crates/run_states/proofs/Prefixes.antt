@@ -1,12 +1,6 @@
 -- The prefixes of attachments, gathered one after another.
-use Rattle.std.proofs.Common.{refl, ap, sym, ◌∙◌, ◌≡◌, ℕ, ◌+◌, ◌<◌, Bool, true, false, cond, List, [], ◌∷◌, ◌++◌, Option, Some, None, length, get_or, map, take}
-use Rattle.std.specs.Prelude.{◌||◌, is_some}
-use Rattle.std.specs.FinMap.{find as row_of, put}
-use Rattle.std.specs.List.{list_any}
-use Rattle.std.proofs.lemmas.List.{map-append}
-use Rattle.std.proofs.lemmas.Option.{slice_get_read}
-use Rattle.ipv4_prefix.specs.Prefix.{Prefix, prefix_cmp, prefix_eq}
-use Rattle.no_packet_loops.proofs.Common.{find-put, list_any-append, prefix_cmp_total}
+use Rattle.std.proofs.Common.{refl, ap, sym, ◌∙◌, ◌≡◌, ℕ, ◌+◌, ◌<◌, Bool, true, false, cond, List, [], ◌∷◌, ◌++◌, Option, Some, None, length, get_or, map, take, ◌||◌, is_some}
+use Rattle.no_packet_loops.proofs.Common.{find-put, list_any-append, prefix_cmp_total, find as row_of, put, list_any, map-append, slice_get_read, Prefix, prefix_cmp, prefix_eq}
 use Rattle.network_model.proofs.Fronts.{take_next}
 
 -- one more attachment's prefix is put

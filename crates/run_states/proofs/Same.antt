@@ -1,11 +1,10 @@
 -- What `==` answers true of is one.
-use Rattle.std.proofs.Common.{refl, ap, sym, ◌∙◌, ◌≡◌, ℕ, Bool, true, false, not, List, [], ◌∷◌, ◌++◌, ◌-◌, length, take, drop, Option, Some, None, arith}
+use Rattle.std.proofs.Common.{refl, ap, sym, ◌∙◌, ◌≡◌, ℕ, Bool, true, false, not, List, [], ◌∷◌, ◌++◌, ◌-◌, length, take, drop, Option, Some, None, arith, length-drop, take-append-drop, take_all}
 use Rattle.std.specs.List.{starts_with}
 use Rattle.std.specs.Option.{option_eq}
 use Rattle.std.specs.Cmp.{booleans_Decides}
 use Rattle.std.specs.Cmp.Lexicographic.{pointwise}
 use Rattle.std.proofs.lemmas.Bool.{and_parts, eqb-true}
-use Rattle.std.proofs.lemmas.List.{length-drop, take-append-drop, take_all}
 use Rattle.ipv4_prefix.proofs.PrefixOrder.{prefix_eq-Decides, prefix_partial_eq}
 use Rattle.metric.specs.declared.kind.Kind.{Kind}
 use Rattle.metric.specs.declared.kind.Kind.TheVariants.{Update, Query, Reply}

@@ -1,27 +1,6 @@
 -- What a step leaves a router of a prefix that it does not touch: its machine and its rows.
-use Rattle.std.proofs.Common.{refl, ap, sym, subst, ◌∙◌, ◌≡◌, ℕ, Bool, true, false, cond, not, List, [], ◌∷◌, Option, Some, None, option_map, slice_get, filter}
-use Rattle.std.specs.Prelude.{is_some}
-use Rattle.std.specs.Option.{option_map_or}
-use Rattle.std.specs.FinMap.{find as row_of, put}
-use Rattle.std.proofs.lemmas.Bool.{false≢true}
-use Rattle.std.proofs.lemmas.Option.{none-some, same_Some}
-use Rattle.ipv4_prefix.specs.Prefix.{Prefix, prefix_cmp, prefix_eq}
-use Rattle.ipv4_prefix.proofs.PrefixOrder.{prefix_eq-Decides}
-use Rattle.network_model.specs.declared.item.Held.{Held}
-use Rattle.network_model.specs.declared.item.Item.{Item}
-use Rattle.network_model.specs.declared.item.Notice.{Notice}
-use Rattle.network_model.specs.declared.machine.Event.{Event}
-use Rattle.network_model.specs.declared.network.Port.{Port}
-use Rattle.network_model.specs.declared.route.Entry.{Entry}
-use Rattle.network_model.specs.declared.step.Step.{Step}
-use Rattle.network_model.specs.declared.step.Step.TheVariants.{LinkUp, LinkDown, SetCost, Deliver, Publish, Release, Attach, Detach}
-use Rattle.network_model.specs.Machine.{Machine, Reaction, event_at_home, reaction}
-use Rattle.network_model.specs.World.{Router, World, machine_of}
-use Rattle.network_model.specs.Step.{changed_attachments, changed_link, changed_router, changed_rows, chosen_rows, entry_eq, entry_of, front_at, has_row, next, notice_at, reactions, release_at, router_accepting, router_at_home, router_meeting, router_noticing, router_publishing, router_releasing, with_cost, with_delivered, with_front_taken, with_message, with_notice_taken, with_noticed, with_released}
-use Rattle.network_model.proofs.EntryLaws.{entry_from_eq}
-use Rattle.network_model.proofs.ListLaws.{slice_get-changed_at}
-use Rattle.network_model.proofs.WorldLaws.{routers-changed_link}
-use Rattle.no_packet_loops.proofs.Common.{find-map, find-put, prefix_cmp_total}
+use Rattle.std.proofs.Common.{refl, ap, sym, subst, ◌∙◌, ◌≡◌, ℕ, Bool, true, false, cond, not, List, [], ◌∷◌, Option, Some, None, option_map, slice_get, filter, is_some}
+use Rattle.no_packet_loops.proofs.Common.{find-map, find-put, prefix_cmp_total, option_map_or, false≢true, Prefix, prefix_cmp, prefix_eq, prefix_eq-Decides, Held, Item, Notice, Event, Port, Entry, Machine, Reaction, event_at_home, reaction, Router, World, machine_of, changed_attachments, changed_link, changed_router, changed_rows, chosen_rows, entry_eq, entry_of, front_at, has_row, next, notice_at, reactions, release_at, router_accepting, router_at_home, router_meeting, router_noticing, router_publishing, router_releasing, with_cost, with_delivered, with_front_taken, with_message, with_notice_taken, with_noticed, with_released, entry_from_eq, slice_get-changed_at, routers-changed_link, find as row_of, put, none-some, same_Some, Step, LinkUp, LinkDown, SetCost, Deliver, Publish, Release, Attach, Detach}
 use Rattle.run_states.specs.Books.{matches_prefix}
 use Rattle.run_states.specs.Marks.{message_prefix, touched_router, may_touch}
 

@@ -1,7 +1,7 @@
 -- The names that proofs above cite most, passed on from one place. Declares nothing.
 pub use Rattle.std.specs.BTreeMap.{UpdatesBy, get_by_text}
 pub use Rattle.std.specs.Io.KnownBytes.{Appends}
-pub use Rattle.std.specs.List.{cons_option, join_with_byte, list_any, position_from, range_with_len}
+pub use Rattle.std.specs.List.{AllZip, cons_option, join_with_byte, list_any, position_from, range_with_len}
 pub use Rattle.std.specs.Option.{option_or}
 pub use Rattle.std.proofs.lemmas.Bool.{cases_lt, false≢true}
 pub use Rattle.std.proofs.lemmas.Bool.Decides.{same_from_decides}
@@ -16,6 +16,7 @@ pub use Rattle.std.proofs.lemmas.List.Splits.{join_with_byte-slice_split, slice_
 pub use Rattle.std.proofs.lemmas.List.Sums.{length-filter}
 pub use Rattle.std.proofs.lemmas.Map.Text.{btree_map_updates_text}
 pub use Rattle.std.proofs.lemmas.Option.{get_or_from_slice_get, slice_get-get_or, slice_get-map, slice_get_read, slice_get_within}
+pub use Rattle.std.proofs.lemmas.Result.{IfErr-weaker, IfOk-weaker}
 pub use Rattle.std.proofs.lemmas.Slice.Eq.{bytes_eq-Decides}
 pub use Rattle.std.proofs.lemmas.Slice.Zip.{all_zipped_more}
 pub use Rattle.ipv4_prefix.specs.Faults.{IsFirstFault, SpellsPrefix}
@@ -37,6 +38,12 @@ pub use Rattle.script.specs.Directories.{Directory, directory_of, neighbours_of,
 pub use Rattle.script.specs.Links.{IsLink, IsLinkFault, LinkWords, router_named}
 pub use Rattle.script.specs.Reading.{IsWhole, ReadsFirst, StopsHere}
 pub use Rattle.script.specs.Routers.{AreNames, FindsNames, IsDigit, IsName, IsSmallLetter, no_router, router_number}
+pub use Rattle.script.specs.declared.command.Command.{Command}
+pub use Rattle.script.specs.declared.fault.LineFault.{LineFault}
+pub use Rattle.script.specs.declared.fault.LineFault.TheVariants.{BadCommand, BadCost}
+pub use Rattle.script.specs.declared.place.Key.{Key}
+pub use Rattle.script.specs.declared.place.Key.TheVariants.{Links, Prefixes, Script}
+pub use Rattle.script.specs.declared.place.Located.{Located}
 pub use Rattle.texts.specs.Lines.{lines_of}
 pub use Rattle.texts.specs.Number.{Spells}
 pub use Rattle.texts.specs.Words.{Text, is_space, texts, words_of}

@@ -1,7 +1,6 @@
 -- What the laws of all runs say of every simulation.
 use Rattle.std.proofs.Common.{refl, sym, ap, ◌∙◌, ◌≡◌, ℕ, List, Option, Some, None, option_map, option_and_then, slice_get}
-use Rattle.no_packet_loops.proofs.Common.{slice_get-map, longest_match, entry_leads, Router, image_answer}
-use Rattle.network_model.specs.Forwarding.{hop}
+use Rattle.no_packet_loops.proofs.Common.{slice_get-map, longest_match, entry_leads, Router, image_answer, hop}
 use Rattle.all_packets.specs.Packets.{IsWay, NoPacketCircles}
 use Rattle.all_packets.proofs.Improving.{way_by}
 use Rattle.course.specs.Images.{image_in_force}

@@ -1,8 +1,6 @@
 -- What a step does to the images of the code.
 use Rattle.std.proofs.Common.{refl, sym, ap, subst, ◌∙◌, ◌≡◌, ℕ, List, set, Option, Some, IsSome, Result, Ok, Err, OnOk, OnErr, slice_get}
-use Rattle.no_packet_loops.proofs.Common.{Refusal, World, Lawful, next, Image}
-use Rattle.network_model.specs.declared.step.Step.{Step}
-use Rattle.network_model.specs.declared.step.Step.TheVariants.{Publish}
+use Rattle.no_packet_loops.proofs.Common.{Refusal, World, Lawful, next, Image, Step, Publish}
 use Rattle.image_patch.specs.declared.Patch.{Patch as PatchFields}
 use Rattle.image_patch.specs.Patches.{patched}
 use Rattle.course.specs.Course.{Course, course_after}

@@ -1,7 +1,6 @@
 -- At rest nobody is cut off, and no machine is in a computation: so it is at the opening.
 use Rattle.std.proofs.Common.{refl, sym, ◌∙◌, arith, eq-eqb, ◌≡◌, ℕ, ◌<◌, true, List, []}
-use Rattle.no_packet_loops.proofs.Common.{false≢true, is_settled, Prefix, World, Network, history, is_quiet, opening, IsNetwork, Runs}
-use Rattle.network_model.specs.declared.step.Step.{Step}
+use Rattle.no_packet_loops.proofs.Common.{false≢true, is_settled, Prefix, World, Network, history, is_quiet, opening, IsNetwork, Runs, Step}
 use Rattle.no_packet_loops.proofs.Wiring.{few_routers, wired}
 use Rattle.no_packet_loops.proofs.Runs.{reached}
 use Rattle.quiet_routes.specs.Routes.{HasBestRow}

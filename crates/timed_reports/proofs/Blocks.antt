@@ -1,10 +1,6 @@
 -- Where routers and prefixes stand that are watched in order: by prefixes, and then by routers.
 use Rattle.std.proofs.Common.{sym, ap, ◌∙◌, arith, ◌≡◌, ◌≢◌, ℕ, zero, suc, ◌+◌, ◌-◌, ◌*◌, ◌<◌, ◌≤◌, List, [], ◌∷◌, ◌++◌, flat_map, length, length-append, Option, Some, option_map, slice_get}
-use Rattle.std.proofs.Math.Nat.{mul-le-mul_right, suc-mul}
-use Rattle.std.proofs.lemmas.List.FromFn.{length-map-range_with_len}
-use Rattle.std.proofs.lemmas.Option.{some_pair_parts}
-use Rattle.no_packet_loops.proofs.Common.{None_not_Some, Some_injective, length-map, listed_at, slice_get-map, Prefix}
-use Rattle.machine_laws.proofs.Lists.{append_within}
+use Rattle.no_packet_loops.proofs.Common.{None_not_Some, Some_injective, length-map, listed_at, slice_get-map, Prefix, length-map-range_with_len, mul-le-mul_right, suc-mul, some_pair_parts, append_within}
 use Rattle.timed_reports.specs.declared.spells.Watched.{Watched}
 use Rattle.timed_reports.specs.Records.{AreInOrder, watched_at, with_routers}
 

@@ -1,9 +1,7 @@
 -- A worked example: router 1 of two is cut off from when its link comes up until it has published its row.
 use Rattle.std.proofs.Common.{refl, inl, inr, ℕ, true, false, List, [], ◌∷◌, Some}
-use Rattle.no_packet_loops.proofs.Common.{opening}
+use Rattle.no_packet_loops.proofs.Common.{opening, Step, LinkUp, Deliver, Publish, Release}
 use Rattle.no_packet_loops.proofs.Example.{pair, w7}
-use Rattle.network_model.specs.declared.step.Step.{Step}
-use Rattle.network_model.specs.declared.step.Step.TheVariants.{LinkUp, Deliver, Publish, Release}
 use Rattle.reachability.specs.Ways.{IsCutOff}
 use Rattle.reachability.proofs.Example.{cut, everything, not_yet, way7}
 use Rattle.timed_simulation.specs.declared.events.Event.{Event}

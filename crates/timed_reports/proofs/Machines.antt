@@ -1,15 +1,7 @@
 -- Steps that move no machine of a router, or none of those for a prefix.
 use Rattle.std.proofs.Common.{refl, sym, ap, subst, ◌∙◌, inl, inr, ◌≡◌, ◌≢◌, ℕ, false, List, map, Option, Some, None, Result, Ok, Err, IfSome, option_and_then, option_map, slice_get, unwrap_or}
-use Rattle.network_model.proofs.ListLaws.{None_not_Some, Some_injective}
-use Rattle.no_packet_loops.proofs.Common.{option_map_or, option_map_or-ind, map-changed_at, routers-changed_link, slice_get-map, slice_get-changed_at_other, false≢true, prefix_eq, Prefix, Machine, Item, Place, Side, Link, Router, World, changed_at, changed_link, changed_router, side, with_cost, with_front_taken, with_message, with_delivered, with_noticed, with_released, router_accepting, router_at_home, router_publishing, router_releasing, front_at, notice_at, release_at, place_at, next}
+use Rattle.no_packet_loops.proofs.Common.{option_map_or, option_map_or-ind, map-changed_at, routers-changed_link, slice_get-map, slice_get-changed_at_other, false≢true, prefix_eq, Prefix, Machine, Item, Place, Side, Link, Router, World, changed_at, changed_link, changed_router, side, with_cost, with_front_taken, with_message, with_delivered, with_noticed, with_released, router_accepting, router_at_home, router_publishing, router_releasing, front_at, notice_at, release_at, place_at, next, None_not_Some, Some_injective, Message, Event, opening_machine, reaction, machine_of, neighbours, is_active, Step, LinkUp, LinkDown, SetCost, Deliver, Publish, Release, Attach, Detach}
 use Rattle.no_packet_loops.proofs.WorldLaws.{row_of-put_other}
-use Rattle.network_model.specs.declared.item.Message.{Message}
-use Rattle.network_model.specs.declared.step.Step.{Step}
-use Rattle.network_model.specs.declared.step.Step.TheVariants.{LinkUp, LinkDown, SetCost, Deliver, Publish, Release, Attach, Detach}
-use Rattle.network_model.specs.declared.machine.Event.{Event}
-use Rattle.network_model.specs.Machine.{opening_machine, reaction}
-use Rattle.network_model.specs.World.{machine_of, neighbours}
-use Rattle.machine_laws.specs.Laws.{is_active}
 use Rattle.link_fifo.specs.declared.refusal.LinkRefusal.{LinkRefusal}
 use Rattle.link_fifo.specs.declared.refusal.LinkRefusal.TheVariants.{UnknownLink}
 use Rattle.link_fifo.specs.Refusals.{front_of}

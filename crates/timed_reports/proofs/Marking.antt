@@ -1,9 +1,6 @@
 -- Prefixes that are marked, one after another.
-use Rattle.std.proofs.Common.{refl, sym, ap, subst, ◌∙◌, arith, inl, inr, length-set, ◌≡◌, ◌≢◌, ◌⊎◌, ℕ, ◌+◌, ◌<◌, ◌≤◌, IsTrue, Bool, true, false, not, List, length, get_or, set, Some, slice_get}
-use Rattle.std.proofs.lemmas.Bool.{cases_lt, false≢true}
-use Rattle.std.proofs.lemmas.List.{get_or-set_other, get_or-set_same}
-use Rattle.no_packet_loops.proofs.Common.{Some_injective, Prefix, World}
-use Rattle.network_model.specs.declared.step.Step.{Step}
+use Rattle.std.proofs.Common.{refl, sym, ap, subst, ◌∙◌, arith, inl, inr, length-set, ◌≡◌, ◌≢◌, ◌⊎◌, ℕ, ◌+◌, ◌<◌, ◌≤◌, IsTrue, Bool, true, false, not, List, length, get_or, set, Some, slice_get, get_or-set_other, get_or-set_same}
+use Rattle.no_packet_loops.proofs.Common.{Some_injective, Prefix, World, cases_lt, false≢true, Step}
 use Rattle.timed_reports.specs.Records.{MovesNoWay}
 
 -- a test that does not fail passes

@@ -1,10 +1,6 @@
 -- Looks at one after another.
 use Rattle.std.proofs.Common.{refl, sym, ap, subst, ◌∙◌, arith, inl, inr, length-set, append-nil, append_assoc, ◌≡◌, ◌≢◌, ◌⊎◌, ◌↔◌, ℕ, zero, suc, ◌+◌, ◌-◌, ◌<◌, ◌≤◌, IsTrue, Bool, true, false, List, [], ◌∷◌, ◌++◌, take, length, set, Option, Some, None, option_map, option_to_list, slice_get}
-use Rattle.std.proofs.lemmas.Bool.{cases_lt}
-use Rattle.std.proofs.lemmas.List.{take_more}
-use Rattle.std.proofs.lemmas.Option.{get_or_from_slice_get, slice_get_within}
-use Rattle.network_model.specs.World.{World}
-use Rattle.no_packet_loops.proofs.Common.{None_not_Some, Some_injective, false≢true}
+use Rattle.no_packet_loops.proofs.Common.{None_not_Some, Some_injective, false≢true, get_or_from_slice_get, slice_get_within, World, cases_lt, take_more}
 use Rattle.timed_reports.specs.declared.spells.Spell.{Spell}
 use Rattle.timed_reports.specs.declared.spells.Watched.{Watched}
 use Rattle.timed_reports.specs.Records.{AreLooked, EndByLooks, HoldsOf, IsListed, IsLooked, IsSeen, Kind, ended_by, seen, spell}

@@ -1,12 +1,6 @@
 -- What a look at the world after an event leaves of an exact record.
-use Rattle.std.proofs.Common.{refl, sym, ap, subst, ◌∙◌, arith, inl, inr, ◌≡◌, ◌⊎◌, ◌↔◌, ℕ, suc, ◌<◌, IsTrue, Bool, true, false, List, [], ◌∷◌, ◌++◌, map, length, MatchOption, Option, Some, None, option_map, option_to_list, slice_get, unwrap_or}
-use Rattle.std.proofs.lemmas.List.{take_all}
-use Rattle.std.specs.List.{list_any}
-use Rattle.ipv4_prefix.specs.Prefix.{Prefix, prefix_eq}
-use Rattle.network_model.specs.World.{World}
-use Rattle.network_model.specs.Step.{Lawful, next}
-use Rattle.network_model.specs.Run.{Runs}
-use Rattle.no_packet_loops.proofs.Common.{None_not_Some, false≢true, slice_get_within}
+use Rattle.std.proofs.Common.{refl, sym, ap, subst, ◌∙◌, arith, inl, inr, ◌≡◌, ◌⊎◌, ◌↔◌, ℕ, suc, ◌<◌, IsTrue, Bool, true, false, List, [], ◌∷◌, ◌++◌, map, length, MatchOption, Option, Some, None, option_map, option_to_list, slice_get, unwrap_or, take_all}
+use Rattle.no_packet_loops.proofs.Common.{None_not_Some, false≢true, slice_get_within, list_any, Prefix, prefix_eq, World, Lawful, next, Runs}
 use Rattle.timed_simulation.specs.declared.events.Event.{Event}
 use Rattle.timed_simulation.specs.Runs.{steps_of}
 use Rattle.timed_reports.specs.declared.spells.Spell.{Spell}

@@ -1,12 +1,7 @@
 -- One for each router and each prefix.
 use Rattle.std.proofs.Common.{refl, sym, ap, subst, ◌∙◌, arith, inl, inr, append-nil, append_assoc, ◌≡◌, ◌⊎◌, ℕ, suc, ◌+◌, ◌<◌, ◌≤◌, Bool, true, false, ◌||◌, List, [], ◌∷◌, ◌++◌, map, flat_map, take, length, get_or, Option, Some, None, option_to_list, slice_get}
-use Rattle.std.proofs.lemmas.Bool.{cases_lt}
-use Rattle.std.proofs.lemmas.List.{map-append, take_all, take_more}
 use Rattle.std.proofs.lemmas.List.Concat.{flat_map-append}
-use Rattle.std.proofs.lemmas.List.FromFn.{map-range_with_len_more}
-use Rattle.std.proofs.lemmas.Option.{get_or_from_slice_get, slice_get_within}
-use Rattle.std.specs.List.{list_any}
-use Rattle.no_packet_loops.proofs.Common.{None_not_Some, false≢true, prefix_eq, Prefix}
+use Rattle.no_packet_loops.proofs.Common.{None_not_Some, false≢true, prefix_eq, Prefix, get_or_from_slice_get, slice_get_within, list_any, cases_lt, map-append, take_all, take_more, map-range_with_len_more}
 use Rattle.no_packet_loops.proofs.Machines.{prefix_same}
 use Rattle.timed_reports.specs.declared.spells.Spell.{Spell}
 use Rattle.timed_reports.specs.declared.spells.Watched.{Watched}

@@ -1,6 +1,6 @@
 -- What an event leaves of a report, if what it may have moved is looked at.
 use Rattle.std.proofs.Common.{refl, sym, ap, subst, ◌∙◌, arith, append-nil, append_assoc, length-append, ◌≡◌, ℕ, ◌+◌, List, [], ◌∷◌, ◌++◌, length, Bool, true, Option, None, Some, IfSome, Result, Ok, Err, OnOk, OnErr, slice_get, ◌<◌, ◌≤◌}
-use Rattle.no_packet_loops.proofs.Common.{length-map-range_with_len, option_map_or, option_map_or-ind, slice_get_within, changed_at, changed_link, with_cost, with_front_taken, with_message, with_delivered, with_noticed, with_released, front_at, notice_at, release_at, place_at, opening_router_of, Prefix, End, Link, Place, World, Network, opening, prefixes_of, IsNetwork, Lawful, next, Runs}
+use Rattle.no_packet_loops.proofs.Common.{length-map-range_with_len, option_map_or, option_map_or-ind, slice_get_within, changed_at, changed_link, with_cost, with_front_taken, with_message, with_delivered, with_noticed, with_released, front_at, notice_at, release_at, place_at, opening_router_of, Prefix, End, Link, Place, World, Network, opening, prefixes_of, IsNetwork, Lawful, next, Runs, Step, SetCost, Deliver, Release}
 use Rattle.timed_simulation.specs.declared.events.Event.{Event}
 use Rattle.timed_simulation.specs.declared.links.LinkDelays.{LinkDelays}
 use Rattle.timed_simulation.specs.Timed.{Timed, after_event, opening_timed, world_of}
@@ -11,8 +11,6 @@ use Rattle.timed_simulation.proofs.Runs.{run_more, run_none}
 use Rattle.reachability.specs.Ways.{IsCutOff, IsJoined}
 use Rattle.reachability.proofs.Joined.{joined}
 use Rattle.no_packet_loops.proofs.WorldLaws.{Runs-shape, next-shape}
-use Rattle.network_model.specs.declared.step.Step.{Step}
-use Rattle.network_model.specs.declared.step.Step.TheVariants.{SetCost, Deliver, Release}
 use Rattle.timed_reports.specs.declared.spells.Spell.{Spell}
 use Rattle.timed_reports.specs.declared.spells.Watched.{Watched}
 use Rattle.timed_reports.specs.Going.{IsComputing}

@@ -1,9 +1,7 @@
 -- A router that an event's step does not touch, nor a link of it, keeps what it has to do next, and when.
 use Rattle.std.proofs.Common.{refl, sym, ap, ◌∙◌, arith, inl, inr, ◌≡◌, ◌≢◌, ℕ, zero, suc, ◌≤◌, max, Bool, true, false, ◌==◌, if◌then◌else◌, List, length, Option, Some, None, option_map, option_and_then, slice_get}
-use Rattle.no_packet_loops.proofs.Common.{option_map_or, other, Held, Item, Notice, Place, Link, Router, Attachments, Side, World, side, is_due, ripe_front, front_at, notice_at, release_at, is_at_home, degree_of, place_at, next, slice_get-changed_at_other}
+use Rattle.no_packet_loops.proofs.Common.{option_map_or, other, Held, Item, Notice, Place, Link, Router, Attachments, Side, World, side, is_due, ripe_front, front_at, notice_at, release_at, is_at_home, degree_of, place_at, next, slice_get-changed_at_other, Step, LinkUp, LinkDown, SetCost, Deliver, Publish, Release, Attach, Detach}
 use Rattle.no_packet_loops.proofs.WorldLaws.{next-shape}
-use Rattle.network_model.specs.declared.step.Step.{Step}
-use Rattle.network_model.specs.declared.step.Step.TheVariants.{LinkUp, LinkDown, SetCost, Deliver, Publish, Release, Attach, Detach}
 use Rattle.world.specs.Steps.{is_stale}
 use Rattle.world.specs.Touched.{LeavesOthers, touched_by}
 use Rattle.world.proofs.Untouched.{untouched}

@@ -1,9 +1,6 @@
 -- What is done next is due, and nothing is due sooner.
 use Rattle.std.proofs.Common.{refl, sym, ap, subst, ◌∙◌, arith, inl, inr, ltb-true, ltb-false, ◌≡◌, ◌⊎◌, ℕ, zero, suc, ◌<◌, ◌≤◌, max, Bool, true, false, nat_lt, if◌then◌else◌, MatchBool, MatchOption, List, [], ◌∷◌, Option, Some, None, option_map, option_and_then, slice_get, length}
-use Rattle.std.proofs.lemmas.Bool.{cases_lt}
-use Rattle.no_packet_loops.proofs.Common.{option_map_or, false≢true, None_not_Some, Some_injective, element_there, slice_get_within, Held, Item, Notice, Place, End, A, B, Link, Router, Side, side, is_due, ripe_front, front_at, notice_at, release_at, degree_of, place_at}
-use Rattle.network_model.specs.declared.step.Step.{Step}
-use Rattle.network_model.specs.declared.step.Step.TheVariants.{LinkUp, LinkDown, SetCost, Deliver, Publish, Release, Attach, Detach}
+use Rattle.no_packet_loops.proofs.Common.{option_map_or, false≢true, None_not_Some, Some_injective, element_there, slice_get_within, Held, Item, Notice, Place, End, A, B, Link, Router, Side, side, is_due, ripe_front, front_at, notice_at, release_at, degree_of, place_at, cases_lt, Step, LinkUp, LinkDown, SetCost, Deliver, Publish, Release, Attach, Detach}
 use Rattle.timed_simulation.specs.declared.links.Arrival.{Arrival}
 use Rattle.timed_simulation.specs.declared.events.Change.{Change}
 use Rattle.timed_simulation.specs.declared.events.Event.{Event}

@@ -1,9 +1,6 @@
 -- What a router is to do next is lawful.
 use Rattle.std.proofs.Common.{refl, sym, subst, ◌∙◌, arith, inl, inr, ◌≡◌, ◌⊎◌, ◌+◌, ◌^◌, ℕ, zero, suc, ◌<◌, max, Bool, true, false, nat_lt, if◌then◌else◌, true≢false, Option, Some, None, option_map, option_and_then, slice_get, length}
-use Rattle.no_packet_loops.proofs.Common.{option_map_or, None_not_Some, Some_injective, element_there, Lawful, Lawful_to_refusal, Refusal, Router, World, Place, Item, refusal, is_due, front_at, notice_at, degree_of, place_at, release_at}
-use Rattle.network_model.specs.declared.item.Held.{Held}
-use Rattle.network_model.specs.declared.item.Notice.{Notice}
-use Rattle.network_model.specs.declared.step.Step.TheVariants.{Deliver, Publish, Release}
+use Rattle.no_packet_loops.proofs.Common.{option_map_or, None_not_Some, Some_injective, element_there, Lawful, Lawful_to_refusal, Refusal, Router, World, Place, Item, refusal, is_due, front_at, notice_at, degree_of, place_at, release_at, Held, Notice, Deliver, Publish, Release}
 use Rattle.simulation.specs.Simulation.{simulation_refusal}
 use Rattle.timed_simulation.specs.declared.events.Change.{Change}
 use Rattle.timed_simulation.specs.declared.events.Event.{Event}

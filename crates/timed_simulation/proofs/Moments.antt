@@ -1,9 +1,6 @@
 -- Nothing is done before the present moment.
 use Rattle.std.proofs.Common.{subst, arith, ◌≡◌, ℕ, zero, suc, ◌≤◌, max, Bool, true, false, nat_lt, if◌then◌else◌, Option, Some, None, option_map, option_and_then, slice_get, length}
-use Rattle.no_packet_loops.proofs.Common.{option_map_or, Router, Place, Item, is_due, front_at, notice_at, degree_of, place_at, release_at}
-use Rattle.network_model.specs.declared.item.Held.{Held}
-use Rattle.network_model.specs.declared.item.Notice.{Notice}
-use Rattle.network_model.specs.declared.step.Step.TheVariants.{Deliver, Publish, Release}
+use Rattle.no_packet_loops.proofs.Common.{option_map_or, Router, Place, Item, is_due, front_at, notice_at, degree_of, place_at, release_at, Held, Notice, Deliver, Publish, Release}
 use Rattle.timed_simulation.specs.declared.events.Change.{Change}
 use Rattle.timed_simulation.specs.declared.events.Event.{Event}
 use Rattle.timed_simulation.specs.Timed.{Timed, world_of}

@@ -1,7 +1,6 @@
 -- Which link's items a release moves.
 use Rattle.std.proofs.Common.{ap, ◌∙◌, ◌≡◌, ℕ, Bool, true, false, not, if◌then◌else◌, Option, Some, None, slice_get, option_map, option_and_then}
-use Rattle.no_packet_loops.proofs.Common.{option_map_or, Held, Place, Link, World, other, place_at, release_at, is_up_in}
-use Rattle.network_model.specs.declared.step.Step.TheVariants.{Release}
+use Rattle.no_packet_loops.proofs.Common.{option_map_or, Held, Place, Link, World, other, place_at, release_at, is_up_in, Release}
 use Rattle.world.specs.Steps.{is_stale}
 use Rattle.timed_simulation.specs.declared.links.Motion.{Motion}
 use Rattle.timed_simulation.specs.declared.links.Motion.TheVariants.{Put}

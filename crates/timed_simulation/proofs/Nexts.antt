@@ -1,12 +1,8 @@
 -- The moments that are kept of routers: which is first, and what is noted anew after an event.
 use Rattle.std.proofs.Common.{refl, sym, ap, subst, ◌∙◌, arith, inl, inr, ◌≡◌, ◌≢◌, ◌⊎◌, ℕ, zero, suc, ◌<◌, ◌≤◌, Bool, true, false, ◌==◌, nat_lt, if◌then◌else◌, List, [], ◌∷◌, length, replicate, set, Result, Ok, Err, OnOk, OnErr, Option, Some, None, MatchOption, option_map, option_and_then, slice_get}
-use Rattle.std.proofs.lemmas.Bool.{cases_eq, cases_lt, le-ltb, lt-ltb}
-use Rattle.std.proofs.lemmas.List.{length-replicate, length-set}
-use Rattle.no_packet_loops.proofs.Common.{length-map-range_with_len, slice_get_within, Network, LinkSpec, Place, World, End, A, B, IsNetwork, opening, opening_router_of, at_port, router_end, place_at, Runs, element_there, None_not_Some, Some_injective}
+use Rattle.no_packet_loops.proofs.Common.{length-map-range_with_len, slice_get_within, Network, LinkSpec, Place, World, End, A, B, IsNetwork, opening, opening_router_of, at_port, router_end, place_at, Runs, element_there, None_not_Some, Some_injective, cases_eq, cases_lt, le-ltb, lt-ltb, length-replicate, length-set, Step, Deliver, Publish, Release, Attach, Detach}
 use Rattle.no_packet_loops.proofs.Places.{Laid, laid}
 use Rattle.no_packet_loops.proofs.WorldLaws.{Runs-shape, next-shape}
-use Rattle.network_model.specs.declared.step.Step.{Step}
-use Rattle.network_model.specs.declared.step.Step.TheVariants.{Deliver, Publish, Release, Attach, Detach}
 use Rattle.world.specs.declared.touched.Touched.{Touched}
 use Rattle.world.specs.Touched.{touched_by}
 use Rattle.world.proofs.Rest.{opening-rests, settled}

@@ -1,8 +1,6 @@
 -- Each event leaves the moments of what is left to do on time.
 use Rattle.std.proofs.Common.{refl, sym, ap, subst, ◌∙◌, arith, inl, ◌≡◌, ℕ, ◌<◌, ◌≤◌, Bool, true, false, if◌then◌else◌, List, [], map, drop, length, Option, Some, option_map, option_and_then, slice_get}
-use Rattle.no_packet_loops.proofs.Common.{element_there, slice_get-map, length-map, length-map-range_with_len, Prefix, Item, Place, End, A, B, Link, LinkSpec, Network, Side, World, opening, opening_link, opening_router_of, place_at, place_of, side, front_at, IsNetwork, Lawful, Runs, next}
-use Rattle.network_model.specs.declared.step.Step.{Step}
-use Rattle.network_model.specs.declared.step.Step.TheVariants.{Deliver, Publish}
+use Rattle.no_packet_loops.proofs.Common.{element_there, slice_get-map, length-map, length-map-range_with_len, Prefix, Item, Place, End, A, B, Link, LinkSpec, Network, Side, World, opening, opening_link, opening_router_of, place_at, place_of, side, front_at, IsNetwork, Lawful, Runs, next, Step, Deliver, Publish}
 use Rattle.no_packet_loops.proofs.WorldLaws.{Runs-shape}
 use Rattle.no_packet_loops.proofs.Wiring.{IsWired, wired}
 use Rattle.no_packet_loops.proofs.Places.{spot, Laid, laid, lay-spot}

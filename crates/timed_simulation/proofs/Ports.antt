@@ -1,10 +1,6 @@
 -- The ports of a router: one for each place, and no more than 32.
 use Rattle.std.proofs.Common.{refl, sym, ap, subst, ◌∙◌, arith, ◌≡◌, ℕ, zero, suc, ◌<◌, ◌≤◌, Bool, true, false, if◌then◌else◌, ◌==◌, eqb-true, List, [], ◌∷◌, length, Option, Some, None, option_map, option_and_then, slice_get}
-use Rattle.no_packet_loops.proofs.Common.{option_map_or, None_not_Some, Some_injective, slice_get_within, slice_get-map, range_with_len, length-map-range_with_len, opening_router_of, World, Network, Place, Item, IsNetwork, Runs, opening, places_from, side, front_at, notice_at, degree_of, place_at}
-use Rattle.network_model.specs.declared.step.Step.{Step}
-use Rattle.network_model.specs.declared.item.Notice.{Notice}
-use Rattle.network_model.specs.World.{Attachments, Side}
-use Rattle.network_model.specs.Step.{is_at_home}
+use Rattle.no_packet_loops.proofs.Common.{option_map_or, None_not_Some, Some_injective, slice_get_within, slice_get-map, range_with_len, length-map-range_with_len, opening_router_of, World, Network, Place, Item, IsNetwork, Runs, opening, places_from, side, front_at, notice_at, degree_of, place_at, Notice, Attachments, Side, is_at_home, Step}
 use Rattle.no_packet_loops.proofs.WorldLaws.{Runs-shape}
 use Rattle.world.proofs.Degrees.{few_ports}
 

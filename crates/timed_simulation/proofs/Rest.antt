@@ -1,8 +1,6 @@
 -- Nothing is left to do exactly if no change is left and the network is settled.
 use Rattle.std.proofs.Common.{refl, sym, ap, ◌∙◌, inl, inr, ◌≡◌, ℕ, Bool, true, false, MatchBool, List, [], ◌∷◌, slice_get}
-use Rattle.no_packet_loops.proofs.Common.{None_not_Some, Lawful}
-use Rattle.network_model.specs.declared.step.Step.{Step}
-use Rattle.network_model.specs.declared.step.Step.TheVariants.{LinkUp, LinkDown, SetCost, Deliver, Publish, Release, Attach, Detach}
+use Rattle.no_packet_loops.proofs.Common.{None_not_Some, Lawful, Step, LinkUp, LinkDown, SetCost, Deliver, Publish, Release, Attach, Detach}
 use Rattle.coming_to_rest.specs.Worlds.{is_own}
 use Rattle.convergence.proofs.AtRest.{rest_settled, settled_rests}
 use Rattle.timed_simulation.specs.declared.events.Change.{Change}

@@ -1,7 +1,6 @@
 -- Moments that never decrease, in lists to which something is added or from which something is taken.
 use Rattle.std.proofs.Common.{refl, sym, subst, arith, ◌≡◌, ℕ, zero, suc, ◌≤◌, ◌<◌, ◌+◌, Bool, true, false, not, nat_lt, ltb-true, ltb-false, cond, List, [], ◌∷◌, ◌++◌, drop, filter, length, insert, unwrap_or, Some, None, slice_get}
-use Rattle.std.specs.List.{prefix_len}
-use Rattle.no_packet_loops.proofs.Common.{None_not_Some, Some_injective}
+use Rattle.no_packet_loops.proofs.Common.{None_not_Some, Some_injective, prefix_len}
 use Rattle.timed_simulation.specs.declared.events.Change.{Change}
 use Rattle.timed_simulation.specs.Timed.{place_among}
 use Rattle.timed_simulation.specs.Due.{RisesFrom, UpTo}

@@ -1,9 +1,7 @@
 -- Since when a router has something to publish is written down right.
 use Rattle.std.proofs.Common.{refl, sym, ap, subst, ◌∙◌, inl, inr, eq-eqb, ◌≡◌, ◌≢◌, ◌⊎◌, ℕ, Bool, true, false, if◌then◌else◌, List, [], ◌∷◌, ◌++◌, Option, Some, None, option_map, slice_get}
-use Rattle.no_packet_loops.proofs.Common.{option_map_or, cases_eq, false≢true, None_not_Some, Some_injective, slice_get-changed_at, slice_get-changed_at_other, routers-changed_link, changed_at, with_cost, with_delivered, with_front_taken, with_message, with_noticed, with_released, router_accepting, router_at_home, router_publishing, router_releasing, front_at, notice_at, release_at, is_due, is_settled, next, opening, IsNetwork, Lawful, Runs, Held, Item, Notice, Network, Router, World}
+use Rattle.no_packet_loops.proofs.Common.{option_map_or, cases_eq, false≢true, None_not_Some, Some_injective, slice_get-changed_at, slice_get-changed_at_other, routers-changed_link, changed_at, with_cost, with_delivered, with_front_taken, with_message, with_noticed, with_released, router_accepting, router_at_home, router_publishing, router_releasing, front_at, notice_at, release_at, is_due, is_settled, next, opening, IsNetwork, Lawful, Runs, Held, Item, Notice, Network, Router, World, Step, LinkUp, LinkDown, SetCost, Deliver, Publish, Release, Attach, Detach}
 use Rattle.no_packet_loops.proofs.Wiring.{few_routers}
-use Rattle.network_model.specs.declared.step.Step.{Step}
-use Rattle.network_model.specs.declared.step.Step.TheVariants.{LinkUp, LinkDown, SetCost, Deliver, Publish, Release, Attach, Detach}
 use Rattle.convergence.proofs.AtRest.{settled_rests}
 use Rattle.world.specs.Rest.{unrest}
 use Rattle.world.proofs.Degrees.{few_links}

@@ -1,8 +1,6 @@
 -- A step that is done at a moment leaves the moments of items and of publications on time.
 use Rattle.std.proofs.Common.{refl, sym, ap, subst, ◌∙◌, arith, inl, inr, ltb-true, lt-ltb, ◌≡◌, ◌≢◌, ◌⊎◌, ℕ, ◌+◌, ◌-◌, ◌<◌, ◌≤◌, Bool, true, false, not, ◌||◌, nat_lt, if◌then◌else◌, List, [], ◌∷◌, drop, filter, length, Option, Some, None, option_map, option_and_then, slice_get}
-use Rattle.no_packet_loops.proofs.Common.{option_map_or, or_cases, false≢true, length-changed_at, None_not_Some, Some_injective, routers-changed_link, changed_at, changed_rows, with_cost, with_delivered, with_front_taken, with_item, with_message, with_noticed, with_released, link_come_up, link_gone_down, router_accepting, router_at_home, router_publishing, router_releasing, other, place_at, front_at, notice_at, release_at, is_due, is_notice, is_up_in, next, Lawful, Held, Item, Notice, Place, End, A, B, Link, Router, World}
-use Rattle.network_model.specs.declared.step.Step.{Step}
-use Rattle.network_model.specs.declared.step.Step.TheVariants.{LinkUp, LinkDown, SetCost, Deliver, Publish, Release, Attach, Detach}
+use Rattle.no_packet_loops.proofs.Common.{option_map_or, or_cases, false≢true, length-changed_at, None_not_Some, Some_injective, routers-changed_link, changed_at, changed_rows, with_cost, with_delivered, with_front_taken, with_item, with_message, with_noticed, with_released, link_come_up, link_gone_down, router_accepting, router_at_home, router_publishing, router_releasing, other, place_at, front_at, notice_at, release_at, is_due, is_notice, is_up_in, next, Lawful, Held, Item, Notice, Place, End, A, B, Link, Router, World, Step, LinkUp, LinkDown, SetCost, Deliver, Publish, Release, Attach, Detach}
 use Rattle.world.specs.Steps.{is_stale}
 use Rattle.timed_simulation.specs.declared.links.Motion.TheVariants.{Told, Cut, Put, Taken}
 use Rattle.timed_simulation.specs.declared.events.RouterTime.{RouterTime}

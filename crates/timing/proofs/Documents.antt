@@ -1,11 +1,9 @@
 -- What a document's table says of times.
-use Rattle.std.proofs.Common.{◌≡◌, ◌<◌, ℕ, ℤ, List, [], Option, Some, None, option_and_then, refl, ap, codes, ne_eqb, eq-eqb, arith, Result, Ok, Err}
+use Rattle.std.proofs.Common.{◌≡◌, ◌<◌, ℕ, ℤ, List, [], Option, Some, None, option_and_then, refl, ap, codes, ne_eqb, eq-eqb, arith, Result, Ok, Err, pos, negsuc, nat_abs, SFits}
 use Rattle.std.specs.Int.{w64, FitsUnsignedBits}
 use Rattle.std.specs.Option.{option_map_or}
 use Rattle.std.specs.Result.{OkIff, result_ok}
-use lib.IntN.{pos, negsuc, nat_abs}
 use lib.Signed.{mag}
-use mir.Val.{SFits}
 use Rattle.toml.specs.Data.{Data, integer, as_integer, Members}
 use Rattle.texts.specs.Words.{Text}
 use Rattle.scenario.specs.Scenario.{array_texts, key_count}

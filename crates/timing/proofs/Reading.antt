@@ -1,7 +1,6 @@
 -- Lines that are read to the last.
 use Rattle.std.proofs.Common.{◌≡◌, ℕ, ◌≤◌, zero, suc, List, [], ◌∷◌, All, length, String, string_bytes, Bool, true, false, not, true≢false, refl, ap, subst, arith, take_all}
-use Rattle.std.specs.List.{AllZip}
-use Rattle.script.proofs.Common.{length-map, Text, texts, ReadsFirst}
+use Rattle.script.proofs.Common.{length-map, Text, texts, ReadsFirst, AllZip}
 
 pub all_read : {X Z : Type 0} (Says : Text → X → Type 0) (lines : List (String Z)) (items : List X) (i : ℕ) → ReadsFirst Says (texts lines) items → length items ≡ i → length lines ≤ i
     → AllZip Says (texts lines) items

@@ -1,9 +1,7 @@
 -- What a trace that has passed some routers is, where it goes, and what it is by definition.
 use Rattle.std.proofs.Common.{refl, sym, ap, subst, ◌∙◌, ◌≡◌, ◌≢◌, ℕ, suc, ◌<◌, Bool, true, false, if◌then◌else◌, List, [], ◌∷◌, ◌++◌, length, Option, Some, None, IsSome, is_some, slice_get, option_and_then, append_assoc, zero}
-use Rattle.no_packet_loops.proofs.Common.{slice_get_within, Prefix, longest_match, Entry, Ending, Router, World, image_answer, Onward, Ends, Goes, Trace, row_for, entry_leads, is_crossed, by_entry, by_row, onward, traced_by, trace, trace_from, IsPacketWalk, None_not_Some, Some_injective, element_there}
+use Rattle.no_packet_loops.proofs.Common.{slice_get_within, Prefix, longest_match, Entry, Ending, Router, World, image_answer, Onward, Ends, Goes, Trace, row_for, entry_leads, is_crossed, by_entry, by_row, onward, traced_by, trace, trace_from, IsPacketWalk, None_not_Some, Some_injective, element_there, meets_twice, hop, trace_of}
 use Rattle.no_packet_loops.proofs.Traces.{by_entry-goes, trace_walk}
-use Rattle.loop_freedom.specs.Network.{meets_twice}
-use Rattle.network_model.specs.Forwarding.{hop, trace_of}
 use Rattle.network_model.specs.declared.trace.Trace.{Trace as Traced}
 use Rattle.fabric.specs.Fabric.{Fabric, ForwardsAsPublished}
 use Rattle.fabric.specs.Headline.{image_row, image_hop, none_published, IsImageWalk, IsImageWay}

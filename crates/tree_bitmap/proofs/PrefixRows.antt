@@ -1,6 +1,5 @@
 -- Rows of a tree by prefixes.
-use Rattle.std.proofs.Common.{ℕ, ◌≡◌, ◌+◌, ◌-◌, ◌*◌, ◌/◌, ◌^◌, ◌≤◌, Bool, true, false, cond, Option, Some, None, arith, refl, sym, ap, subst, ◌∙◌, shr-shr}
-use Rattle.std.proofs.lemmas.Bool.{eq-eqb, eqb-true}
+use Rattle.std.proofs.Common.{ℕ, ◌≡◌, ◌+◌, ◌-◌, ◌*◌, ◌/◌, ◌^◌, ◌≤◌, Bool, true, false, cond, Option, Some, None, arith, refl, sym, ap, subst, ◌∙◌, shr-shr, eq-eqb, eqb-true}
 use mathlib.Core.Path.{fun_ext}
 use Rattle.ipv4_prefix.specs.Prefix.{Prefix, IsPrefix, covers, prefix_eq}
 use Rattle.ipv4_prefix.specs.LongestMatch.{IsLongestIn}

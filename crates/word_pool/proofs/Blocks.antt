@@ -1,6 +1,5 @@
 -- The words of a block, and what stays of them where words are written.
-use Rattle.std.proofs.Common.{ℕ, zero, suc, ◌≡◌, ◌≢◌, ◌+◌, ◌%◌, ◌<◌, ◌≤◌, List, [], ◌∷◌, length, take, set, get_or, Option, Some, None, arith, refl, sym, ap, ◌∙◌, cond}
-use Rattle.std.proofs.lemmas.Bool.{eq-eqb, ne_eqb}
+use Rattle.std.proofs.Common.{ℕ, zero, suc, ◌≡◌, ◌≢◌, ◌+◌, ◌%◌, ◌<◌, ◌≤◌, List, [], ◌∷◌, length, take, set, get_or, Option, Some, None, arith, refl, sym, ap, ◌∙◌, cond, eq-eqb, ne_eqb}
 use Rattle.word_pool.specs.Heap.{size_of, word_of, with_word, shortened, IsAllocated, IsFreed, IsWordWritten, IsSplit}
 use Rattle.word_pool.specs.Layout.{noted}
 use Rattle.word_pool.specs.Pool.{read, sized_block}

@@ -1,6 +1,5 @@
 -- What a block's size and words are after a write, and in a block of its first words.
-use Rattle.std.proofs.Common.{ℕ, ◌≡◌, ◌≢◌, ◌<◌, ◌≤◌, List, Option, Some, None, arith, refl, get_or-set_same, get_or-set_other}
-use Rattle.std.proofs.lemmas.List.{length-set, length-take, get_or-take}
+use Rattle.std.proofs.Common.{ℕ, ◌≡◌, ◌≢◌, ◌<◌, ◌≤◌, List, Option, Some, None, arith, refl, get_or-set_same, get_or-set_other, length-set, length-take, get_or-take}
 use Rattle.word_pool.specs.Heap.{size_of, word_of, with_word, shortened}
 
 pub size-with_word : (block : Option (List ℕ)) (i word : ℕ) → size_of (with_word block i word) ≡ size_of block

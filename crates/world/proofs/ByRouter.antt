@@ -1,8 +1,6 @@
 -- Lists by router, of which one or two grow.
 use Rattle.std.proofs.Common.{refl, sym, ap, subst, ◌∙◌, arith, ◌≡◌, ℕ, zero, suc, ◌+◌, ◌<◌, ◌≤◌, Bool, true, false, ◌==◌, if◌then◌else◌, List, [], ◌∷◌, map, length, get_or, eqb-true, eq-eqb, true≢false}
-use Rattle.std.proofs.lemmas.Bool.{false_from_ne_true}
-use Rattle.no_packet_loops.proofs.Common.{range_with_len, changed_at, length-map-range_with_len, Some_injective}
-use Rattle.network_model.proofs.ListLaws.{listed_at}
+use Rattle.no_packet_loops.proofs.Common.{range_with_len, changed_at, length-map-range_with_len, Some_injective, listed_at, false_from_ne_true}
 use Rattle.link_fifo.proofs.Changes.{slice_get-read_in}
 
 -- ---- a function of the numbers

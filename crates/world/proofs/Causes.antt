@@ -1,7 +1,6 @@
 -- What a call answers that does a step by another call: it passes on why that one was refused, or is done.
 use Rattle.std.proofs.Common.{◌≡◌, ◌∙◌, true, false, Option, Some, None, Result, Ok, Err, IsErrAnd, MatchOption, is_ok, refl, ap, sym, subst}
-use Rattle.no_packet_loops.proofs.Common.{World, Refusal, Lawful, Lawful_to_refusal, refusal}
-use Rattle.network_model.specs.declared.step.Step.{Step}
+use Rattle.no_packet_loops.proofs.Common.{World, Refusal, Lawful, Lawful_to_refusal, refusal, Step}
 use Rattle.world.specs.Steps.{IsDoneOr}
 
 -- a call that is refused as another call was

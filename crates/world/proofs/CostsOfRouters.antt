@@ -1,16 +1,7 @@
 -- The costs of each router's attachments, in whichever order the attachments are met.
 use Rattle.std.proofs.Common.{refl, sym, ap, subst, ◌∙◌, arith, inl, inr, ◌≡◌, ◌⊎◌, ℕ, ◌<◌, Bool, true, false, cond, not, ◌&&◌, ◌||◌, ◌==◌, nat_lt, List, [], ◌∷◌, ◌++◌, map, filter, length, Option, Some, None, Contains, eqb-true, eq-eqb, true≢false, ltb-true, append-nil}
-use Rattle.std.specs.FinMap.{find}
-use Rattle.std.specs.FinMap.Entries.{same_entries}
 use Rattle.std.specs.List.Sorted.{IsPermutation}
-use Rattle.std.proofs.lemmas.Bool.{false_from_ne_true, or_parts}
-use Rattle.std.proofs.lemmas.List.Elements.{Contains-append_left, Contains-push}
-use Rattle.std.proofs.lemmas.List.Sorted.{Contains-permutation, IsPermutation-sym}
-use Rattle.ipv4_prefix.proofs.LongestMatches.{Contains-cases}
-use Rattle.ipv4_prefix.proofs.PrefixOrder.{prefix_cmp-tied}
-use Rattle.ipv4_prefix.proofs.SortedRows.{to_T}
-use Rattle.network_model.proofs.RowLaws.{sorted-rows_of}
-use Rattle.no_packet_loops.proofs.Common.{find-put, list_any, range_with_len, changed_at, map-append, filter-append, Contains-first, Contains-later, Prefix, prefix_cmp, prefix_eq, prefix_cmp_total, prefix_eq-Decides, Limits, BadOwner, first_cause, first_none, has_same_prefix, is_bad_attachment, attachment_causes, prefixes_of, rows_of, Some_injective, None_not_Some}
+use Rattle.no_packet_loops.proofs.Common.{find-put, list_any, range_with_len, changed_at, map-append, filter-append, Contains-first, Contains-later, Prefix, prefix_cmp, prefix_eq, prefix_cmp_total, prefix_eq-Decides, Limits, BadOwner, first_cause, first_none, has_same_prefix, is_bad_attachment, attachment_causes, prefixes_of, rows_of, Some_injective, None_not_Some, sorted-rows_of, find, same_entries, false_from_ne_true, or_parts, Contains-append_left, Contains-push, Contains-permutation, IsPermutation-sym, Contains-cases, prefix_cmp-tied, to_T}
 use Rattle.world.proofs.ByRouter.{changed_one, same_range}
 
 -- what is put at a router: the prefixes of its attachments with the costs

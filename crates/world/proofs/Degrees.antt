@@ -1,7 +1,6 @@
 -- A network that can be opened within some limits has no more of anything than they allow. So no router has more than 32 ports.
 use Rattle.std.proofs.Common.{refl, sym, ap, subst, ◌∙◌, arith, length-append, append_assoc, ◌≡◌, ℕ, suc, ◌+◌, ◌<◌, ◌≤◌, Bool, true, false, cond, not, ◌&&◌, ◌||◌, ◌==◌, nat_lt, nat_le, if◌then◌else◌, List, [], ◌∷◌, ◌++◌, length, filter, Some, None, option_map, eqb-true, true≢false, ltb-true, leb-true, append-nil}
-use Rattle.std.specs.List.{cons_option}
-use Rattle.no_packet_loops.proofs.Common.{filter-append, length-filter, A, B, LinkSpec, NetworkFault, BadRouters, BadLink, TooManyLinks, Network, places_from, first_cause, link_causes, attachment_causes, widest_limits, is_bad_link, is_link_too_many, touches, degree, most_links, network_fault, place_of, first_none, none_in_both, Limits, Prefix, BadOwner, list_any, has_same_prefix, is_bad_attachment, prefixes_of}
+use Rattle.no_packet_loops.proofs.Common.{filter-append, length-filter, A, B, LinkSpec, NetworkFault, BadRouters, BadLink, TooManyLinks, Network, places_from, first_cause, link_causes, attachment_causes, widest_limits, is_bad_link, is_link_too_many, touches, degree, most_links, network_fault, place_of, first_none, none_in_both, Limits, Prefix, BadOwner, list_any, has_same_prefix, is_bad_attachment, prefixes_of, cons_option}
 use Rattle.world.specs.Parts.{HasAtMost}
 use Rattle.world.proofs.Prefixes.{one_unless, one_more_prefix}
 

@@ -1,8 +1,6 @@
 -- Which router an entry leads to over a link that is there.
 use Rattle.std.proofs.Common.{◌≡◌, ◌∙◌, ℕ, false, Some, None, slice_get, option_map, option_and_then, if◌then◌else◌, ap}
-use Rattle.no_packet_loops.proofs.Common.{option_map_or, Place, Link, Side, World, place_at, side, other, is_up_in}
-use Rattle.network_model.specs.declared.route.Entry.{Entry}
-use Rattle.network_model.specs.Forwarding.{entry_leads}
+use Rattle.no_packet_loops.proofs.Common.{option_map_or, Place, Link, Side, World, place_at, side, other, is_up_in, Entry, entry_leads}
 
 pub leads_over : (w : World) (i q session : ℕ) (p : Place) → place_at w i q ≡ Some p → (k : Link) → slice_get w.links p.link ≡ Some k
     → entry_leads w i (Entry.Via q session) ≡ (if is_up_in session k then Some (side (other p.end) k).router else None)

@@ -1,7 +1,6 @@
 -- The faults of a network, one link or attachment after another.
 use Rattle.std.proofs.Common.{refl, sym, ap, ◌∙◌, arith, add-one, ◌≡◌, ℕ, suc, ◌+◌, ◌<◌, ◌≤◌, Bool, true, false, not, ◌&&◌, nat_le, List, [], ◌∷◌, ◌++◌, take, drop, length, get_or, Option, Some, None, is_some, if◌then◌else◌, true≢false, lt-ltb, le-leb, length-take-le}
-use Rattle.std.proofs.Math.Seq.{take-suc, drop-cons}
-use Rattle.no_packet_loops.proofs.Common.{drop_all, list_any, has_same_ends, Prefix, LinkSpec, NetworkFault, BadRouters, BadLink, TooManyLinks, BadOwner, first_cause, link_causes, attachment_causes, is_bad_link, is_link_too_many, is_bad_attachment, network_fault, Limits, first_cause-some, first_cause-none}
+use Rattle.no_packet_loops.proofs.Common.{drop_all, list_any, has_same_ends, Prefix, LinkSpec, NetworkFault, BadRouters, BadLink, TooManyLinks, BadOwner, first_cause, link_causes, attachment_causes, is_bad_link, is_link_too_many, is_bad_attachment, network_fault, Limits, first_cause-some, first_cause-none, take-suc, drop-cons}
 use Rattle.world.specs.Parts.{network_of_parts}
 
 -- ---- causes before others

@@ -1,12 +1,8 @@
 -- Sets of what was given, as one attachment more is given.
 use Rattle.std.proofs.Common.{refl, sym, ap, ◌∙◌, arith, ◌≡◌, ℕ, ◌+◌, Bool, true, false, cond, not, ◌&&◌, ◌||◌, ◌==◌, if◌then◌else◌, List, [], ◌∷◌, ◌++◌, length}
-use Rattle.std.specs.declared.cmp.Ordering.{Ordering}
-use Rattle.std.specs.declared.cmp.Ordering.TheVariants.{Less, Equal, Greater}
-use Rattle.std.specs.Ordering.{is_eq, nat_cmp, ordering_then}
 use Rattle.std.specs.BTreeMap.{is_at}
 use Rattle.std.specs.BTreeSet.{contains}
-use Rattle.std.proofs.lemmas.Bool.Decides.{nat_tests}
-use Rattle.no_packet_loops.proofs.Common.{list_any, list_any-append, Prefix, prefix_cmp, prefix_eq}
+use Rattle.no_packet_loops.proofs.Common.{list_any, list_any-append, Prefix, prefix_cmp, prefix_eq, Ordering, Less, Equal, Greater, is_eq, nat_cmp, ordering_then, nat_tests}
 use Rattle.world.specs.Given.{pair_cmp, IsGiven}
 use Rattle.world.specs.declared.attachment_faults.Given.{Given}
 use Rattle.world.proofs.Prefixes.{one_unless, one_more_prefix}

@@ -1,7 +1,6 @@
 -- Runs that go on from a world to which a run of a network led.
 use Rattle.std.proofs.Common.{List, ◌++◌}
-use Rattle.network_model.specs.declared.step.Step.{Step}
-use Rattle.no_packet_loops.proofs.Common.{Network, World, opening, Runs}
+use Rattle.no_packet_loops.proofs.Common.{Network, World, opening, Runs, Step}
 use Rattle.all_packets.proofs.Ways.{always_no_circles}
 use Rattle.quiet_routes.proofs.Routes.{quiet_routes}
 use Rattle.convergence.proofs.Converging.{always_converges, runs_append}

@@ -1,13 +1,7 @@
 -- The links that touch each router, and what a link finds among them.
 use Rattle.std.proofs.Common.{refl, sym, ap, ◌∙◌, arith, ◌≡◌, ℕ, suc, ◌+◌, ◌<◌, Bool, true, false, cond, not, ◌&&◌, ◌||◌, ◌==◌, nat_lt, List, [], ◌∷◌, ◌++◌, map, filter, length, Option, Some, None, option_map, if◌then◌else◌, append-nil, get_or, eqb-true, eq-eqb, true≢false, ltb-true}
-use Rattle.std.specs.List.{cons_option}
-use Rattle.std.proofs.Math.Bool.{or-true}
-use Rattle.std.proofs.lemmas.Bool.{and_parts, false≢true, false_from_ne_true}
-use Rattle.no_packet_loops.proofs.Common.{list_any, range_with_len, changed_at, filter-append, length-filter, A, B, End, LinkSpec, touches, degree, has_same_ends, is_bad_link, is_link_too_many, places_from, Limits, Network, IsNetwork}
-use Rattle.network_model.specs.World.{own_end}
-use Rattle.std.proofs.lemmas.Option.{slice_get_read}
+use Rattle.no_packet_loops.proofs.Common.{list_any, range_with_len, changed_at, filter-append, length-filter, A, B, End, LinkSpec, touches, degree, has_same_ends, is_bad_link, is_link_too_many, places_from, Limits, Network, IsNetwork, or-true, slice_get_read, place_of, cons_option, and_parts, false≢true, false_from_ne_true, own_end}
 use Rattle.no_packet_loops.proofs.Wiring.{wired}
-use Rattle.network_model.proofs.PortPlaces.{place_of}
 use Rattle.world.proofs.ByRouter.{changed_two}
 
 -- ---- a link that joins the same routers

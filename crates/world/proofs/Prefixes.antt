@@ -1,12 +1,6 @@
 -- How many prefixes attachments are of, one attachment after another, and which.
-use Rattle.std.proofs.Common.{refl, sym, ap, ◌∙◌, arith, ◌≡◌, ℕ, suc, ◌+◌, ◌-◌, ◌<◌, ◌≤◌, Bool, true, false, cond, ◌||◌, List, [], ◌∷◌, ◌++◌, map, length, drop, get_or, if◌then◌else◌, length-drop}
-use Rattle.std.proofs.lemmas.List.{reverse-append}
-use mathlib.Core.List.{reverse}
-use Rattle.no_packet_loops.proofs.Common.{list_any, length-map, map-append, list_any-append, Prefix, prefix_cmp, prefix_eq, prefix_cmp_total, prefix_eq-Decides, distinct, prefixes_of, rows_of, has_same_prefix, sorted-rows_of}
-use Rattle.std.specs.Ordering.{is_eq, ordering_reverse}
-use Rattle.std.specs.declared.cmp.Ordering.{Ordering}
-use Rattle.std.specs.declared.cmp.Ordering.TheVariants.{Less, Equal, Greater}
-use Rattle.std.proofs.Math.Seq.{drop-cons}
+use Rattle.std.proofs.Common.{refl, sym, ap, ◌∙◌, arith, ◌≡◌, ℕ, suc, ◌+◌, ◌-◌, ◌<◌, ◌≤◌, Bool, true, false, cond, ◌||◌, List, [], ◌∷◌, ◌++◌, map, length, drop, get_or, if◌then◌else◌, length-drop, reverse}
+use Rattle.no_packet_loops.proofs.Common.{list_any, length-map, map-append, list_any-append, Prefix, prefix_cmp, prefix_eq, prefix_cmp_total, prefix_eq-Decides, distinct, prefixes_of, rows_of, has_same_prefix, sorted-rows_of, reverse-append, is_eq, ordering_reverse, Ordering, Less, Equal, Greater, drop-cons}
 use Rattle.route_table.proofs.Kept.{length-put_at_most}
 
 -- the test does not ask which prefix comes first

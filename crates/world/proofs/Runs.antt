@@ -1,8 +1,6 @@
 -- Runs by more steps, and the room that a run leaves for generations.
 use Rattle.std.proofs.Common.{refl, sym, subst, arith, ◌≡◌, ℕ, zero, suc, ◌+◌, ◌<◌, ◌^◌, List, [], ◌∷◌, ◌++◌, map, length, get_or, All}
-use Rattle.no_packet_loops.proofs.Common.{range_with_len, Item, End, changed_at, Link, Router, Network, World, opening, opening_router_of, Lawful, next, changed_router, changed_link, with_cost, with_front_taken, with_message, with_delivered, with_noticed, with_released, front_at, notice_at, release_at, changed_attachments, with_notice_taken, router_accepting, router_at_home, router_publishing, router_releasing, Runs, option_map_or-ind, routers-changed_link}
-use Rattle.network_model.specs.declared.step.Step.{Step}
-use Rattle.network_model.specs.declared.step.Step.TheVariants.{LinkUp, LinkDown, SetCost, Deliver, Publish, Release, Attach, Detach}
+use Rattle.no_packet_loops.proofs.Common.{range_with_len, Item, End, changed_at, Link, Router, Network, World, opening, opening_router_of, Lawful, next, changed_router, changed_link, with_cost, with_front_taken, with_message, with_delivered, with_noticed, with_released, front_at, notice_at, release_at, changed_attachments, with_notice_taken, router_accepting, router_at_home, router_publishing, router_releasing, Runs, option_map_or-ind, routers-changed_link, Step, LinkUp, LinkDown, SetCost, Deliver, Publish, Release, Attach, Detach}
 use Rattle.convergence.proofs.Converging.{runs_append}
 use Rattle.world.specs.Steps.{HasRoomForSteps}
 

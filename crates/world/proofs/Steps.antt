@@ -1,8 +1,6 @@
 -- A lawful step leaves a world whose ports and links fit together one that does.
 use Rattle.std.proofs.Common.{refl, sym, ap, subst, ◌∙◌, ◌≡◌, ℕ, zero, suc, ◌<◌, Bool, true, false, ◌==◌, List, [], ◌∷◌, drop, length, Option, Some, None, slice_get, option_map, option_and_then, eqb-true, eq-eqb, true≢false}
-use Rattle.no_packet_loops.proofs.Common.{option_map_or, Item, End, Place, Port, changed_at, Side, Link, Router, Attachments, World, place_at, link_at, side, Lawful, next, link_come_up, link_gone_down, with_cost, with_message, with_front_taken, changed_link, changed_router, changed_attachments, with_delivered, with_noticed, with_released, with_attachment, without_attachment, with_notice_taken, router_accepting, router_at_home, router_publishing, router_releasing, front_at, notice_at, release_at, length-changed_at, slice_get-changed_at, slice_get-changed_at_other, option_map_or-ind, Some_injective, None_not_Some}
-use Rattle.network_model.specs.declared.step.Step.{Step}
-use Rattle.network_model.specs.declared.step.Step.TheVariants.{LinkUp, LinkDown, SetCost, Deliver, Publish, Release, Attach, Detach}
+use Rattle.no_packet_loops.proofs.Common.{option_map_or, Item, End, Place, Port, changed_at, Side, Link, Router, Attachments, World, place_at, link_at, side, Lawful, next, link_come_up, link_gone_down, with_cost, with_message, with_front_taken, changed_link, changed_router, changed_attachments, with_delivered, with_noticed, with_released, with_attachment, without_attachment, with_notice_taken, router_accepting, router_at_home, router_publishing, router_releasing, front_at, notice_at, release_at, length-changed_at, slice_get-changed_at, slice_get-changed_at_other, option_map_or-ind, Some_injective, None_not_Some, Step, LinkUp, LinkDown, SetCost, Deliver, Publish, Release, Attach, Detach}
 use Rattle.world.specs.Kept.{ItemsLead, IsWorld}
 use Rattle.world.proofs.Inboxes.{KeepsLeading, come_up-keeps, gone_down-keeps, with_cost-keeps, with_message-keeps}
 

@@ -1,7 +1,6 @@
 -- What a step leaves as it was: each link but the one that it touches, and each router, with its attachments, but those that it touches.
-use Rattle.std.proofs.Common.{refl, ap, subst, sym, ◌∙◌, ◌≡◌, ◌≢◌, ℕ, Option, Some, None, option_map, slice_get}
+use Rattle.std.proofs.Common.{refl, ap, subst, sym, ◌∙◌, ◌≡◌, ◌≢◌, ℕ, Option, Some, None, option_map, slice_get, option_and_then}
 use Rattle.std.specs.Option.{option_map_or}
-use Rattle.std.specs.Prelude.{option_and_then}
 use Rattle.network_model.specs.declared.item.Held.{Held}
 use Rattle.network_model.specs.declared.network.End.{End}
 use Rattle.network_model.specs.declared.network.Place.{Place}

@@ -1,5 +1,4 @@
-use Rattle.std.proofs.Common.{◌≡◌, ◌+◌, ◌<◌, ◌∙◌, length, slice_index, refl, arith, sym, ap, subst}
-use Rattle.std.proofs.lemmas.List.{length-set}
+use Rattle.std.proofs.Common.{◌≡◌, ◌+◌, ◌<◌, ◌∙◌, length, slice_index, refl, arith, sym, ap, subst, length-set}
 use Rattle.array_bitmap.specs.Image.{cells_of}
 use Rattle.array_bitmap.specs.Tree.{words_at}
 use Rattle.array_bitmap.specs.Blocks.{IsHead}

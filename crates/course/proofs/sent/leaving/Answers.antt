@@ -1,6 +1,5 @@
 use Rattle.std.proofs.Common.{◌≡◌, ◌∙◌, None, Some, IfSome, slice_get, sym, ap, subst, option_and_then}
-use Rattle.no_packet_loops.proofs.Common.{Held, Link, World, place_at, release_at, ripe_front}
-use Rattle.network_model.specs.declared.step.Step.TheVariants.{Release}
+use Rattle.no_packet_loops.proofs.Common.{Held, Link, World, place_at, release_at, ripe_front, Release}
 use Rattle.course.specs.Counts.{leaving}
 use Rattle.course.proofs.Elements.{read_at}
 use Rattle.course.proofs.Leaving.{leaving_down, leaving_stale, leaving_up, link_there}

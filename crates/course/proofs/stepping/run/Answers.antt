@@ -1,7 +1,5 @@
 use Rattle.std.proofs.Common.{◌≡◌, ◌+◌, ◌++◌, [], ◌∷◌, take, sym, ap, subst, ◌∙◌, arith, add-one}
-use Rattle.std.proofs.Math.Seq.{take-suc}
-use Rattle.network_model.specs.declared.step.Step.{Step}
-use Rattle.no_packet_loops.proofs.Common.{Lawful, Runs}
+use Rattle.no_packet_loops.proofs.Common.{Lawful, Runs, take-suc, Step}
 use Rattle.world.proofs.Runs.{with_last_step}
 use Rattle.course.specs.Course.{Course, course_after, course_after_all}
 use Rattle.course.proofs.Courses.{after_push}

@@ -1,5 +1,4 @@
-use Rattle.std.proofs.Common.{◌+◌, ◌<◌, ◌∙◌, arith, sym, ap, subst, refl, drop, length}
-use Rattle.std.proofs.lemmas.List.{drop-set-lt, length-set}
+use Rattle.std.proofs.Common.{◌+◌, ◌<◌, ◌∙◌, arith, sym, ap, subst, refl, drop, length, drop-set-lt, length-set}
 use Rattle.minima.specs.Trees.{HasLeastBut}
 use Rattle.minima.proofs.Written.{climbed, climbed_all, leaf_written, parent_there}
 use Rattle.minima.proofs.tree.write.Goals as goal

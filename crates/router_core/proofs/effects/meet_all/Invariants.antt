@@ -1,6 +1,5 @@
 use Rattle.std.proofs.Common.{◌≡◌, ◌≤◌, ◌+◌, ◌*◌, ◌++◌, take, drop, length, All, IsSome}
-use Rattle.std.specs.FinMap.{find as row_of}
-use Rattle.network_model.proofs.Common.{prefix_cmp, with_rows}
+use Rattle.network_model.proofs.Common.{prefix_cmp, with_rows, find as row_of}
 use Rattle.router_core.specs.Parts.{machines_of}
 use Rattle.router_core.proofs.Meetings.{reacted, sent, chosen}
 use Rattle.router_core.proofs.effects.meet_all.Given as goal

@@ -1,5 +1,4 @@
-use Rattle.std.proofs.Common.{◌+◌, ◌≤◌, length, map, take_all, sym, subst, ap, ◌∙◌, arith}
-use Rattle.std.specs.Prelude.{is_some}
+use Rattle.std.proofs.Common.{◌+◌, ◌≤◌, length, map, take_all, sym, subst, ap, ◌∙◌, arith, is_some}
 use Rattle.std.specs.FinMap.{find as row_of, put}
 use Rattle.std.specs.List.{list_any}
 use Rattle.ipv4_prefix.specs.Prefix.{prefix_cmp, prefix_eq}

@@ -1,5 +1,4 @@
-use Rattle.std.proofs.Common.{◌≡◌, ◌∙◌, ℕ, [], ◌∷◌, Some, ap, map}
-use Rattle.std.specs.Prelude.{codes}
+use Rattle.std.proofs.Common.{◌≡◌, ◌∙◌, ℕ, [], ◌∷◌, Some, ap, map, codes}
 use Rattle.std.specs.List.{range_with_len}
 use Rattle.network_model.specs.declared.network.LinkSpec.{LinkSpec}
 use Rattle.serde_json.specs.Data.{Data, Members, no_members, object, put}

@@ -1,5 +1,4 @@
-use Rattle.std.proofs.Common.{◌∙◌, ◌++◌, ℕ, ap, refl, map, length, arith}
-use Rattle.std.proofs.lemmas.List.{take_all}
+use Rattle.std.proofs.Common.{◌∙◌, ◌++◌, ℕ, ap, refl, map, length, arith, take_all}
 use Rattle.std.proofs.lemmas.Option.{slice_get_read}
 use Rattle.serde_json.specs.View.{view}
 use Rattle.run_states.specs.declared.router_book.RouterChange.{RouterChange}

@@ -1,5 +1,4 @@
-use Rattle.std.proofs.Common.{◌∙◌, ◌++◌, ℕ, ap, append_assoc, refl, map, length, arith}
-use Rattle.std.proofs.lemmas.List.{take_all}
+use Rattle.std.proofs.Common.{◌∙◌, ◌++◌, ℕ, ap, append_assoc, refl, map, length, arith, take_all}
 use Rattle.std.proofs.lemmas.Option.{slice_get_read}
 use Rattle.network_model.specs.declared.network.End.{End}
 use Rattle.serde_json.specs.View.{view}

@@ -1,6 +1,5 @@
 use Rattle.std.proofs.Common.{rules, ◌≡◌, ◌∙◌, ◌<◌, Some, Err, IsOk, IsSome, MatchOption, length, vec_len, slice_get, refl, sym, ap, subst, arith}
-use Rattle.no_packet_loops.proofs.Common.{Lawful, Lawful_to_refusal, World, Refusal}
-use Rattle.network_model.specs.declared.step.Step.TheVariants.{Publish}
+use Rattle.no_packet_loops.proofs.Common.{Lawful, Lawful_to_refusal, World, Refusal, Publish}
 use Rattle.world.specs.Steps.{IsDoneOr}
 use Rattle.world.proofs.Done.{memory_lacked}
 use Rattle.course.specs.Course.{Course, course_after, course_refusal}

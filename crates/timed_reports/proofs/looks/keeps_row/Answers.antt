@@ -1,7 +1,5 @@
 use Rattle.std.proofs.Common.{◌∙◌, sym, ap, option_and_then}
-use Rattle.std.specs.FinMap.{find as row_of}
-use Rattle.no_packet_loops.proofs.Common.{prefix_cmp, Router}
-use Rattle.network_model.specs.World.{Table}
+use Rattle.no_packet_loops.proofs.Common.{prefix_cmp, Router, Table, find as row_of}
 use Rattle.timed_reports.proofs.looks.keeps_row.Goals as goal
 
 pub returns : goal.returns

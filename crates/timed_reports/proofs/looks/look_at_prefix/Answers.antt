@@ -1,7 +1,5 @@
 use Rattle.std.proofs.Common.{◌≡◌, ◌∙◌, ◌+◌, ◌*◌, ◌<◌, ◌≤◌, ℕ, List, Some, false, arith, length, refl, sym, ap, subst, get_or}
-use Rattle.no_packet_loops.proofs.Common.{element_there}
-use Rattle.ipv4_prefix.specs.Prefix.{Prefix}
-use Rattle.network_model.specs.World.{Router}
+use Rattle.no_packet_loops.proofs.Common.{element_there, Prefix, Router}
 use Rattle.reachability.specs.Ways.{IsCutOff}
 use Rattle.timed_reports.specs.declared.spells.Watched.{Watched}
 use Rattle.timed_reports.specs.Looks.{IsUnmarked}

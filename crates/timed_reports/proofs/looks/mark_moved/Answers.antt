@@ -1,6 +1,5 @@
 use Rattle.std.proofs.Common.{◌≡◌, ◌∙◌, List, Some, arith, refl, sym, ap, length, slice_get}
-use Rattle.std.proofs.lemmas.Option.{slice_get_read, slice_get_within}
-use Rattle.no_packet_loops.proofs.Common.{false≢true, Prefix, World}
+use Rattle.no_packet_loops.proofs.Common.{false≢true, Prefix, World, slice_get_read, slice_get_within}
 use Rattle.timed_reports.proofs.Marking.{marked_more}
 use Rattle.timed_reports.proofs.looks.mark_moved.Goals as goal
 

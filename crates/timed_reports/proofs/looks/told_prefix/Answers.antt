@@ -1,6 +1,5 @@
 use Rattle.std.proofs.Common.{◌≡◌, ◌∙◌, List, Some, Ok, refl, sym, ap, subst, slice_get}
-use Rattle.no_packet_loops.proofs.Common.{Link, World, place_at}
-use Rattle.network_model.specs.declared.step.Step.{Step}
+use Rattle.no_packet_loops.proofs.Common.{Link, World, place_at, Step}
 use Rattle.link_fifo.specs.Refusals.{front_of}
 use Rattle.timed_reports.specs.Looks.{IsToldPrefix}
 use Rattle.timed_reports.proofs.Machines.{front_there}

@@ -1,6 +1,4 @@
-use Rattle.std.proofs.Common.{arith, sym, ap, ◌∙◌, Bool, if◌then◌else◌, length, set}
-use Rattle.std.proofs.lemmas.Bool.{le-ltb, lt-ltb}
-use Rattle.std.proofs.lemmas.List.{length-set}
+use Rattle.std.proofs.Common.{arith, sym, ap, ◌∙◌, Bool, if◌then◌else◌, length, set, le-ltb, lt-ltb, length-set}
 use Rattle.timed_simulation.specs.Timed.{world_of}
 use Rattle.timed_simulation.specs.Next.{next_moment}
 use Rattle.timed_simulation.proofs.again.look_at.Goals as goal

@@ -1,8 +1,7 @@
-use Rattle.std.proofs.Common.{◌≡◌, ◌∙◌, Some, ap, refl, sym}
+use Rattle.std.proofs.Common.{◌≡◌, ◌∙◌, Some, ap, refl, sym, SFits}
 use Rattle.std.specs.Int.{w64}
 use Rattle.std.specs.Option.{option_map_or}
 use Rattle.std.proofs.Math.Facts.{to_z-of_z}
-use mir.Val.{SFits}
 use Rattle.toml.specs.Data.{Data, Members, get_member}
 use Rattle.texts.specs.Words.{Text}
 use Rattle.toml.specs.View.{table_view, view}

@@ -1,7 +1,6 @@
 use Rattle.std.proofs.Common.{◌≡◌, false, length, string_bytes, arith}
 use Rattle.coming_to_rest.specs.Worlds.{is_own}
-use Rattle.script.proofs.Common.{length-map}
-use Rattle.texts.specs.Words.{texts}
+use Rattle.script.proofs.Common.{length-map, texts}
 use Rattle.timed_simulation.specs.declared.events.Change.{Change}
 use Rattle.timing.specs.Lines.{SaysChange}
 use Rattle.timing.proofs.Reading.{all_said, zip_length}

@@ -1,7 +1,5 @@
 use Rattle.std.proofs.Common.{◌≡◌, ◌∙◌, ◌<◌, false, length}
-use Rattle.network_model.specs.Forwarding.{trace, trace_of}
-use Rattle.no_packet_loops.proofs.Common.{IfOk-weaker, IsPacketWalk, meets_twice}
-use Rattle.ipv4_prefix.specs.Prefix.{Prefix}
+use Rattle.no_packet_loops.proofs.Common.{IfOk-weaker, IsPacketWalk, meets_twice, Prefix, trace, trace_of}
 use Rattle.fabric.specs.Headline.{IsImageWalk, none_published}
 use Rattle.tracer.specs.Following.{followed_way}
 use Rattle.tracer.proofs.Walks.{is_trace, trace_twice, traces_walk, walk_in_force}

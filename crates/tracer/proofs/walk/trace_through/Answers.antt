@@ -1,7 +1,5 @@
 use Rattle.std.proofs.Common.{◌≡◌, ◌≢◌, ◌∙◌, ◌<◌, true, false, length}
-use Rattle.network_model.specs.Forwarding.{trace_of}
-use Rattle.network_model.specs.declared.trace.Ending.{Ending}
-use Rattle.no_packet_loops.proofs.Common.{IfOk-weaker, meets_twice}
+use Rattle.no_packet_loops.proofs.Common.{IfOk-weaker, meets_twice, Ending, trace_of}
 use Rattle.fabric.specs.Headline.{IsImageWay, none_published}
 use Rattle.all_packets.specs.Packets.{IsWay}
 use Rattle.all_packets.specs.Through.{through}

@@ -1,6 +1,5 @@
 use Rattle.std.proofs.Common.{refl, ◌≡◌, ◌+◌, ◌++◌, ◌∷◌, [], sym, ap, ◌∙◌, arith, map, take, filter, get_or, add-one}
-use Rattle.std.proofs.Math.Seq.{take-suc}
-use Rattle.no_packet_loops.proofs.Common.{range_with_len, changed_at, touches}
+use Rattle.no_packet_loops.proofs.Common.{range_with_len, changed_at, touches, take-suc}
 use Rattle.world.proofs.ByRouter.{made_at, made_count}
 use Rattle.world.proofs.Faults.{bad_link_first, link_fault_first, no_fault_here, link_causes_from-end}
 use Rattle.world.proofs.LinksAtRouters.{HasEnds, bad_ends, bad_by_twin, good_ends, lists_with_link}

@@ -1,8 +1,6 @@
 use Rattle.std.proofs.Common.{◌≡◌, ◌+◌, ◌<◌, ◌++◌, ◌∷◌, [], sym, ap, subst, ◌∙◌, arith, map, take, add-one, take_all, Contains}
 use Rattle.std.specs.List.Sorted.{IsPermutation}
-use Rattle.std.proofs.Math.Seq.{take-suc}
-use Rattle.std.proofs.lemmas.List.Sorted.{Contains-permutation, IsPermutation-sym}
-use Rattle.no_packet_loops.proofs.Common.{range_with_len, changed_at, widest_limits}
+use Rattle.no_packet_loops.proofs.Common.{range_with_len, changed_at, widest_limits, take-suc, Contains-permutation, IsPermutation-sym}
 use Rattle.world.proofs.ByRouter.{made_count}
 use Rattle.world.proofs.CostsOfRouters.{own_rows, own_more, known_router, are_apart, costs_made}
 use Rattle.world.proofs.Degrees.{parts_fine}

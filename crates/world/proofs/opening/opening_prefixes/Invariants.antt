@@ -1,5 +1,4 @@
-use Rattle.std.proofs.Common.{◌≡◌, drop, map}
-use mathlib.Core.List.{reverse}
+use Rattle.std.proofs.Common.{◌≡◌, drop, map, reverse}
 use Rattle.std.specs.BTreeSet.{contains}
 use Rattle.no_packet_loops.proofs.Common.{Prefix, prefix_cmp, prefix_eq, list_any, prefixes_of}
 use Rattle.world.proofs.opening.opening_prefixes.Given as goal

@@ -1,10 +1,8 @@
-use Rattle.std.proofs.Common.{◌≡◌, ℕ, List, ◌∙◌, ◌++◌, ◌∷◌, [], Some, ap, sym, length, option_map, slice_get, arith}
+use Rattle.std.proofs.Common.{◌≡◌, ℕ, List, ◌∙◌, ◌++◌, ◌∷◌, [], Some, ap, sym, length, option_map, slice_get, arith, option_and_then, take_all}
 use Rattle.std.specs.Option.{option_map_or}
-use Rattle.std.specs.Prelude.{option_and_then}
 use Rattle.std.proofs.lemmas.Option.{none-some}
 use Rattle.network_model.specs.World.{Attachments}
 use Rattle.network_model.proofs.ListLaws.{element_there}
-use Rattle.std.proofs.lemmas.List.{take_all}
 use Rattle.network_model.proofs.Fronts.{if_some, take_next}
 use Rattle.world.proofs.queue.notices_at.Goals as goal
 use Rattle.world.proofs.queue.notices_at.Goals.{in-Some+in_ok-push, in_default}

@@ -1,7 +1,5 @@
 use Rattle.std.proofs.Common.{rules, Ok, Err, Result, None, ◌≡◌, ◌+◌, ◌<◌, ◌≤◌, ◌++◌, [], ◌∷◌, length, vec_len, length-append, refl, sym, ap, subst, ◌∙◌, arith, Some, IsOk, IsSome, MatchOption, false, is_some, slice_get, vec_capacity, set}
-use Rattle.no_packet_loops.proofs.Common.{IsNetwork, false≢true, err_from_is_err_and, most_steps, Lawful, next, refusal, Refusal, release_at, Lawful_to_refusal, None_not_Some}
-use Rattle.network_model.specs.declared.step.Step.{Step}
-use Rattle.network_model.specs.declared.step.Step.TheVariants.{Publish}
+use Rattle.no_packet_loops.proofs.Common.{IsNetwork, false≢true, err_from_is_err_and, most_steps, Lawful, next, refusal, Refusal, release_at, Lawful_to_refusal, None_not_Some, Step, Publish}
 use Rattle.router_core.proofs.Refused.{gave_up, not_ok}
 use Rattle.world.specs.Steps.{DeliveryNeedsMemory, HasRoomForSteps, is_stale}
 use Rattle.world.proofs.Done.{memory_lacked, not_caused, only_cause}

@@ -1,6 +1,5 @@
 use Rattle.std.proofs.Common.{◌≡◌, None, MatchBool, OnErr, OnOk, sym, subst}
-use Rattle.no_packet_loops.proofs.Common.{Lawful}
-use Rattle.network_model.specs.declared.step.Step.TheVariants.{Publish}
+use Rattle.no_packet_loops.proofs.Common.{Lawful, Publish}
 use Rattle.fabric.specs.Fabric.{Fabric, after_step, with_lent}
 use Rattle.fabric.proofs.fabric.Fabric.give_back.Goals as goal
 

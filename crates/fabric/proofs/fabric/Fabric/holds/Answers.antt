@@ -1,6 +1,5 @@
-use Rattle.std.proofs.Common.{subst}
+use Rattle.std.proofs.Common.{subst, vec_capacity}
 use Rattle.no_packet_loops.proofs.Common.{IsNetwork}
-use Rattle.std.specs.Prelude.{vec_capacity}
 use Rattle.fabric.specs.Writers.{fabric_seen}
 use Rattle.fabric.proofs.Headline.{never_twice}
 use Rattle.fabric.proofs.WritersOut.{lent_due}

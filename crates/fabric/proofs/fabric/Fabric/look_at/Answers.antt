@@ -1,5 +1,4 @@
-use Rattle.std.proofs.Common.{◌≡◌, ◌∙◌, length, sym, ap, subst}
-use Rattle.std.specs.Prelude.{vec_capacity}
+use Rattle.std.proofs.Common.{◌≡◌, ◌∙◌, length, sym, ap, subst, vec_capacity}
 use Rattle.course.specs.Course.{Course}
 use Rattle.fabric.specs.Writers.{FitTogether, fabric_seen}
 use Rattle.fabric.proofs.fabric.Fabric.look_at.Goals as goal

@@ -1,6 +1,5 @@
 use Rattle.std.proofs.Common.{rules, ◌≡◌, ◌∙◌, ◌+◌, ◌<◌, length, vec_len, None, Some, refl, sym, ap, subst, arith, IsSome, false, is_some, option_map, slice_get, set, vec_capacity}
-use Rattle.no_packet_loops.proofs.Common.{IsNetwork, slice_get-map, most_steps, Patch}
-use Rattle.network_model.specs.declared.step.Step.TheVariants.{Publish}
+use Rattle.no_packet_loops.proofs.Common.{IsNetwork, slice_get-map, most_steps, Patch, Publish}
 use Rattle.image_patch.specs.Patches.{patched}
 use Rattle.world.specs.Steps.{HasRoomForSteps}
 use Rattle.world.proofs.Done.{memory_lacked, not_caused}

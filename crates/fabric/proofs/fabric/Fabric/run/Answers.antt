@@ -1,7 +1,5 @@
 use Rattle.std.proofs.Common.{◌≡◌, ◌+◌, ◌++◌, [], ◌∷◌, Some, slice_get, length, refl, take, sym, ap, subst, ◌∙◌, arith, add-one, append_assoc, rules}
-use Rattle.std.proofs.Math.Seq.{take-suc}
-use Rattle.network_model.specs.declared.step.Step.{Step}
-use Rattle.no_packet_loops.proofs.Common.{Lawful, Runs, slice_get_read}
+use Rattle.no_packet_loops.proofs.Common.{Lawful, Runs, slice_get_read, take-suc, Step}
 use Rattle.world.specs.Steps.{CanBeRefused}
 use Rattle.fabric.specs.Fabric.{Fabric, after_step, fabric_refusal}
 use Rattle.course.proofs.Courses.{refused_as}

@@ -1,7 +1,5 @@
 use Rattle.std.proofs.Common.{rules, ◌≡◌, ◌∙◌, ◌+◌, ◌<◌, ◌≤◌, ◌++◌, [], ◌∷◌, length, length-append, vec_len, None, Some, refl, sym, ap, subst, arith, true, false, IsOk, MatchBool, MatchOption, Err, slice_get, set, vec_capacity}
-use Rattle.no_packet_loops.proofs.Common.{false≢true, slice_get_past, err_from_is_err_and, Lawful, next, Lawful_to_refusal, None_not_Some}
-use Rattle.network_model.specs.declared.step.Step.TheVariants.{Publish}
-use Rattle.network_model.specs.Journal.{Fits, most_steps, step_number}
+use Rattle.no_packet_loops.proofs.Common.{false≢true, slice_get_past, err_from_is_err_and, Lawful, next, Lawful_to_refusal, None_not_Some, Publish, Fits, most_steps, step_number}
 use Rattle.router_core.proofs.Refused.{gave_up}
 use Rattle.publication.specs.Lists.{Writing}
 use Rattle.publication.proofs.Places.{each_there}

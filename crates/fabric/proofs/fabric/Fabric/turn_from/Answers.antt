@@ -1,5 +1,4 @@
-use Rattle.std.proofs.Common.{◌≡◌, ◌∙◌, ◌<◌, List, Some, IfSome, length, sym, ap, subst}
-use Rattle.std.specs.Prelude.{vec_capacity}
+use Rattle.std.proofs.Common.{◌≡◌, ◌∙◌, ◌<◌, List, Some, IfSome, length, sym, ap, subst, vec_capacity}
 use Rattle.course.specs.Course.{Course}
 use Rattle.course.specs.Turns.{open_step}
 use Rattle.fabric.specs.Desks.{Desk, all_lent}

@@ -1,5 +1,4 @@
-use Rattle.std.proofs.Common.{ap, sym, ◌∙◌}
-use Rattle.std.specs.Prelude.{option_copied}
+use Rattle.std.proofs.Common.{ap, sym, ◌∙◌, option_copied}
 use Rattle.interpreter.proofs.Crossings.{crossing_from}
 use Rattle.interpreter.proofs.counted.Counted.crossing.Goals as goal
 

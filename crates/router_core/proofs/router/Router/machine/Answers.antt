@@ -1,7 +1,5 @@
 use Rattle.std.proofs.Common.{◌≡◌, true, Ok, Err, sym, ap, subst, ◌∙◌}
-use Rattle.std.specs.Option.{option_map}
-use Rattle.std.specs.FinMap.{find as row_of, is_sorted}
-use Rattle.network_model.proofs.Common.{prefix_cmp, sorted-map, find-map}
+use Rattle.network_model.proofs.Common.{prefix_cmp, sorted-map, find-map, option_map, find as row_of, is_sorted}
 use Rattle.dual_machine.specs.State.{MachineState}
 use Rattle.route_table.specs.Place.{IsPlace}
 use Rattle.route_table.proofs.PrefixPlaces.{found_row, missed_row}

@@ -1,7 +1,5 @@
 use Rattle.std.proofs.Common.{◌≡◌, length, Some, sym, ap, subst, ◌∙◌, rules}
-use Rattle.std.specs.Option.{option_map, option_copied}
-use Rattle.std.specs.FinMap.{find as row_of}
-use Rattle.network_model.proofs.Common.{prefix_cmp, Router}
+use Rattle.network_model.proofs.Common.{prefix_cmp, Router, option_map, option_copied, find as row_of}
 use Rattle.router_core.specs.Parts.{IsRouter}
 use Rattle.router_core.proofs.Kept.{length-found}
 use Rattle.router_core.proofs.router.Router.may_forget.Goals as goal

@@ -1,5 +1,4 @@
-use Rattle.std.proofs.Common.{◌≡◌, false, cond, Some, ap, sym, ◌∙◌}
-use Rattle.std.specs.Prelude.{is_some}
+use Rattle.std.proofs.Common.{◌≡◌, false, cond, Some, ap, sym, ◌∙◌, is_some}
 use Rattle.std.specs.FinMap.{find as row_of}
 use Rattle.std.specs.Option.{option_map_or}
 use Rattle.ipv4_prefix.specs.Prefix.{Prefix, prefix_cmp, prefix_eq}

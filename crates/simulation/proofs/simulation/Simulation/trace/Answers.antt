@@ -1,7 +1,6 @@
 use Rattle.std.proofs.Common.{◌≡◌, ◌∙◌, ◌+◌, ◌-◌, ◌<◌, ◌++◌, [], ◌∷◌, ℕ, suc, List, None, Some, length, take, drop, set, refl, sym, ap, subst, arith, append-nil, length-set}
 use Rattle.std.proofs.lemmas.Grind.{drop_more_same}
-use Rattle.std.proofs.lemmas.List.{drop-set-lt, take_more_set}
-use Rattle.no_packet_loops.proofs.Common.{Ends, Goes, World, onward}
+use Rattle.no_packet_loops.proofs.Common.{Ends, Goes, World, onward, drop-set-lt, take_more_set}
 use Rattle.all_packets.specs.Through.{through_from}
 use Rattle.simulation.specs.Tracing.{onward_of, passed}
 use Rattle.simulation.proofs.Walks.{behind, ends_here, goes_known, goes_on, real_end, traced, unfinished}

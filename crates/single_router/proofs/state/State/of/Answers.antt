@@ -1,6 +1,5 @@
-use Rattle.std.proofs.Common.{rules, ◌≡◌, unwrap_or}
+use Rattle.std.proofs.Common.{rules, ◌≡◌, unwrap_or, is_some}
 use Rattle.single_router.specs.States.{awaited_flags, flag, owed_port, row_among}
-use Rattle.std.specs.Prelude.{is_some}
 use Rattle.single_router.proofs.state.State.of.Goals as goal
 
 -- src/state.rt: field by field

@@ -1,6 +1,5 @@
 use Rattle.std.proofs.Common.{◌≡◌, ◌∙◌, sym, ap, subst, eq-eqb, eqb-true, length, List, []}
-use Rattle.std.proofs.lemmas.List.{nil_from_length}
-use Rattle.no_packet_loops.proofs.Common.{false≢true, is_settled}
+use Rattle.no_packet_loops.proofs.Common.{false≢true, is_settled, nil_from_length}
 use Rattle.timed_simulation.specs.declared.events.Change.{Change}
 use Rattle.timed_simulation.specs.Timed.{world_of, Timed}
 use Rattle.timed_simulation.specs.Runs.{IsAtRest, IsTimed}

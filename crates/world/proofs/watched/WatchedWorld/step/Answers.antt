@@ -1,6 +1,5 @@
 use Rattle.std.proofs.Common.{◌≡◌, ◌+◌, ◌-◌, ℕ, true, Err, MatchOption, is_ok, sym, ap, subst, ◌∙◌, arith}
-use Rattle.no_packet_loops.proofs.Common.{Refusal, World, refusal}
-use Rattle.network_model.specs.Step.{next}
+use Rattle.no_packet_loops.proofs.Common.{Refusal, World, refusal, next}
 use Rattle.world.specs.declared.touched.Touched.{Touched}
 use Rattle.world.specs.Steps.{IsDoneOr}
 use Rattle.world.specs.Rest.{IsWatched}

@@ -1,6 +1,5 @@
 use Rattle.std.proofs.Common.{ℕ, ◌+◌, ◌^◌, ◌<◌, ◌≤◌, ◌↔◌, Bool, true, false, List, length, refl, sym, ◌∙◌, subst, arith, rules, tests, IsTrue, MatchBool, All, true≢false}
-use Rattle.std.specs.List.{AllWithin, HoldsAt}
-use Rattle.no_packet_loops.proofs.Common.{YieldsList-from_slice, cases_from_all, true_from_All, Router, World}
+use Rattle.no_packet_loops.proofs.Common.{YieldsList-from_slice, cases_from_all, true_from_All, Router, World, AllWithin, HoldsAt}
 use Rattle.world.specs.Steps.{HasRoomForSteps}
 use Rattle.world.proofs.world.World.has_room_for.Goals as goal
 

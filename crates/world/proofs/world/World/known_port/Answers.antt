@@ -1,6 +1,5 @@
 use Rattle.std.proofs.Common.{◌<◌, length, ap, subst, ◌∙◌, arith}
-use Rattle.no_packet_loops.proofs.Common.{Refusal, World}
-use Rattle.std.specs.Option.{ok_or}
+use Rattle.no_packet_loops.proofs.Common.{Refusal, World, ok_or}
 use Rattle.world.specs.Kept.{IsWorld}
 use Rattle.world.proofs.Done.{port_answer, port_cause}
 use Rattle.world.proofs.world.World.known_port.Goals as goal

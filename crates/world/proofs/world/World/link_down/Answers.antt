@@ -1,6 +1,5 @@
 use Rattle.std.proofs.Common.{◌≡◌, true, Err, Ok, MatchOption, is_ok, subst}
-use Rattle.network_model.specs.declared.step.Step.TheVariants.{LinkDown}
-use Rattle.no_packet_loops.proofs.Common.{World, Refusal, refusal}
+use Rattle.no_packet_loops.proofs.Common.{World, Refusal, refusal, LinkDown}
 use Rattle.link_fifo.specs.Refusals.{refusal_to_change}
 use Rattle.world.proofs.Insides.{world_in}
 use Rattle.world.proofs.Done.{no_cause, down-keeps, done_for_link, refused_for_link, down_refusal}

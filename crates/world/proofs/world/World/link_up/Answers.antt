@@ -1,6 +1,5 @@
 use Rattle.std.proofs.Common.{subst, Ok}
-use Rattle.network_model.specs.declared.step.Step.TheVariants.{LinkUp}
-use Rattle.no_packet_loops.proofs.Common.{World, refusal}
+use Rattle.no_packet_loops.proofs.Common.{World, refusal, LinkUp}
 use Rattle.link_fifo.specs.Refusals.{refusal_to_come_up}
 use Rattle.world.specs.Steps.{IsDoneOr}
 use Rattle.world.proofs.Insides.{world_in}

@@ -1,8 +1,5 @@
-use Rattle.no_packet_loops.proofs.Common.{⊤, get_or_from_slice_get, Lawful, next, refusal, Runs}
+use Rattle.no_packet_loops.proofs.Common.{⊤, get_or_from_slice_get, Lawful, next, refusal, Runs, take-suc, Step, Publish}
 use Rattle.std.proofs.Common.{◌≡◌, Some, suc, ◌+◌, ◌-◌, ◌++◌, [], ◌∷◌, take, length, sym, ap, subst, ◌∙◌, arith, add-one, rules}
-use Rattle.std.proofs.Math.Seq.{take-suc}
-use Rattle.network_model.specs.declared.step.Step.{Step}
-use Rattle.network_model.specs.declared.step.Step.TheVariants.{Publish}
 use Rattle.world.specs.Steps.{HasRoomForSteps}
 use Rattle.world.proofs.Runs.{with_last_step, next-room, less_room}
 use Rattle.world.proofs.Done.{only_cause}

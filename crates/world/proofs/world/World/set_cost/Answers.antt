@@ -1,6 +1,5 @@
 use Rattle.std.proofs.Common.{sym, subst, Ok}
-use Rattle.no_packet_loops.proofs.Common.{IsCost, World, refusal}
-use Rattle.network_model.specs.declared.step.Step.TheVariants.{SetCost}
+use Rattle.no_packet_loops.proofs.Common.{IsCost, World, refusal, SetCost}
 use Rattle.link_fifo.specs.Refusals.{refusal_to_change}
 use Rattle.world.specs.Steps.{IsPort, IsDoneOr}
 use Rattle.world.proofs.Insides.{world_in}
