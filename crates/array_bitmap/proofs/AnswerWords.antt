@@ -55,7 +55,6 @@ module _ (c : Cells) (sound : IsSoundCells c) (addr : ℕ) (fits : addr < 2 ^ 32
         let g = subst (GreatestBelow (word_at c (addr * 4)) 33) (some_found word some) best in
         (sound.row_words (addr * 4) (len_of word) word (omega (arith, fits)) (omega (arith, g.0)) g.1, omega (arith, g.0))
 
-    -- it answers
     word_answers : longest_match addr (rows_of_cells c) ≡ word_answer addr word
     word_answers = elim (cases_eq word nothing) [
       | inl none ↦ longest_in_table (entry_in c) addr None (none_on_path c addr word none best) ∙ sym (cond-true _ _ _ (eq-eqb _ _ none))

@@ -71,7 +71,6 @@ noted_all table rows notes now all n = n.set ∙ ap (λ k. with_rows (take k row
 same_row : (rows : List (Prefix × Entry)) (k : ℕ) (r s : Prefix × Entry) → k < length rows → r ≡ get_or rows k r → s ≡ get_or rows k s → r ≡ s
 same_row rows k r s l a b = a ∙ get_or_default rows k r s l ∙ sym b
 
--- one row more
 pub noted_next : (table rows : List (Prefix × Entry)) (notes : List (Option Entry)) (now : List (Prefix × Entry)) (k : ℕ) (r : Prefix × Entry) → k ≡ length notes → k < length rows → r ≡ get_or rows k r
     → IsNoted table rows notes now → IsNoted table rows (notes ++ row_of prefix_cmp r.0 now ∷ []) (put prefix_cmp r.0 r.1 now)
 noted_next table rows notes now k r e within is n = record {

@@ -27,14 +27,12 @@ same_kid ws ws' v e f = elim (cases_eq (bit_at (kid_map ws) v) 1) [
 -- ---- a row is new
 module _ (ws ws' : List ℕ) (bit word : ℕ) (clear : bit_at (row_map ws) bit ≡ 0)
     (rows : row_map ws' ≡ row_map ws + 2 ^ bit) (kids : kid_map ws' ≡ kid_map ws) (put : IsInserted ws ws' (row_index ws bit) word) where
-  -- the bit is set
   is_set : bit_at (row_map ws') bit ≡ 1
   is_set = ap (λ n. bit_at n bit) rows ∙ bit_at-add_same (row_map ws) bit clear
 
   other_bit : (b : ℕ) → b ≢ bit → bit_at (row_map ws') b ≡ bit_at (row_map ws) b
   other_bit b n = ap (λ m. bit_at m b) rows ∙ bit_at-add_other (row_map ws) bit b clear n
 
-  -- its word is the new one
   new_row : slice_index ws' (row_index ws' bit) ≡ word
   new_row = ap (λ n. slice_index ws' (3 + rank n bit)) rows ∙ ap (λ r. slice_index ws' (3 + r)) (rank-add_below (row_map ws) bit bit clear (omega arith)) ∙ put.here
 
@@ -77,7 +75,6 @@ module _ (ws ws' : List ℕ) (bit word : ℕ) (clear : bit_at (row_map ws) bit �
 -- ---- a kid is new
 module _ (ws ws' : List ℕ) (five place : ℕ) (clear : bit_at (kid_map ws) five ≡ 0)
     (rows : row_map ws' ≡ row_map ws) (kids : kid_map ws' ≡ kid_map ws + 2 ^ five) (put : IsInserted ws ws' (kid_index ws five) place) where
-  -- the bit is set
   is_set' : bit_at (kid_map ws') five ≡ 1
   is_set' = ap (λ n. bit_at n five) kids ∙ bit_at-add_same (kid_map ws) five clear
 
@@ -145,7 +142,6 @@ module _ (ws ws' : List ℕ) (at word : ℕ) (put : IsReplaced ws ws' at word) (
   kid_kept_where : (v : ℕ) → (bit_at (kid_map ws) v ≡ 1 → kid_index ws v ≢ at) → kid_in ws' v ≡ kid_in ws v
   kid_kept_where v n = same_kid ws ws' v (ap (λ m. bit_at m v) kids_kept) (λ h. ap (slice_index ws') (same_index v) ∙ put.others (kid_index ws v) (n h))
 
-  -- the word of a row
   pub row_replaced : (bit : ℕ) → bit_at (row_map ws) bit ≡ 1 → at ≡ row_index ws bit → ChangesRow ws ws' bit (Some word)
   row_replaced bit set e = record {
     here = row-set ws' bit (ap (λ m. bit_at m bit) rows_kept ∙ set) ∙ ap Some (ap (λ m. slice_index ws' (3 + rank m bit)) rows_kept ∙ ap (slice_index ws') (sym e) ∙ put.here);

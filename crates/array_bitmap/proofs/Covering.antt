@@ -30,7 +30,6 @@ covering_set five (suc n) k h = elim (cases_eq k (row_bit five n)) [
       (rest.0, omega (arith, rest.1), rest.2)
 ]
 
--- and each has its bit
 pub covering_has : (five n more : ℕ) → more < n → bit_at (covering five n) (row_bit five more) ≡ 1
 covering_has five zero more h = absurd (omega arith)
 covering_has five (suc n) more h = elim (cases_eq more n) [

@@ -18,7 +18,6 @@ block_is c sound path steps block e =
     let s = some-from (c.heap block) (ap (λ p. is_some (c.heap p)) e ∙ block_used c sound path steps) in
     subst (λ o. IsBlock (words_in_block o)) (sym s.1) (sound.blocks block s.0 s.1)
 
--- the next block of a path
 pub next_block : (c : Cells) (path level five block kid : ℕ) → c.first ≤ level → block ≡ block_at c path (level - c.first) → five ≡ five_bits path level → kid ≡ kid_in (words_in_block (c.heap block)) five
     → kid ≡ block_at c path (level + 1 - c.first)
 next_block c path level five block kid low at f k =

@@ -237,7 +237,6 @@ module _ (c : Cells) (heap1 : ℕ → Option (List ℕ)) (tops2 : ℕ → ℕ) (
           sym (named-kid c2 (moved p) m (λ z. n (moved_apart p 0 u zero_used (z ∙ sym moved-zero)))) ∙ names_moved p m u ∙ ap moved (named-kid c p m n)
     ]
 
-    -- so do walks
     pub walks_moved : (path steps : ℕ) → block_at c2 path steps ≡ moved (block_at c path steps)
     walks_moved path zero = block-first c2 path ∙ names_other 0 (path_start path (depth_of c.first)) zero_used (λ e. real (sym e)) ∙ ap moved (sym (block-first c path))
     walks_moved path (suc steps) =
@@ -389,7 +388,6 @@ module _ (c : Cells) (heap1 : ℕ → Option (List ℕ)) (tops2 : ℕ → ℕ) (
           ∙ ap (λ z. moved (kid_at c z m)) (sym s.0),
     )
 
-    -- so do walks
     walk_follows : (path steps : ℕ) → Follows (block_at c path steps) (block_at c2 path steps)
     walk_follows path zero = inl (
       block_used c sound path 0,
@@ -472,7 +470,6 @@ module _ (c : Cells) (heap1 : ℕ → Option (List ℕ)) (tops2 : ℕ → ℕ) (
   -- ---- a kid without rows and kids has lost its name
   module _ (five child : ℕ) (changes : ChangesKid ws ws' five 0) (was : kid_in ws five ≡ child) (some : child ≢ 0)
       (no_kids : (m : ℕ) → kid_at c child m ≡ 0) (no_rows : (b : ℕ) → row_in (words_at c child) b ≡ None) where
-    -- its name
     was_named : named c j five ≡ child
     was_named = names_before five ∙ was
 

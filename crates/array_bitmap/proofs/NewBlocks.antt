@@ -107,7 +107,6 @@ module _ (c : Cells) (tops2 : ℕ → ℕ) (heap2 : ℕ → Option (List ℕ)) (
   zeros_there : heap2 0 ≡ Some zeros
   zeros_there = wr.zeros ∙ sound.nowhere
 
-  -- kids stay
   kids_stay : (p m : ℕ) → kid_at n2 p m ≡ kid_at c p m
   kids_stay p m = elim (cases_eq p 0) [
     | inl z ↦ ap (λ x. kid_at n2 x m) z ∙ kid-nowhere n2 zeros_there m ∙ sym (ap (λ x. kid_at c x m) z ∙ kid-nowhere c sound.nowhere m)

@@ -118,7 +118,6 @@ pub record IsSpotTo (rows level five more len : ℕ) (next : Spot) : Type 0 wher
   pub start : next.five % 2 ^ (4 - next.more) ≡ 0
   pub no_row : (v m : ℕ) → m < len → v % 2 ^ (4 - m) ≡ 0 → spot_number five more < spot_number v m → spot_number v m < spot_number next.five next.more → bit_at rows (row_bit v m) ≡ 0
 
--- one length more
 pub one_length_more : (rows level five more len from : ℕ) (one other next : Spot) → level ≤ 5 → len < width level → IsSpotTo rows level five more len one → other.more ≡ len
     → other.five ≤ 32 → other.five % 2 ^ (4 - len) ≡ 0 → from * 2 ^ (4 - len) ≤ other.five
     → ((v : ℕ) → v % 2 ^ (4 - len) ≡ 0 → from * 2 ^ (4 - len) ≤ v → v < other.five → bit_at rows (row_bit v len) ≡ 0)

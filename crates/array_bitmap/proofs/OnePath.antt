@@ -20,7 +20,6 @@ index_in c path zero = path_start path (depth_of c.first)
 index_in c path (suc steps) = five_bits path (c.first + steps)
 
 module _ (c : Cells) (sound : IsSoundCells c) where
-  -- a block is at its name
   pub name_of : (path steps : ℕ) → block_at c path steps ≢ 0 → named c (holder c path steps) (index_in c path steps) ≡ block_at c path steps
   name_of path zero h = sym (block-first c path)
   name_of path (suc steps) h =

@@ -52,7 +52,6 @@ pub row_bit_small : (five more : ℕ) → five < 32 → more < 5 → row_bit fiv
 row_bit_small five (suc (suc (suc (suc (suc n))))) h l = absurd (omega arith)
 row_bit_small five _ h l = omega arith
 
--- two, or more
 two_or_more : (l : ℕ) → 2 ≤ 2 ^ (l + 1)
 two_or_more l = omega (arith, pow-add 2 l 1, pow_pos l)
 

@@ -80,14 +80,12 @@ twice_some n h l = (and_parts _ _ (twice n h l)).1
 
 -- ---- a block's words
 module _ (heap : Heap) (b : ℕ) (block : IsBlock (words_in_block (heap b))) where
-  -- they are few
   pub few_words : used_words (words_in_block (heap b)) ≤ 97
   few_words = omega (arith, ones-le 62 (row_map (words_in_block (heap b))) block.few_rows, ones-le 32 (kid_map (words_in_block (heap b))) block.few_kids)
 
   pub block_size : size_of (heap b) ≡ size_for (used_words (words_in_block (heap b)))
   block_size = size_listed (heap b) ∙ block.size
 
-  -- and all are there
   pub block_holds : used_words (words_in_block (heap b)) ≤ size_of (heap b)
   block_holds = omega (arith, few_words, block_size, size_holds (used_words (words_in_block (heap b))))
 
@@ -136,7 +134,6 @@ room_made old taken copied new block place used size few s l there t p v = recor
     apart : place ≢ block
     apart e = false≢true (sym (ap is_some t.fresh) ∙ ap (λ x. is_some (old x)) e ∙ there)
 
--- and a word more
 pub word_put : (old mid new : Heap) (block place used at word : ℕ) → at ≤ used → GetsRoom old mid block place used → ShiftsIn mid new place used at word → PutsWord old new block place used at word
 word_put old mid new block place used at word within r s = record {
   somewhere = r.somewhere;
@@ -161,7 +158,6 @@ module _ (old mid new : Heap) (block place used at word : ℕ) (put : PutsWord o
   is_there : is_some (new place) ≡ true
   is_there = there (new place) (omega (arith, head.size, put.size, size_least (used + 1) few))
 
-  -- it has its new words
   pub put_reworded : IsReworded old new block place (words_in_block (new place))
   put_reworded = record {
     here = is_words (new place) is_there;
@@ -171,7 +167,6 @@ module _ (old mid new : Heap) (block place used at word : ℕ) (put : PutsWord o
     others = λ p n m. head.others p m ∙ put.others p n m;
   }
 
-  -- one of them is put in
   pub put_inserted : 3 ≤ at → IsInserted (words_in_block (old block)) (words_in_block (new place)) at word
   put_inserted behind = record {
     low = λ i h l. as_word i h ∙ put.low i l ∙ word_listed (old block) i;

@@ -15,7 +15,6 @@ use Rattle.array_bitmap.specs.Cursor.{is_before, IsNextPrefix, IsFirstAt}
 
 -- ---- the order by numbers
 
--- the number of a prefix
 abbrev pub number : Prefix → ℕ
 number p = p.addr * 64 + p.len
 
@@ -31,7 +30,6 @@ before_from_number p q short_p short_q less = elim (cases_order p.addr q.addr) [
   | inr (inr above) ↦ absurd (omega arith)
 ]
 
--- and no other number does
 pub not_before_from_number : (p q : Prefix) → p.len ≤ 32 → q.len ≤ 32 → number q ≤ number p → is_before p q ≡ false
 not_before_from_number p q short_p short_q least = elim (cases_order p.addr q.addr) [
   | inl same ↦ rw (le-ltb p.addr q.addr (omega arith), eq-eqb p.addr q.addr same, le-ltb p.len q.len (omega arith)) (not_less (p.len == q.len))

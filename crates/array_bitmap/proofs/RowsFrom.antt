@@ -39,7 +39,6 @@ module _ {X : Type 0} where
   with_first p s rows not_before = ap (λ b. cond (not b) (s ∷ rows_from p rows) (rows_from p rows)) not_before
 
   module _ (at : Prefix) where
-    -- where there is no first row, all are before
     first_row_from-none : (rows : List (Prefix × X)) → first_row_from at rows ≡ None → (r : Prefix × X) → Contains rows r → is_before r.0 at ≡ true
     first_row_from-none [] none r is_row = absurd (omega (arith, is_row.1))
     first_row_from-none (s ∷ rows) none r is_row = elim (cases_before s.0 at) [
@@ -137,11 +136,9 @@ module _ {X : Type 0} (entry : Prefix → Option X) where
   pub table_writable : (r : Prefix × X) → Contains (table_rows entry) r → IsPrefix r.0
   table_writable r = All-contains (λ x. IsPrefix x.0) (table_rows entry) r (writable_rows (table_rows entry) (row_of-unwritable entry))
 
-  -- each has its entry
   entry_of_row : (r : Prefix × X) → Contains (table_rows entry) r → entry r.0 ≡ Some r.1
   entry_of_row r is_row = sym (row_of-table entry r.0 (table_writable r is_row)) ∙ row_of-row (table_rows entry) r (distinct_from_sorted (table_rows entry) table_in_order) is_row
 
-  -- and each entry has its row
   row_of_entry : (p : Prefix) (x : X) → IsPrefix p → entry p ≡ Some x → Contains (table_rows entry) (p, x)
   row_of_entry p x valid is = row_of-Contains p x (table_rows entry) (row_of-table entry p valid ∙ is)
 

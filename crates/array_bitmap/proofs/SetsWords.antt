@@ -6,7 +6,6 @@ use Rattle.array_bitmap.specs.Words.{IsRowWord}
 use Rattle.bitmaps.specs.Greatest.{GreatestBelow}
 use Rattle.array_bitmap.specs.Tree.{SetsWord}
 
--- words of rows stay such words
 pub row_words_stay : (old new : ℕ → ℕ → Option ℕ) (path len : ℕ) (word : Option ℕ) → SetsWord old new path len word
     → ((w : ℕ) → word ≡ Some w → IsRowWord len w)
     → ((q m w : ℕ) → q < 2 ^ 34 → m ≤ 32 → old q m ≡ Some w → IsRowWord m w)

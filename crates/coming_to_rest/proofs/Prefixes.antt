@@ -18,7 +18,6 @@ of_more p q ps h = go (prefix_eq p q)
     go true = refl
     go false = h
 
--- so is that one
 pub of_first : (p : Prefix) (ps : List Prefix) → IsOf (p ∷ ps) p
 of_first p ps = ap (λ b. b || list_any (prefix_eq p) ps) (prefix_itself p)
 
@@ -51,7 +50,6 @@ module _ (t : Topology) (n b : ℕ) where
   sum_places ps first s zero = first
   sum_places ps first s (suc u) = sum_list ps (λ p. weight t n b (s p) u)
 
-  -- the loads
   abbrev pub sum_loads : List Prefix → (Prefix → State) → ℕ
   sum_loads ps s = sum_list ps (λ p. loads t n b (s p))
 

@@ -59,12 +59,10 @@ module _ {E : Type 0} (gives : Text → Result ℕ E → Type 0) (parses : (t : 
 pub flag_read : (f : Found) (id : Text) (is : Bool) → (one_text f id ≡ Some (codes "true") → is ≡ true) → (one_text f id ≡ Some (codes "false") → is ≡ false) → IsFlag (rows_of f) id is
 flag_read f id is set unset = (λ e. set (one_text-rows f id ∙ e), λ e. unset (one_text-rows f id ∙ e))
 
--- the text of a flag
 flag_text : (E : Type 0) (t : Text) (is : Bool) → ParsesBool {E = E} t (Ok is) → t ≡ (if is then codes "true" else codes "false")
 flag_text E t true h = h
 flag_text E t false h = h
 
--- the flag that was read
 pub has_flag : (E : Type 0) (f : Found) (id : Text) (r : Option Bool) → (one_text f id ≡ None → r ≡ None)
     → ((t : Text) → one_text f id ≡ Some t → ReadsOne (ParsesBool {E = E}) t r) → IfSome r (HasFlag (rows_of f) id)
 has_flag E f id None none value = tt
@@ -86,14 +84,12 @@ no_flag E f id None value = go
     go true h = (value (codes "true") (one_text-rows f id ∙ h)).1.0 refl
     go false h = (value (codes "false") (one_text-rows f id ∙ h)).1.1 refl
 
--- one row has one flag
 one_flag : (rows : List Row) (id : Text) (a b : Bool) → HasFlag rows id a → HasFlag rows id b → a ≡ b
 one_flag rows id true true h k = refl
 one_flag rows id true false h k = absurd (omega (arith, ap (λ o. option_map_or length o 0) (sym h ∙ k)))
 one_flag rows id false true h k = absurd (omega (arith, ap (λ o. option_map_or length o 0) (sym h ∙ k)))
 one_flag rows id false false h k = refl
 
--- and one number
 pub one_number : (rows : List Row) (id : Text) (most m n : ℕ) → HasNumber rows id most m → HasNumber rows id most n → m ≡ n
 one_number rows id most m n h k =
     let same : h.0 ≡ k.0 = ap (λ o. unwrap_or o []) (sym h.1 ∙ k.1) in
@@ -128,7 +124,6 @@ no_name rows is o h =
 pub not_found : {t : Text} (rows : List Row) (id : Text) → first_of id rows ≡ None → first_of id rows ≡ Some t → ⊥
 not_found rows id none some = none-some _ (sym none ∙ some)
 
--- options that do not go together
 pub not_together : (rows : List Row) (threads workers t k : ℕ) (journal j : Option (Bor Text)) (no_journal n : Bool)
     → first_of (codes "journal") rows ≡ option_map (λ path. path.now) journal → HasFlag rows (codes "no-journal") no_journal
     → first_of (codes "journal") rows ≡ option_map (λ path. path.now) j → HasFlag rows (codes "no-journal") n → t ≡ threads → k ≡ workers

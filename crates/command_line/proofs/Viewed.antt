@@ -4,7 +4,6 @@ use Rattle.clap.specs.Words.{Row, Text, first_of}
 use Rattle.command_line.specs.View.{IsView, NamesOneRun}
 use Rattle.command_line.specs.declared.view.ViewWords.{ViewWords}
 
--- where no file is named
 pub no_view : (rows : List Row) → first_of (codes "file") rows ≡ None → (w : ViewWords) → IsView rows w → NamesOneRun w → ⊥
 no_view rows none w h one =
     let there = h.0 in

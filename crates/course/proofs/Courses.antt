@@ -55,7 +55,6 @@ pub is_after : (c : Course) (step : Step) (w : World) (sent : Sent) → w ≡ ne
 is_after c step w sent world counted =
     ap (λ v. course_of c.network v (c.steps + 1) (with_sent (leaving c.world step) c.sent)) (sym world) ∙ ap (course_of c.network w (c.steps + 1)) (sym counted)
 
--- steps after steps
 pub after_push : (c : Course) (xs : List Step) (x : Step) → course_after_all c (xs ++ x ∷ []) ≡ course_after (course_after_all c xs) x
 after_push c [] x = refl
 after_push c (y ∷ ys) x = after_push (course_after c y) ys x

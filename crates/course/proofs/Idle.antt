@@ -23,7 +23,6 @@ busy-unsettled w i s due = by_test (is_settled w) refl
     by_test true settled = (let (own, L) = next_chosen w i s due in absurd (settled_rests w settled s own L))
     by_test false busy = busy
 
--- so where it is, none has
 pub settled-idle : (w : World) → is_settled w ≡ true → (i : ℕ) → next_step w i ≡ None
 settled-idle w settled i = by_step (next_step w i) refl
   where

@@ -20,11 +20,9 @@ module _ (w : World) (i : ℕ) (h : Held) (at : release_at w i ≡ Some h) where
         ∙ ap (λ o. by_stale (not (option_map_or (is_up_in h.session) (option_and_then (λ (p : Place). slice_get w.links p.link) o) false))) there
         ∙ ap (λ o. by_stale (not (option_map_or (is_up_in h.session) o false))) link
 
-    -- which is up in its session
     pub leaving_up : k.up ≡ true → k.session ≡ h.session → leaving w (Release i) ≡ Some (h.message).kind
     leaving_up up same = by_link ∙ ap (λ b. by_stale (not (b && (k.session == h.session)))) up ∙ ap (λ n. by_stale (not (n == h.session))) same ∙ ap (λ b. by_stale (not b)) (eq-eqb h.session h.session refl)
 
-    -- which is down
     pub leaving_down : k.up ≡ false → leaving w (Release i) ≡ None
     leaving_down down = by_link ∙ ap (λ b. by_stale (not (b && (k.session == h.session)))) down
 

@@ -13,7 +13,6 @@ turns_push : (w : World) (ss : List Step) (v : World) (s : Step) → AreNextStep
 turns_push w [] v s turns runs turn = (subst (λ u. IsNextStep u s) (sym runs) turn, tt)
 turns_push w (x ∷ xs) v s turns runs turn = (turns.0, turns_push (next w x) xs v s turns.1 runs.1 turn)
 
--- one turn more
 pub turned_more : (old mid new : Course) (done : ℕ) (s : Step) → HasTakenTurns old mid done → IsNextStep mid.world s → Lawful mid.world s → new ≡ course_after mid s → HasTakenTurns old new (done + 1)
 turned_more old mid new done s turned turn lawful is = record {
   steps = turned.steps ++ s ∷ [];

@@ -31,7 +31,6 @@ pub record Always (t : Topology) (p : Prefix) (fds : ℕ → ℕ) (w : Processes
   pub placed : Placed t w
   pub shown : AllShown p w.routers fds
 
--- so it is after what happens
 pub always_next : (t : Topology) (p : Prefix) (fds : ℕ → ℕ) (w : Processes) (h : Happening) → Always t p fds w → CanHappen w h → Always t p (fds_next p w h fds) (after_happening t w h)
 always_next t p fds w h A can = record {
   invariant = next_keeps t p fds w A.invariant A.orderly A.placed h can;

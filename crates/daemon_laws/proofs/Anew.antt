@@ -43,7 +43,6 @@ pub data Anew (t : Topology) (i : ℕ) (w : Processes) (e : LinkEnd) : Type 0 wh
   Across : e.router ≢ i → (t.far e).router ≡ i → last_anew t i w e ≡ max (session_of w e) (min (w.last e) (latest_coming t w e)) → Anew t i w e
   Away : e.router ≢ i → (t.far e).router ≢ i → last_anew t i w e ≡ w.last e → Anew t i w e
 
--- so is each
 pub anew_at : (t : Topology) (i : ℕ) (w : Processes) (e : LinkEnd) → Anew t i w e
 anew_at t i w e = elim (cases_eq e.router i) [
   | inl g ↦ Here g (rw (eq-eqb e.router i g) refl)
@@ -54,7 +53,6 @@ anew_at t i w e = elim (cases_eq e.router i) [
 ]
 
 module _ (t : Topology) (i : ℕ) (w : Processes) (e : LinkEnd) where
-  -- it is no more than before
   pub anew_less : session_of w e ≤ w.last e → last_anew t i w e ≤ w.last e
   anew_less le = go (anew_at t i w e)
     where
@@ -96,7 +94,6 @@ module _ (t : Topology) (i : ℕ) (w : Processes) (e : LinkEnd) where
     pub there : ((t.far e).router ≡ i) ⊎ (session_of w (t.far e) < n)
     pub quiet : latest_coming t w e < n
 
-  -- so it is of each
   pub nothing_left : (n : ℕ) → last_anew t i w e < n → n ≤ w.last e → Nothing n
   nothing_left n lt le = go (anew_at t i w e)
     where

@@ -55,7 +55,6 @@ row_cost p (x ∷ xs) all c is = by_key (row_cost p xs (λ k. all (suc k)) c) (p
 -- ---- a router as it is made
 
 module _ (p : Prefix) (costs : List ℕ) (attachments : List Attachment) (good : make_fault costs attachments ≡ None) where
-  -- its ports
   abbrev ports : List Port
   ports = map unused_port costs
 
@@ -63,7 +62,6 @@ module _ (p : Prefix) (costs : List ℕ) (attachments : List Attachment) (good :
   abbrev homes : List (Prefix × ℕ)
   homes = rows_of (map attachment_row attachments)
 
-  -- the router
   abbrev r : Router
   r = made_router costs attachments
 
@@ -71,7 +69,6 @@ module _ (p : Prefix) (costs : List ℕ) (attachments : List Attachment) (good :
   abbrev home : Option ℕ
   home = row_of prefix_cmp p homes
 
-  -- each attachment has a cost
   attachment_costs : (k : ℕ) (x : Prefix × ℕ) → slice_get (map attachment_row attachments) k ≡ Some x → IsCost x.1
   attachment_costs k x at = by_attachment (slice_get attachments k) refl (sym (slice_get-map attachment_row attachments k) ∙ at)
     where
@@ -81,7 +78,6 @@ module _ (p : Prefix) (costs : List ℕ) (attachments : List Attachment) (good :
           let f : attachment_fault a ≡ None = none_in attachment_fault attachments (neither (costs_fault costs) (attachments_fault attachments) good).1 k a is in
           subst (λ (y : Prefix × ℕ). IsCost y.1) (Some_injective e) (good_cost a.cost (neither (prefix_fault a.addr a.len) (cost_fault a.cost) f).1)
 
-  -- its machine is as opened
   opens : machine_of r p ≡ opening_machine home (neighbours ports)
   opens = ap (λ o. unwrap_or o (opening_machine None (neighbours ports))) (find-map prefix_cmp (λ (c : ℕ). opening_machine (Some c) (neighbours ports)) p homes) ∙ by_row home
     where
@@ -96,7 +92,6 @@ module _ (p : Prefix) (costs : List ℕ) (attachments : List Attachment) (good :
     small : n.cost ≤ greatest_cost
     unheard : n.reported ≡ infinity
 
-  -- so is each
   first_port : (q : ℕ) (n : Neighbour) → slice_get (neighbours ports) q ≡ Some n → FirstPort n
   first_port q n at = by_cost (slice_get costs q) refl
       (sym (slice_get-map (λ (x : Port). record { up = x.up; cost = x.cost; reported = infinity }) ports q ∙ ap (option_map (λ (x : Port). record { up = x.up; cost = x.cost; reported = infinity })) (slice_get-map unused_port costs q)) ∙ at)
@@ -107,7 +102,6 @@ module _ (p : Prefix) (costs : List ℕ) (attachments : List Attachment) (good :
           let g : IsCost c = good_costs costs (neither (costs_fault costs) (attachments_fault attachments) good).0 q c is in
           subst FirstPort (Some_injective e) (record { is_down = refl; costs_some = (let h = g.positive in omega (arith, h)); small = g.small; unheard = refl })
 
-  -- its machine is sound
   sound_made : IsSound (machine_of r p)
   sound_made = subst IsSound (sym opens)
       (opened_sound home (neighbours ports)
@@ -119,7 +113,6 @@ module _ (p : Prefix) (costs : List ℕ) (attachments : List Attachment) (good :
   entry_local : (c : ℕ) → entry_of ports (opening_machine (Some c) (neighbours ports)) ≡ Entry.Local
   entry_local c = ap (λ b. if b then Entry.Local else Entry.Via (length (neighbours ports)) (session_at ports (length (neighbours ports)))) (eq-eqb (length (neighbours ports)) (length (neighbours ports)) refl)
 
-  -- all rows are Local
   entries_local : (rows : List (Prefix × ℕ)) → map (λ a. (a.0, Entry.Local)) rows ≡ chosen_rows ports (map (λ a. (a.0, opening_machine (Some a.1) (neighbours ports))) rows)
   entries_local [] = refl
   entries_local (a ∷ rest) = λ z. (a.0, sym (entry_local a.1) z) ∷ entries_local rest z
@@ -146,7 +139,6 @@ module _ (p : Prefix) (costs : List ℕ) (attachments : List Attachment) (good :
       by_row None e = refl
       by_row (Some c) e = absurd (None_not_Some (sym e))
 
-  -- it has no next hop
   no_hop : next_hop_at p r ≡ None
   no_hop = ap (option_and_then next_hop) (find-map prefix_cmp (λ (c : ℕ). Entry.Local) p homes) ∙ by_row home
     where
@@ -185,7 +177,6 @@ pub record Made (p : Prefix) (r : Router) : Type 0 where
   pub holds_none : (r.gate).held ≡ []
   pub never : (q : ℕ) → session_at r.ports q ≡ 0
 
--- so it is of each
 pub made : (p : Prefix) (r : Router) → IsMade r → Made p r
 made p r M = subst (Made p) (sym M.made) (record {
   sound = sound_made p M.costs M.attachments M.good;
@@ -204,7 +195,6 @@ made p r M = subst (Made p) (sym M.made) (record {
 -- ---- all routers
 
 module _ (t : Topology) (p : Prefix) (w : Processes) (B : IsOpening w) where
-  -- what is known of each router
   known : (i : ℕ) → Made p (w.routers i)
   known i = made p (w.routers i) (B.routers_made i)
 

@@ -23,12 +23,10 @@ homes false = []
 abbrev pub first : Processes
 first = record { routers = λ i. made_router (7 ∷ []) (homes (i == 0)); coming = λ e. []; last = λ e. 0; heard = λ e. 0; lost = λ e s. false }
 
--- so each is made
 made_one : (b : Bool) → IsMade (made_router (7 ∷ []) (homes b))
 made_one true = record { costs = 7 ∷ []; attachments = homes true; good = refl; made = refl }
 made_one false = record { costs = 7 ∷ []; attachments = homes false; good = refl; made = refl }
 
--- so they begin
 pub begins : IsOpening first
 begins = record { routers_made = λ i. made_one (i == 0); nothing_comes = λ e. refl; never_up = λ e. refl; never_heard = λ e. refl; never_lost = λ e s. refl }
 

@@ -74,7 +74,6 @@ module _ (p : Prefix) (r : Router) (R : RouterKept p r) (sound : IsSound (machin
     cost_same : n.cost ≡ there.cost
     nothing : n.reported ≡ infinity
 
-  -- so is each
   port_there : (q : ℕ) (n : Neighbour) → slice_get (neighbours r.ports) q ≡ Some n → PortThere q n
   port_there q n is = by_port (slice_get r.ports q) (slice_get (machine_of r p).ports q) refl
       (sym (slice_get-map (λ (x : Port). record { up = x.up; cost = x.cost; reported = infinity }) r.ports q) ∙ is)
@@ -108,7 +107,6 @@ module _ (p : Prefix) (r : Router) (R : RouterKept p r) (sound : IsSound (machin
   abbrev r' : Router
   r' = router_forgetting p r
 
-  -- its machine is that one
   machine_now : machine_of r' p ≡ m0
   machine_now = ap (λ o. unwrap_or o m0) (row_forgotten p r.machines)
 

@@ -78,7 +78,6 @@ module _ (p : Prefix) (r r' : Router) (e : Event) (sound : IsSound (machine_of r
 abbrev pub taken_in : Prefix → Router → ℕ → SeenItem → ℕ → Option Report
 taken_in p r' q item n = if is_port_in p r' q n then message_of item else None
 
--- a router that took an item
 pub goes_took : (p : Prefix) (q : ℕ) (item : SeenItem) (r r' : Router) → IsSound (machine_of r p) → Took p q item r r' → Goes p r r' q (taken_in p r' q item)
 goes_took p q item r r' sound T = record {
   sound = sound_met p r r' (event_of q item) sound T.meets T.met;

@@ -47,7 +47,6 @@ module _ (t : Topology) (w : Processes) (W : SessionsBeginWhole t w) where
       | inr le ↦ heals e n (or_left (may_come_again t i w e n) (may_come_again t i w (t.far e) n) (again e n near le))
     ]
 
-  -- whatever happens
   whole_next : (p : Prefix) → Orderly t p w → (h : Happening) → SessionsBeginWhole t (after_happening t w h)
   whole_next p O (Tells i x) = kept_by (after_happening t w (Tells i x)) (λ e. omega arith) (λ e n. refl)
   whole_next p O (Takes e) = by_take t w (SessionsBeginWhole t) W e (λ c at le. W)

@@ -33,7 +33,6 @@ pub record PutsInForce (p : Prefix) (r r' : Router) (fd fd' : ℕ) : Type 0 wher
   pub fd_bounded : fd' ≤ infinity
   pub ends : Ends p r r' fd fd'
 
--- where what is held is as before
 pub puts_held : (p : Prefix) (r r' : Router) (fd fd' : ℕ) → IsSound (machine_of r' p) → RouterKept p r' → IsCheap (machine_of r' p) → r'.ports ≡ r.ports → r'.gate ≡ r.gate
     → ((q : ℕ) → is_up_at (machine_of r' p) q ≡ is_up_at (machine_of r p) q) → fd' ≤ infinity → Ends p r r' fd fd' → PutsInForce p r r' fd fd'
 puts_held p r r' fd fd' sound keeps cheap ports gate up bounded ends = record {
@@ -76,7 +75,6 @@ module _ (t : Topology) (p : Prefix) (pfd pfd' : ℕ → ℕ) (w w' : Processes)
     Here : ShownAs (end_from t p n pfd w e) (end_from t p n pfd' w' e) → Either n e
     Away : end_from t p n pfd' w' e ≡ end_from t p n pfd w e → Either n e
 
-  -- each end is so
   either : (n : ℕ) (e : LinkEnd) → Either n e
   either n e = elim (cases_eq e.router P.i) [
     | inl r ↦ by_ends r (P.puts).ends
@@ -108,7 +106,6 @@ module _ (t : Topology) (p : Prefix) (pfd pfd' : ℕ → ℕ) (w w' : Processes)
     in_is : (n : ℕ) → is_port_in p (router_at w' e) e.port n ≡ is_port_in p (router_at w e) e.port n
     session_is : session_of w' e ≡ session_of w e
 
-  -- so it is at each end
   same_at : (e : LinkEnd) → SameAt e
   same_at e = elim (cases_eq e.router P.i) [
     | inl r ↦ record {
@@ -139,7 +136,6 @@ module _ (t : Topology) (p : Prefix) (pfd pfd' : ℕ → ℕ) (w w' : Processes)
       let near = along (λ z. EndInvariant z (end_from t p n pfd w f)) n e (λ S. invariant_here S cur low first) first in
       along (λ z. EndInvariant (end_from t p n pfd' w' e) z) n f (λ S. invariant_there S near) near
 
-  -- what the one was told of the other
   told' : (e : LinkEnd) → t.valid e ≡ true → (n : ℕ) → Whole t n w'.lost e → MayBe p n w' e → MayBe p n w' (t.far e) → Told (end_from t p n pfd' w' e) (end_from t p n pfd' w' (t.far e))
   told' e v n whole one two =
       let f = t.far e in

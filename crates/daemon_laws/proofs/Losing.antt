@@ -29,7 +29,6 @@ module _ (x y : End) (m : Report) (out : List Report) (is : x.out ≡ m ∷ out)
   fewer : (k : Kind) → count k (pipe (with_out out x)) ≤ count k (pipe x)
   fewer k = (let c = ap (count k) all_is in omega (arith, c))
 
-  -- so of replies
   fewer_replies : count Reply (pipe (with_out out x)) ≤ count Reply (pipe x)
   fewer_replies = fewer Reply
 
@@ -83,7 +82,6 @@ module _ (x y : End) (m : Report) (out : List Report) (is : x.out ≡ m ∷ out)
   lost_gone : Gone x y → Gone (with_out out x) y
   lost_gone G = gone_less x (with_out out x) y refl refl fewer fewer_out G
 
-  -- where y has
   lost_gone_there : Gone y x → Gone y (with_out out x)
   lost_gone_there G = record {
     shown_current = G.shown_current;
@@ -128,7 +126,6 @@ module _ (t : Topology) (p : Prefix) (pfd : ℕ → ℕ) (w : Processes) (I : In
       by_prefix true = by_session (c.session == n)
       by_prefix false = inl refl
 
-  -- so it is at each end
   out : (n : ℕ) (e : LinkEnd) → Out n e
   out n e = by_same (is_same_end (t.far e) e0) refl
     where

@@ -185,7 +185,6 @@ module _ (t : Topology) (p : Prefix) (pfd : ℕ → ℕ) (w w' : Processes) (I :
   links' : (e : LinkEnd) → t.valid e ≡ true → (n : ℕ) → MayBe p n w' e → MayBe p n w' (t.far e) → EndInvariant (end_from t p n pfd w' e) (end_from t p n pfd w' (t.far e))
   links' e v n one two = step_keeps (linked e v n one two).step
 
-  -- and what the one was told of the other
   told' : (e : LinkEnd) → t.valid e ≡ true → (n : ℕ) → Whole t n w'.lost e → MayBe p n w' e → MayBe p n w' (t.far e) → Told (end_from t p n pfd w' e) (end_from t p n pfd w' (t.far e))
   told' e v n whole one two = let L = linked e v n one two in told_keeps L.step ((L.two).moved).speaks (I.told e v n (subst (λ (l : LinkEnd → ℕ → Bool). Whole t n l e) G.lost_same whole) (L.one).was (L.two).was)
 

@@ -30,7 +30,6 @@ at_grows t p w w' G e = elim (cases_eq e.router G.i) [
   | inr d ↦ (let same : session_of w' e ≡ session_of w e = ap (λ (r : Router). session_at r.ports e.port) (G.routers_elsewhere e.router d) in omega (arith, same))
 ]
 
--- where ports stay so do sessions
 ports_stay : (i : ℕ) (f : Router → Router) (rs : ℕ → Router) → ((r : Router) → (f r).ports ≡ r.ports) → (e : LinkEnd) → session_at (with_process i f rs e.router).ports e.port ≡ session_at (rs e.router).ports e.port
 ports_stay i f rs same e = by_test (e.router == i)
   where
@@ -59,7 +58,6 @@ first_less m (c ∷ cs) le = more (le c refl)
     more : c.session ≤ m → max c.session (latest cs) ≤ max m (latest cs)
     more first = omega (arith, first)
 
--- so of each end
 one_less : (m : ℕ) (d e : LinkEnd) (cs : LinkEnd → List Carried) → (e ≡ d → (c : Carried) → slice_get (cs d) 0 ≡ Some c → c.session ≤ m) → latest (cs e) ≤ max m (latest (with_coming d (drop 1) cs e))
 one_less m d e cs le = by_same (is_same_end e d) refl
   where
@@ -67,7 +65,6 @@ one_less m d e cs le = by_same (is_same_end e d) refl
     by_same true is = (let same = end_same e d is in subst (λ (f : LinkEnd). latest (cs f) ≤ max m (latest (drop 1 (cs f)))) (sym same) (first_less m (cs d) (le same)))
     by_same false is = omega arith
 
--- with one more
 latest_append : (xs ys : List Carried) → latest xs ≤ latest (xs ++ ys)
 latest_append [] ys = omega arith
 latest_append (x ∷ xs) ys = more (latest_append xs ys)
@@ -108,7 +105,6 @@ module _ (t : Topology) (w : Processes) (e : LinkEnd) (K : Known t w e) where
       omega (arith, a, b)
 
   module _ (p : Prefix) (fds : ℕ → ℕ) (I : Invariant t p fds w) (apart : e.router ≢ (t.far e).router) where
-    -- whatever happens
     known_next : (h : Happening) → CanHappen w h → IsClean e t w h → Known t (after_happening t w h) e
     known_next (Tells i x) can clean = kept_by (after_happening t w (Tells i x)) (omega arith) (at_grows t p w (after_happening t w (Tells i x)) (tells_at t p fds w I i x can)) (omega arith)
     known_next (Takes d) can clean = by_take t w (λ v. Known t v e) K d (λ c at le.

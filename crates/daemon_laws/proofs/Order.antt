@@ -189,7 +189,6 @@ module _ (t : Topology) (p : Prefix) (pfd : ℕ → ℕ) (w : Processes) (I : In
   abbrev r : Router
   r = w.routers i
 
-  -- the processes after
   abbrev v : Processes
   v = having_released t i w h
 
@@ -197,7 +196,6 @@ module _ (t : Topology) (p : Prefix) (pfd : ℕ → ℕ) (w : Processes) (I : In
   ripe_is : ripe_of r ≡ h ∷ ripe_of (router_releasing r)
   ripe_is = ripe_front_is r h (front_of r h front)
 
-  -- the router then
   released_now : (e : LinkEnd) → e.router ≡ i → router_at v e ≡ router_releasing r
   released_now e g = ap (with_process i router_releasing w.routers) g ∙ router_here i router_releasing w.routers
 

@@ -19,7 +19,6 @@ module _ (t : Topology) (w : Processes) (placed : Placed t w) where
       go true = ap (drop 1) (placed d out)
       go false = placed d out
 
-  -- whatever happens
   pub placed_next : (h : Happening) → (d : LinkEnd) → t.valid d ≡ false → (after_happening t w h).coming d ≡ []
   placed_next (Takes e) d out = by_take t w (λ v. v.coming d ≡ []) (placed d out) e (λ c at le. none_off e d out)
   placed_next (Loses e) d out = none_off e d out

@@ -14,7 +14,6 @@ use Rattle.daemon_laws.proofs.InForce.{AsChosen, PutsInForce, puts_held, puts_no
 use Rattle.daemon_laws.proofs.Publishing.{published_as}
 
 module _ (p : Prefix) (r : Router) (R : RouterKept p r) (sound : IsSound (machine_of r p)) (cheap : IsCheap (machine_of r p)) (fd : ℕ) (bounded : fd ≤ infinity) (n : ℕ) where
-  -- the rows
   abbrev rows : List (Prefix × Entry)
   rows = take n (changed_rows r.table)
 

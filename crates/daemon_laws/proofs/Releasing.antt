@@ -78,7 +78,6 @@ module _ (t : Topology) (p : Prefix) (pfd : ℕ → ℕ) (w w' : Processes) (I :
     in_is : (n : ℕ) → is_port_in p (router_at w' e) e.port n ≡ is_port_in p (router_at w e) e.port n
     unripe_is : kept p e.port (unripe_of (router_at w' e)) ≡ kept p e.port (unripe_of (router_at w e))
 
-  -- so it is at each end
   same_at : (e : LinkEnd) → SameAt e
   same_at e = elim (cases_eq e.router L.i) [
     | inl g ↦
@@ -264,7 +263,6 @@ module _ (t : Topology) (p : Prefix) (pfd : ℕ → ℕ) (w w' : Processes) (I :
       let may_f = may_before n f two in
       end_invariant_same (end_may n e v may_e) (end_may n f (t.far_valid e v) may_f) (I.links e v n may_e may_f)
 
-  -- what the one was told of the other
   told' : (e : LinkEnd) → t.valid e ≡ true → (n : ℕ) → Whole t n w'.lost e → MayBe p n w' e → MayBe p n w' (t.far e) → Told (end_from t p n pfd w' e) (end_from t p n pfd w' (t.far e))
   told' e v n whole one two =
       let f = t.far e in
@@ -302,7 +300,6 @@ module _ (t : Topology) (p : Prefix) (pfd : ℕ → ℕ) (w w' : Processes) (I :
           omega (arith, l, h, c, c') in
           gone_less x x' (end_from t p n pfd w (t.far e)) (ap (λ h. is_next_hop e.port n h) S.hop_is) refl less_all (less_out Reply) G
 
-  -- what comes to each end
   coming' : (e : LinkEnd) → IsLawfullyHeld (w'.last (t.far e)) (carried p (w'.coming e))
   coming' e = subst (λ (s : ℕ). IsLawfullyHeld s (carried p (w'.coming e))) (sym (L.last_same (t.far e))) (by_sent L.sent)
     where
@@ -333,7 +330,6 @@ module _ (t : Topology) (p : Prefix) (pfd : ℕ → ℕ) (w w' : Processes) (I :
     | inr off ↦ subst (λ hs. IsLawfullyHeld (session_at r.ports q) hs) (sym (ripe_beside q off)) (I.ripe_lawful L.i q)
   ]
 
-  -- a release keeps the invariant
   pub release_keeps : Invariant t p pfd w'
   release_keeps = record {
     sound = each_router (λ x. IsSound (machine_of x p)) (I.sound L.i) I.sound;

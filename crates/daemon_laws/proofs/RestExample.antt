@@ -29,11 +29,9 @@ until_up =
 abbrev pub onward : List Happening
 onward = Publishes 0 ∷ Releases 0 ∷ Takes (at_port 1 0) ∷ Publishes 1 ∷ Releases 1 ∷ Takes (at_port 0 0) ∷ []
 
--- all of it
 abbrev until_rest : List Happening
 until_rest = until_up ++ onward
 
--- the processes then
 abbrev pub rest : Processes
 rest = after_happenings pair first until_rest
 
@@ -87,7 +85,6 @@ agree_at b (suc q) session h = absurd (both_ways (is_in_session rest (at_port (i
 agree_at true zero session h = record { valid = refl; near = h; far = h }
 agree_at false zero session h = record { valid = refl; near = h; far = h }
 
--- the ends of the link agree
 pub agree : (e : LinkEnd) (session : ℕ) → is_in_session rest e session ≡ true → IsUpIn pair rest e session
 agree e session h = elim (cases_eq e.router 0) [
   | inl r ↦ subst (λ (f : LinkEnd). is_in_session rest f session ≡ true → IsUpIn pair rest f session) (sym (ap (λ (n : ℕ). at_port n e.port) r)) (agree_at true e.port session) h

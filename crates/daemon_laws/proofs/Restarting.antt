@@ -268,7 +268,6 @@ module _ (t : Topology) (p : Prefix) (pfd pfd' : ℕ → ℕ) (w w' : Processes)
   abbrev Stays : ℕ → LinkEnd → Type 0
   Stays n e = w'.last e < n → w.last e < n
 
-  -- one or the other
   again_or : (n : ℕ) (e : LinkEnd) → Again n e ⊎ Stays n e
   again_or n e = elim (cases_lt (w.last e) n) [
     | inl lt ↦ inr (λ x. lt)
@@ -335,7 +334,6 @@ module _ (t : Topology) (p : Prefix) (pfd pfd' : ℕ → ℕ) (w w' : Processes)
         ]
       ]
 
-  -- what the one was told of the other
   told_kept : (e : LinkEnd) → t.valid e ≡ true → (n : ℕ) → Whole t n w.lost e → Was n e → Was n (t.far e) → Told (new n e) (new n (t.far e))
   told_kept e v n whole one two =
       let f = t.far e in

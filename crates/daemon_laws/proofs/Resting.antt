@@ -57,7 +57,6 @@ module _ (t : Topology) (p : Prefix) (pfd : ℕ → ℕ) (w : Processes) (I : In
     is_up : up e ≡ true
     last : session_of w e ≡ session
 
-  -- so it is of each
   in_last : (e : LinkEnd) (session : ℕ) → is_in_session w e session ≡ true → InIt e session
   in_last e session h =
       let on : is_port_in p (router_at w e) e.port session ≡ true = in_it t p pfd w I e session h in
@@ -67,7 +66,6 @@ module _ (t : Topology) (p : Prefix) (pfd : ℕ → ℕ) (w : Processes) (I : In
   up_far : (e : LinkEnd) → up e ≡ true → up (t.far e) ≡ true
   up_far e u = (in_last (t.far e) (session_of w e) (up_in e u).far).is_up
 
-  -- in the same session
   session_far : (e : LinkEnd) → up e ≡ true → session_of w (t.far e) ≡ session_of w e
   session_far e u = (in_last (t.far e) (session_of w e) (up_in e u).far).last
 
@@ -106,7 +104,6 @@ module _ (t : Topology) (p : Prefix) (pfd : ℕ → ℕ) (w : Processes) (I : In
       ∙ sym (ap (last_value (listens (end_from t p k pfd w f))) (pipe_none e u k))
       ∙ T.last_is here
 
-  -- the state is one that is kept
   kept_state : NetKept t' s
   kept_state = record {
     sound = I.sound;
@@ -126,7 +123,6 @@ module _ (t : Topology) (p : Prefix) (pfd : ℕ → ℕ) (w : Processes) (I : In
           by_port None at h = absurd (false≢true h)
           by_port (Some x) at h = ((I.sound e.router).ports_sound e.port x at).costs
 
-  -- it is quiet
   quiet_state : IsQuiet t' n s
   quiet_state = record {
     passive = λ i l. (still p (w.routers i) (I.keeps i) (A.quiet i l)).passive;
@@ -164,7 +160,6 @@ module _ (t : Topology) (p : Prefix) (pfd : ℕ → ℕ) (w : Processes) (I : In
       let W = to_walk (t.far e).router es k rest in
       ((from, u, u, W.0), W.1)
 
-  -- of the same cost
   to_cost : (i : ℕ) (es : List LinkEnd) (k : ℕ) → IsSessionWay t w i es k → edges_cost s es ≡ way_cost w es
   to_cost i [] k h = refl
   to_cost i (e ∷ es) k (session, from, is, rest) =
@@ -178,7 +173,6 @@ module _ (t : Topology) (p : Prefix) (pfd : ℕ → ℕ) (w : Processes) (I : In
   from_walk i [] h = refl
   from_walk i (e ∷ es) h = (session_of w e, h.0, up_in e h.1, from_walk (t.far e).router es h.3)
 
-  -- of the same cost
   from_cost : (i : ℕ) (es : List LinkEnd) → IsEdgeWalk t' (λ e. up e ≡ true) i es → way_cost w es ≡ edges_cost s es
   from_cost i [] h = refl
   from_cost i (e ∷ es) h =

@@ -16,7 +16,6 @@ use Rattle.daemon_laws.proofs.Restarting.{Blank, blank_links, blank_told}
 use Rattle.daemon_laws.proofs.Steps.{end_itself, end_same}
 
 module _ (t t' : Topology) (p : Prefix) (pfd : ℕ → ℕ) (w : Processes) (I : Invariant t p pfd w) (O : Orderly t p w) (R : MayRewire t t' w) where
-  -- the processes after
   abbrev pub w' : Processes
   w' = rewired t t' w
 
@@ -28,14 +27,12 @@ module _ (t t' : Topology) (p : Prefix) (pfd : ℕ → ℕ) (w : Processes) (I :
     pub is : t'.valid e ≡ true
     pub far_is : t'.far e ≡ t.far e
 
-  -- so it is of each
   pub stays_at : (e : LinkEnd) → link_stays t t' e ≡ true → Stays e
   stays_at e h =
       let one = and_parts (t.valid e) (t'.valid e && is_same_end (t.far e) (t'.far e)) h in
       let two = and_parts (t'.valid e) (is_same_end (t.far e) (t'.far e)) one.1 in
       record { was = one.0; is = two.0; far_is = sym (end_same (t.far e) (t'.far e) two.1) }
 
-  -- it stays at its other end
   pub stays_far : (e : LinkEnd) → link_stays t t' e ≡ true → link_stays t t' (t'.far e) ≡ true
   stays_far e h =
       let S = stays_at e h in
@@ -131,7 +128,6 @@ module _ (t t' : Topology) (p : Prefix) (pfd : ℕ → ℕ) (w : Processes) (I :
   end_same' : (e : LinkEnd) (n : ℕ) → link_stays t t' e ≡ true → end_from t' p n pfd w' e ≡ end_from t p n pfd w e
   end_same' e n on = ap (end_in p n (pfd e.router) (router_at w e) e.port) ((same_at (t'.far e) (stays_far e on)).coming ∙ ap w.coming (stays_at e on).far_is)
 
-  -- so is the other
   far_same : (e : LinkEnd) (n : ℕ) → link_stays t t' e ≡ true → end_from t' p n pfd w' (t'.far e) ≡ end_from t p n pfd w (t.far e)
   far_same e n on = end_same' (t'.far e) n (stays_far e on) ∙ ap (end_from t p n pfd w) (stays_at e on).far_is
 

@@ -23,7 +23,6 @@ module _ (p : Prefix) where
     pub follows : Follows r
     pub unheard_then : row_of prefix_cmp p (r.table).published ≡ None → fd ≡ infinity
 
-  -- so it is at all routers
   abbrev pub AllShown : (ℕ → Router) → (ℕ → ℕ) → Type 0
   AllShown routers fds = (i : ℕ) → ShownAt (routers i) (fds i)
 
@@ -34,7 +33,6 @@ module _ (p : Prefix) where
     | inr d ↦ subst (λ (x : Router). ShownAt x (fds' j)) (sym (router_away i f routers j d)) (subst (λ n. ShownAt (routers j) n) (sym (same j d)) (A j))
   ]
 
-  -- a router that is told
   told_shown : (x : Input) (r : Router) (fd : ℕ) → ShownAt r fd → ShownAt (told_router x r) fd
   told_shown x r fd S = by_fault (is_none (told_fault x r))
     where
@@ -50,7 +48,6 @@ module _ (p : Prefix) where
       by_fault true = by_input x
       by_fault false = S
 
-  -- a router that is made
   made_shown : (r : Router) → IsMade r → ShownAt r (machine_of r p).fd
   made_shown r M = record { follows = F; unheard_then = λ none. unheard p r F (ap (row_of prefix_cmp p) (sym same) ∙ none) }
     where
@@ -64,7 +61,6 @@ module _ (p : Prefix) where
   follows_without : (k : Prefix) (r : Router) → Follows r → Follows (router_forgetting k r)
   follows_without k r F = ap (λ rows. without k rows) F ∙ chosen_without k r.ports r.machines
 
-  -- so it is after what happens
   pub next_shown : (t : Topology) (w : Processes) (h : Happening) (fds : ℕ → ℕ) → CanHappen w h → AllShown w.routers fds → AllShown (after_happening t w h).routers (fds_next p w h fds)
   next_shown t w (Tells i x) fds can A = changed_shown i (told_router x) w.routers fds fds (λ j d. refl) A (told_shown x (w.routers i) (fds i) (A i))
   next_shown t w (Takes e) fds can A = by_take t w (λ v. AllShown v.routers fds) A e (λ c at le.
@@ -101,6 +97,5 @@ module _ (p : Prefix) where
   next_shown t w (BeginsAnew i costs attachments) fds can A = changed_shown i (λ r. made_router costs attachments) w.routers fds (fds_next p w (BeginsAnew i costs attachments) fds) (λ j d. rw (ne_eqb j i d) refl) A
       (rw (eq-eqb i i refl) (made_shown (made_router costs attachments) (record { costs = costs; attachments = attachments; good = can; made = refl })))
 
-  -- so it is where routers begin
   pub begins_shown : (w : Processes) → IsOpening w → AllShown w.routers (first_fds p w)
   begins_shown w B i = made_shown (w.routers i) (B.routers_made i)

@@ -16,7 +16,6 @@ told_here {x} {x'} {y} S T = record { last_is = λ on. ap (λ v. last_value v (p
       | inr off ↦ ap (λ b. if b then S.reported else infinity) off ∙ sym (ap (λ b. if b then x.reported else infinity) off)
     ]
 
--- and what the other was told of it
 pub told_there : {x y y' : End} → ShownAs y y' → Told x y → Told x y'
 told_there {x} {y} {y'} S T = record {
   last_is = subst (λ (z : End). z.current ≡ true → last_value (listens x) (pipe z) ≡ z.rd) (sym S.is) (λ on. ap (last_value (listens x)) S.pipe_is ∙ T.last_is on);

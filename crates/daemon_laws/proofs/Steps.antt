@@ -38,7 +38,6 @@ router_here i f rs = rw (eq-eqb i i refl) refl
 pub router_away : (i : ℕ) (f : Router → Router) (rs : ℕ → Router) (j : ℕ) → j ≢ i → with_process i f rs j ≡ rs j
 router_away i f rs j d = rw (ne_eqb j i d) refl
 
--- an end is the same as itself
 pub end_itself : (e : LinkEnd) → is_same_end e e ≡ true
 end_itself e = and_from (e.router == e.router) (e.port == e.port) (eq-eqb e.router e.router refl) (eq-eqb e.port e.port refl)
 
@@ -84,7 +83,6 @@ module _ (t : Topology) (p : Prefix) (pfd : ℕ → ℕ) (w : Processes) (I : In
         coming_fewer = λ k h. h;
       }
 
-  -- that keeps the invariant
   tells_keeps : (i : ℕ) (x : Input) → IsLocalInput w i x → Invariant t p pfd (after_happening t w (Tells i x))
   tells_keeps i x own = goes_keeps t p pfd w (after_happening t w (Tells i x)) I (tells_at i x own)
 
@@ -175,7 +173,6 @@ module _ (t : Topology) (p : Prefix) (pfd : ℕ → ℕ) (w : Processes) (I : In
           coming_fewer = λ k h. subst (λ cs. IsLawfullyHeld k (carried p cs)) (sym rest_is) (fewer k h);
         }
 
-    -- that keeps the invariant
     taken_keeps : Invariant t p pfd w'
     taken_keeps = goes_keeps t p pfd w w' I taken_at
 
@@ -196,7 +193,6 @@ module _ (t : Topology) (p : Prefix) (pfd : ℕ → ℕ) (w : Processes) (I : In
     pfd_elsewhere = elsewhere;
   })
 
-  -- a router publishes
   pub publishes_puts : (i : ℕ) → PutsInForce p (w.routers i) (router_publishing (w.routers i)) (pfd i) (fds_next p w (Publishes i) pfd i)
   publishes_puts i =
       subst (λ (n : ℕ). PutsInForce p (w.routers i) (router_publishing (w.routers i)) (pfd i) n) (sym (ap (λ b. if b then (machine_of (w.routers i) p).fd else pfd i) (eq-eqb i i refl)))
@@ -263,7 +259,6 @@ module _ (t : Topology) (p : Prefix) (pfd : ℕ → ℕ) (w : Processes) (I : In
         pfd_elsewhere = λ j d. rw (ne_eqb j i d) refl;
       })
 
-  -- whatever happens keeps it
   pub next_keeps : Orderly t p w → Placed t w → (h : Happening) → CanHappen w h → Invariant t p (fds_next p w h pfd) (after_happening t w h)
   next_keeps O P (Tells i x) can = tells_keeps i x can
   next_keeps O P (Takes e) can = takes_keeps e

@@ -92,7 +92,6 @@ module _ (t : Topology) (p : Prefix) (pfd : ℕ → ℕ) (w : Processes) (I : In
         | inr left ↦ (I.alone e L.valid L.session left (inl L.there)).published_edge_falls shown
       ])
 
-  -- so the height falls
   published_falls : (i : ℕ) (entry : Entry) (k : ℕ) → published_entry i ≡ Some entry → Leads i entry k → height k < height i
   published_falls i entry k row L = let h = published_both i entry k row L in omega (arith, h.0, h.1)
 
@@ -121,7 +120,6 @@ module _ (t : Topology) (p : Prefix) (pfd : ℕ → ℕ) (w : Processes) (I : In
       subst (λ (x : ℕ). ((machine_of (w.routers x) p).fd < (machine_of (w.routers i) p).fd) × (pfd x < (machine_of (w.routers i) p).fd)) L.far_router
       ((I.links (at_port i L.port) L.valid L.session (inl C.current) (inl L.there)).control_edge_falls C.chosen)
 
-  -- and the height
   control_falls : (i : ℕ) (entry : Entry) (k : ℕ) → control_entry i ≡ Some entry → Leads i entry k → height k < height i
   control_falls i entry k row L = let h = control_both i entry k row L in omega (arith, h.0, h.1)
 

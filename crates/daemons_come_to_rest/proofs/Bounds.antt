@@ -28,7 +28,6 @@ in_all (suc n) f i h lt here = elim (lower_cases i n lt) [
   | inr is ↦ in_left h (f n) (all_below n f) (subst (λ k. IsIn h (f k)) is here)
 ]
 
--- at a port
 abbrev pub at_ports : ℕ → ℕ → List Happening
 at_ports i q = Takes (at_port i q) ∷ Loses (at_port i q) ∷ []
 
@@ -135,7 +134,6 @@ either n w (Releases i) = elim (cases_lt i n) [
     by_front lt (Some h) at = inl (h, lt, at)
 either n w (BeginsAnew i costs attachments) = inr (λ a. a)
 
--- what still happens may happen
 pub alone_can : (n : ℕ) (w : Processes) (h : Happening) → HappensAlone n w h → CanHappen w h
 alone_can n w (Tells i x) alone = absurd alone
 alone_can n w (BeginsAnew i costs attachments) alone = absurd alone

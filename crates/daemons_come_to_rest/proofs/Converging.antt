@@ -50,7 +50,6 @@ lost_after t n w (h ∷ hs) all none = lost_after t n (after_happening t w h) hs
 same_session : (w v : Processes) → SameGround w v → (e : LinkEnd) (session : ℕ) → is_in_session v e session ≡ is_in_session w e session
 same_session w v G e session = ap (λ (ps : List Port). option_map_or (λ (x : Port). x.up && (x.session == session)) (slice_get ps e.port) false) (G e.router).0
 
--- so ends agree that did
 pub still_agree : (t : Topology) (w v : Processes) → SameGround w v → EndsAgree t w → EndsAgree t v
 still_agree t w v G A e session on =
     let U = A e session (sym (same_session w v G e session) ∙ on) in
@@ -86,7 +85,6 @@ leads t F w K (rests _ close) = by_search (λ h alone. leads t F (after_happenin
 
 -- ---- all
 
--- what is kept converges
 kept_converges : (t : Topology) (F : IsFinite t) (w : Processes) → Kept t w → ProcessesConverge t F.routers w
 unfolding Leads
 kept_converges t F w K =

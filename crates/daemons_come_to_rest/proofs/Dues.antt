@@ -64,7 +64,6 @@ module _ {X : Type 0} (f g : X → Bool) where
 -- ---- some rows are published
 
 module _ (n : ℕ) (t : Table) (some : 0 < n) (there : 0 < length (changed_rows t)) (sorted : is_sorted prefix_cmp t.control ≡ true) where
-  -- the rows
   abbrev rows : List (Prefix × Entry)
   rows = take n (changed_rows t)
 

@@ -15,7 +15,6 @@ use Rattle.daemons_come_to_rest.specs.Settled.{NothingLeft, SameGround, SomeConv
 use Rattle.daemons_come_to_rest.proofs.Kept.{Kept, kept_first, kept_after}
 use Rattle.daemons_come_to_rest.proofs.Converging.{kept_alone, ground_after, still_agree}
 
--- the processes then
 abbrev now : Processes
 now = after_happenings pair first until_up
 
@@ -23,11 +22,9 @@ now = after_happenings pair first until_up
 abbrev two : IsFinite pair
 two = record { routers = 2; ports = 1; within = each_place (λ e. (e.router < 2) × (e.port < 1)) (omega arith, omega arith) (omega arith, omega arith) }
 
--- the first of it may happen
 can_up : AllCanHappen pair first until_up
 can_up = ((omega arith, seven), ((omega arith, seven), (tt, (tt, (tt, (tt, (tt, (tt, (refl, ((omega arith, seven), (tt, ((omega arith, seven), tt))))))))))))
 
--- what is kept then
 kept_now : Kept pair now
 kept_now = kept_after pair first until_up (kept_first pair first begins) can_up
 
@@ -43,7 +40,6 @@ none_comes e = by_valid (pair.valid e) refl
     by_valid true v = each_place (λ d. rest.coming d ≡ []) refl refl e v
     by_valid false out = (kept_alone pair two now onward kept_now alone).placed e out
 
--- and nothing is left
 left : NothingLeft 2 rest
 left (Tells i x) alone = absurd alone
 left (Takes e) (c, at, le) = absurd (None_not_Some (sym (ap (λ (cs : List Carried). slice_get cs 0) (none_comes e)) ∙ at))

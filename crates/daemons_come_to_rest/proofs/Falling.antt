@@ -97,7 +97,6 @@ module _ (t : Topology) (F : IsFinite t) (ps : List Prefix) where
           (taken_stale t F k w v T ((K.invariant k).keeps (T.e).router) (prefix_itself k) small)
           (λ p apart. taken_other t F p w v T ((K.invariant p).keeps (T.e).router) apart)
 
-      -- one router has less to do
       router_less : (i : ℕ) (r' : Router) → i < F.routers → v.routers i ≡ r' → ((j : ℕ) → j ≢ i → v.routers j ≡ w.routers j) → dues_of r' < dues_of (w.routers i) → all_dues v < all_dues w
       router_less i r' within here away less =
           let x = sum_but_one F.routers i (λ j. dues_of (v.routers j)) (λ j. dues_of (w.routers j)) within (λ j l ne. le_same (ap (λ (y : Router). dues_of y) (away j ne))) in
@@ -107,7 +106,6 @@ module _ (t : Topology) (F : IsFinite t) (ps : List Prefix) where
       abbrev some : Prefix
       some = record { addr = 0; len = 0 }
 
-      -- a router publishes
       publish_falls : (P : PublishesOne w v) → P.i < F.routers → is_due (w.routers P.i) ≡ true → ProcessesFall w v
       publish_falls P within due =
           by_dues (λ p there. publish_less t F.routers F.ports p w v P ((K.invariant p).keeps P.i) ((K.invariant p).sound P.i))
@@ -181,13 +179,11 @@ module _ (t : Topology) (F : IsFinite t) (ps : List Prefix) where
       abbrev taken : Processes
       taken = after_message e w c
 
-      -- the router after
       router_then : (o : Option CallFault) → told_fault (input.Message e.port c.session c.message) (w.routers e.router) ≡ o
           → taken.routers e.router ≡ (if is_none o then router_accepting e.port (Item.Message c.message) (w.routers e.router) else w.routers e.router)
       router_then o is = router_here e.router (told_router (input.Message e.port c.session c.message)) w.routers
           ∙ ap (λ f. if is_none f then router_accepting e.port (Item.Message c.message) (w.routers e.router) else w.routers e.router) is
 
-      -- the message is taken
       goes_taken : told_fault (input.Message e.port c.session c.message) (w.routers e.router) ≡ None → Goes taken
       goes_taken is =
           let T : TakesOne t w taken = record {
@@ -203,7 +199,6 @@ module _ (t : Topology) (F : IsFinite t) (ps : List Prefix) where
           let k = (c.message).prefix in
           record { falls = take_falls w taken K G T (bounded t k (K.pfd k) w (K.invariant k) e c at le (prefix_itself k)); known = known_take t F.routers ps w taken G T; ground = λ j. (stays_of w taken e.router (router_accepting e.port (Item.Message c.message) (w.routers e.router)) T.router_is T.routers_elsewhere (λ (y : Router). y.ports) refl j, λ p. taken_attachment t F p w taken T ((K.invariant p).keeps e.router) (bounded t k (K.pfd k) w (K.invariant k) e c at le (prefix_itself k)) j) }
 
-      -- the message is refused
       goes_refused : (f : CallFault) → told_fault (input.Message e.port c.session c.message) (w.routers e.router) ≡ Some f → Goes taken
       goes_refused f is =
           let D : Drops t w taken = record {
@@ -245,7 +240,6 @@ module _ (t : Topology) (F : IsFinite t) (ps : List Prefix) where
         } in
         record { falls = drop_falls w (after_happening t w (Loses e)) K G D; known = known_drop t F.routers ps w (after_happening t w (Loses e)) G D; ground = same_ground w (after_happening t w (Loses e)) (λ j. refl) }
 
-    -- a router publishes
     goes_publishes : (i : ℕ) → i < F.routers → is_due (w.routers i) ≡ true → Goes (after_happening t w (Publishes i))
     goes_publishes i within due =
         let P : PublishesOne w (after_happening t w (Publishes i)) = record { i = i; router_is = router_here i router_publishing w.routers; routers_elsewhere = λ j ne. router_away i router_publishing w.routers j ne; coming_same = λ e. refl } in
@@ -264,7 +258,6 @@ module _ (t : Topology) (F : IsFinite t) (ps : List Prefix) where
           ground = λ j. (stays_of w v i r' here away (λ (y : Router). y.ports) refl j, λ p. stays_of w v i r' here away (λ (y : Router). attachment_of y p) refl j);
         }
 
-    -- a router forgets a prefix
     goes_forgets : (i : ℕ) (k : Prefix) → i < F.routers → may_forget k (w.routers i) ≡ true → Goes (after_happening t w (Forgets i k))
     goes_forgets i k within may =
         let v : Processes = after_happening t w (Forgets i k) in
@@ -284,7 +277,6 @@ module _ (t : Topology) (F : IsFinite t) (ps : List Prefix) where
         let R : ReleasesOne t w (having_released t i w h) = record { i = i; h = h; front = front; router_is = router_here i router_releasing w.routers; routers_elsewhere = λ j ne. router_away i router_releasing w.routers j ne; coming_is = λ e. refl } in
         record { falls = release_falls w (having_released t i w h) K G R within; known = known_release t F.routers ps w (having_released t i w h) G R within; ground = λ j. (stays_of w (having_released t i w h) i (router_releasing (w.routers i)) R.router_is R.routers_elsewhere (λ (y : Router). y.ports) refl j, λ p. stays_of w (having_released t i w h) i (router_releasing (w.routers i)) R.router_is R.routers_elsewhere (λ (y : Router). attachment_of y p) refl j) })
 
-    -- whatever still happens
     pub goes_alone : (h : Happening) → HappensAlone F.routers w h → Goes (after_happening t w h)
     goes_alone (Tells i x) alone = absurd alone
     goes_alone (Takes e) (c, at, le) = goes_takes e c at le

@@ -96,7 +96,6 @@ pub record ForgetsOne (w v : Processes) : Type 0 where
   pub coming_same : (e : LinkEnd) → v.coming e ≡ w.coming e
 
 module _ (t : Topology) (F : IsFinite t) (w v : Processes) (G : ForgetsOne w v) where
-  -- the router
   abbrev r : Router
   r = w.routers G.i
 
@@ -151,7 +150,6 @@ module _ (t : Topology) (F : IsFinite t) (w v : Processes) (G : ForgetsOne w v) 
     stale_none : (q : ℕ) → stale_of (slice_get m'.ports q) ≡ 0
     stale_none q = ap stale_of (port_is q) ∙ unheard_stale (slice_get m.ports q)
 
-    -- so no more is than was
     stale_fewer : (e : LinkEnd) → stale (shown G.k v) e ≤ stale (shown G.k w) e
     stale_fewer e = each_machine (λ x y. stale_of (slice_get x.ports e.port) ≤ stale_of (slice_get y.ports e.port)) (let z = stale_none e.port in omega (arith, z)) (λ x. omega arith) e.router
 
@@ -165,7 +163,6 @@ module _ (t : Topology) (F : IsFinite t) (w v : Processes) (G : ForgetsOne w v) 
           let z = stale_none q in
           omega (arith, x, z, no_fewer)
 
-      -- so all counts alike
       alike : CountsAlike t (shown G.k w) (shown G.k v)
       alike = record {
         tokens = λ u. each_machine (λ x y. token u x ≡ token u y) (token_same u) (λ x. refl);

@@ -51,7 +51,6 @@ module _ (t : Topology) (n : ℕ) (ps : List Prefix) (w v : Processes) (K : Know
   pub known_first : (T : TakesOne t w v) → IsOf ps ((T.c).message).prefix
   known_first T = (subst (Each (CarriedKnown ps)) T.came (K.coming T.e T.valid_place)).0
 
-  -- and a message that is dropped
   pub known_dropped : (D : Drops t w v) → IsOf ps ((D.c).message).prefix
   known_dropped D = (subst (Each (CarriedKnown ps)) D.came (K.coming D.e D.valid_place)).0
 
@@ -153,11 +152,9 @@ module _ (t : Topology) (F : IsFinite t) (w : Processes) where
   abbrev coming_there : ℕ → List Prefix
   coming_there i = gather F.ports (coming_at i)
 
-  -- all of them
   abbrev pub prefixes_in : List Prefix
   prefixes_in = gather F.routers held_there ++ gather F.routers coming_there
 
-  -- they are all
   pub all_known : KnownIn t F.routers prefixes_in w
   all_known = record {
     coming = λ e valid. each_weaker (CarriedKnown (coming_at e.router e.port)) (CarriedKnown prefixes_in) (w.coming e)

@@ -24,7 +24,6 @@ use Rattle.daemon_laws.proofs.SomeRows.{row_forgotten, row_beside}
 use Rattle.daemon_laws.proofs.Moving.{in_session}
 use Rattle.daemon_laws.proofs.Steps.{router_here, router_away, goes_here, next_keeps}
 
--- what is kept
 pub record Kept (t : Topology) (w : Processes) : Type 0 where
   pub pfd : Prefix → ℕ → ℕ
   pub invariant : (p : Prefix) → Invariant t p (pfd p) w
@@ -40,7 +39,6 @@ calm_reacted p r r' sound calm (stays is) = subst IsCalm (sym is) calm
 calm_reacted p r r' sound calm (meets_one e meets is) = subst IsCalm (sym is) (stays_calm (machine_of r p) e sound meets calm)
 
 module _ (t : Topology) (w : Processes) (K : Kept t w) (p : Prefix) where
-  -- the invariant
   abbrev I : Invariant t p (K.pfd p) w
   I = K.invariant p
 
@@ -48,7 +46,6 @@ module _ (t : Topology) (w : Processes) (K : Kept t w) (p : Prefix) where
   calm_with : (i : ℕ) (f : Router → Router) → IsCalm (machine_of (f (w.routers i)) p) → (j : ℕ) → IsCalm (machine_of (with_process i f w.routers j) p)
   calm_with i f here = each_but (router_away i f w.routers) (λ j y. IsCalm (machine_of y p)) (subst (λ (y : Router). IsCalm (machine_of y p)) (sym (router_here i f w.routers)) here) (K.calm p)
 
-  -- whatever happens
   calm_next : (h : Happening) → CanHappen w h → (j : ℕ) → IsCalm (machine_of ((after_happening t w h).routers j) p)
   calm_next (Tells i x) can =
       calm_with i (told_router x) (calm_reacted p (w.routers i) (told_router x (w.routers i)) (I.sound i) (K.calm p i) (goes_told p (w.routers i) (I.keeps i) (I.sound i) w i x can).goes.reacted)

@@ -148,7 +148,6 @@ module _ (t : Topology) (F : IsFinite t) (p : Prefix) (w v : Processes) (T : Tak
       took_message p r keeps q P.port P.there (T.c).message same (message_passes (T.c).session P.port (neither (message_fault (T.c).session P.port) fault P.passes).0).0 bounded
 
   module _ (same : prefix_eq p ((T.c).message).prefix ≡ true) (bounded : ((T.c).message).value ≤ infinity) where
-    -- what it sends is held, unripe
     unripe_here : (d : LinkEnd) → d.router ≡ (T.e).router
         → kept p d.port (unripe_of (v.routers d.router)) ≡ kept p d.port (unripe_of (w.routers d.router)) ++ held_for (session_at (v.routers d.router).ports d.port) (sent_to d.port (reaction (machine_of r p) (Event.Message q ((T.c).message).kind ((T.c).message).value)).sends)
     unripe_here d is =
@@ -216,7 +215,6 @@ module _ (t : Topology) (F : IsFinite t) (p : Prefix) (w v : Processes) (T : Tak
           ap (λ (m : Machine). m.attachment)
           (unmoved_elsewhere p r keeps ((T.c).message).prefix (Event.Message q ((T.c).message).kind ((T.c).message).value) apart).machine_is
 
-  -- so that of each router does
   pub taken_attachment : ((T.c).message).value ≤ infinity → (j : ℕ) → attachment_of (v.routers j) p ≡ attachment_of (w.routers j) p
   taken_attachment bounded = stays_of w v (T.e).router r' T.router_is T.routers_elsewhere (λ (y : Router). attachment_of y p) (attachment_same bounded)
 

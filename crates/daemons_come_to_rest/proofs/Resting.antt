@@ -37,7 +37,6 @@ module _ (t : Topology) (F : IsFinite t) (ps : List Prefix) where
   good_rests = every Leads Good (ProcessesComeToRest t F.routers) (all_places t F ps) (all_loads t F ps) (all_dues t F ps) top
       (λ w close. rests w (λ h alone. close (after_happening t w h) (record { happening = h; alone = alone; to = refl }))) keeps falls
 
--- what is kept comes to rest
 pub kept_rests : (t : Topology) (F : IsFinite t) (w : Processes) → Kept t w → ProcessesComeToRest t F.routers w
 kept_rests t F w K = good_rests t F (prefixes_in t F w) w (record { kept = K; known = all_known t F w })
 
@@ -45,6 +44,5 @@ kept_rests t F w K = good_rests t F (prefixes_in t F w) w (record { kept = K; kn
 pub always_rests : ProcessesAlwaysComeToRest
 always_rests t w M F = kept_rests t F w (kept_reached t w M)
 
--- and has a bound
 pub always_bounded : AlwaysHasBound
 always_bounded t w M F = let K = kept_reached t w M in has_bound t F w K (kept_rests t F w K)

@@ -54,7 +54,6 @@ module _ (t : Topology) (n d : ℕ) (old new : State) (C : CountsAlike t old new
       let m = N e valid w (cost_at (old.machine e.router) e.port) (old.machine (t.far e).router).rd (reported_at (old.machine e.router) e.port) in
       rw (C.cost_same e valid, C.reported_same e valid, C.rd_same (t.far e).router) (omega (arith, m))
 
-  -- so no more counts
   pub alike_count : (w : ℕ) → weight t n d new w ≤ weight t n d old w
   alike_count w =
       let tokens = sum_less n (λ i. token w (new.machine i)) (λ i. token w (old.machine i)) (λ i l. le_same (C.tokens w i)) in
@@ -75,7 +74,6 @@ abbrev pub stale_of : Option Neighbour → ℕ
 stale_of None = 0
 stale_of (Some n) = one_if (not n.up && not (n.reported == infinity))
 
--- so of an end
 abbrev pub stale : State → LinkEnd → ℕ
 stale s e = stale_of (slice_get (s.machine e.router).ports e.port)
 

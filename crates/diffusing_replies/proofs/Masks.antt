@@ -14,7 +14,6 @@ and-false : (b : Bool) → false ≡ (b && false)
 and-false true = refl
 and-false false = refl
 
--- the bit of k is set
 pub is_set-with : (mask k q : ℕ) → k < 32 → is_set (bit_or mask (1 * 2 ^ k % 4294967296)) q ≡ (q == k || is_set mask q)
 is_set-with mask k q below = by_test (q == k) refl
   where

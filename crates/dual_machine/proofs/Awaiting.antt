@@ -128,7 +128,6 @@ not_lt_itself q i same = grind (arith, nat_tests)
 eq_itself : (q i : ℕ) → q ≡ i → q == i ≡ true
 eq_itself q i same = grind (arith, nat_tests)
 
--- one more that is up
 pub more_up : (ns : List Neighbour) (q i : ℕ) → is_neighbour_up ns i ≡ true → (q == i || (nat_lt q i && is_neighbour_up ns q)) ≡ (nat_lt q (i + 1) && is_neighbour_up ns q)
 more_up ns q i up = by_place (cases_eq q i)
   where
@@ -136,7 +135,6 @@ more_up ns q i up = by_place (cases_eq q i)
     by_place (inl same) = ap (λ b. b || (nat_lt q i && is_neighbour_up ns q)) (eq_itself q i same) ∙ sym (ap (λ b. b && is_neighbour_up ns q) (lt_itself q i same) ∙ ap (is_neighbour_up ns) same ∙ up)
     by_place (inr apart) = ap (λ b. b || (nat_lt q i && is_neighbour_up ns q)) (ne_eqb q i apart) ∙ ap (λ b. b && is_neighbour_up ns q) (sym (lt_other q i apart))
 
--- one more that is down
 pub more_down : (ns : List Neighbour) (q i : ℕ) → is_neighbour_up ns i ≡ false → (nat_lt q i && is_neighbour_up ns q) ≡ (nat_lt q (i + 1) && is_neighbour_up ns q)
 more_down ns q i down = by_place (cases_eq q i)
   where

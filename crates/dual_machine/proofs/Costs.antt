@@ -35,7 +35,6 @@ HasCost-attachment_after (Attached cost) a brought attached = brought
 HasCost-attachment_after Detached a brought attached = tt
 HasCost-attachment_after _ a brought attached = attached
 
--- and so has each way
 pub HasCost-ways : (ns : List Neighbour) (a : Option ℕ) → All (λ n. IsCost n.cost) ns → IfSome a (λ cost. IsCost cost) → All (λ n. IsCost n.cost) (ns ++ home_ways a)
 HasCost-ways ns None costs attached = All-append HasCost ns [] costs (λ k d h. absurd (omega arith))
 HasCost-ways ns (Some cost) costs attached = All-append HasCost ns (home_ways (Some cost)) costs (All-cons HasCost (at_home cost) [] attached (λ k d h. absurd (omega arith)))

@@ -11,7 +11,6 @@ use Rattle.fabric.specs.Writers.{IsPending, LentAreDue}
 abbrev steps : List Step
 steps = LinkUp 0 ∷ Deliver 0 0 ∷ Deliver 1 0 ∷ Publish 0 ∷ Release 0 ∷ Deliver 1 0 ∷ []
 
--- the world then
 abbrev world : World
 world = (run (opening pair) steps).world
 

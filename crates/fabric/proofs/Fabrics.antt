@@ -60,7 +60,6 @@ kept_lent f i l capacity kept short = record { runs = kept.runs; short = short; 
 
 -- ---- the sum of the journal
 
--- a journal with no steps
 pub summed_none : (journal : List Step) → journal ≡ [] → IsSumOf journal 0
 summed_none journal none = record {
   is = sym (ap journal_sum none);

@@ -33,7 +33,6 @@ pub chosen_rows_are : (rs : List Router) → map (λ (i : Image). i.rows) (map c
 chosen_rows_are [] = refl
 chosen_rows_are (r ∷ rs) = ap (λ xs. (r.table).control ∷ xs) (chosen_rows_are rs)
 
--- their generation
 pub chosen_zero : (rs : List Router) → All (λ (i : Image). i.generation ≡ 0) (map chosen_image rs)
 chosen_zero [] k d less = absurd (omega (arith, less))
 chosen_zero (r ∷ rs) zero d less = refl
@@ -66,7 +65,6 @@ module _ (n : Network) (openings : List (List (Prefix × Entry))) (tables : open
       shown_opening n openings tables writers each (count ∙ ap length chosen ∙ length-map (opening n).routers chosen_image)
       ∙ ap (λ (v : World). map chosen_image v.routers) (sym opened)
 
-  -- all of them are in
   all_in : all_lent (map desk_in writers) ≡ replicate n.routers None
   all_in = none_lent writers ∙ ap (λ m. replicate m None) (count ∙ ap length chosen ∙ length-map (opening n).routers chosen_image ∙ length-map-range_with_len (opening_router_of n) 0 n.routers)
 

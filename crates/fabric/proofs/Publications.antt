@@ -40,7 +40,6 @@ writers_set w writers i x are number heard = record {
 
 -- ---- the chosen rows of a run
 
--- they follow the machines
 pub control_follows : (n : Network) (journal : List Step) (w : World) → IsNetwork n → Runs (opening n) journal w → (p : Prefix) (i : ℕ) (r : Router) → slice_get w.routers i ≡ Some r → (r.table).control ≡ chosen_rows r.ports r.machines
 control_follows n journal w valid runs p i r at = ((reached n (wired n valid) p journal w runs).kept.routers_kept i r at).control_is
 
@@ -105,7 +104,6 @@ module _ {A : Type 0} (n : Network) (journal : List Step) (w : World) (openings 
       by_test true is = Some_injective is
       by_test false is = absurd (None_not_Some (sym is))
 
-  -- with the next number
   pub next_number : patch.generation ≡ generation_of x.published + 1
   next_number = ap (λ (image : Image). image.generation) makes ∙ ap (λ g. g + 1) (sym (ap (λ (image : Image). image.generation) shows))
 
@@ -118,11 +116,9 @@ module _ {A : Type 0} (n : Network) (journal : List Step) (w : World) (openings 
   waits_heard : AreHeard w i x.waiting
   waits_heard = each_there (λ k (z : Writing). AreHeard w k z.waiting) writers (D.are).heard i x D.there
 
-  -- it is of its router
   pub number_is : (x.published).router ≡ i
   number_is = each_there (λ k (z : Writing). (z.published).router ≡ k) writers (D.are).numbered i x D.there
 
-  -- it names all that waits
   pub names_all : Covers (patch_of patch) x.waiting
   names_all q named =
       let heard : IsSome (row_of prefix_cmp q r.machines) = subst (λ o. IsSome (option_and_then (λ (y : Router). row_of prefix_cmp q y.machines) o)) D.at (waits_heard q named) in

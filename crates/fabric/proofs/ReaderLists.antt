@@ -21,7 +21,6 @@ module _ (lists : List (List Known)) (i : ℕ) (rest : List Known) (reader : Kno
   pub taken_is : HaveReaders 0 lists → reader ≡ no_patches i
   taken_is stock = all_last (λ r. r ≡ no_patches i) rest reader (each_there (λ j rs. (0 ≤ length rs) × All (λ r. r ≡ no_patches j) rs) lists stock i (rest ++ reader ∷ []) there).1
 
-  -- what is left
   pub left_after : (many k : ℕ) → k < many → many ≤ length (rest ++ reader ∷ []) → HaveReaders k lists → HaveReaders k (set lists i rest)
   left_after many k fewer enough stock = there_each (λ j rs. (k ≤ length rs) × All (λ r. r ≡ no_patches j) rs) (set lists i rest) (λ j rs at. by_place j rs (at_set lists i j rest rs at))
     where

@@ -98,7 +98,6 @@ module _ {A : Type 0} (n : Network) (journal : List Step) (w : World) (openings 
   abbrev away : Desk
   away = desk_out (d.writing).published (patch_of patch)
 
-  -- the same is shown
   pub shown_away : shown_images openings (writings (set desks i away)) ≡ shown_images openings (writings desks)
   shown_away = ap (shown_images openings) (map-set (λ (x : Desk). x.writing) desks i away) ∙ unseen_shown n journal w openings (writings desks) i d.writing patch D away.writing refl
 
@@ -111,7 +110,6 @@ module _ {A : Type 0} (n : Network) (journal : List Step) (w : World) (openings 
   writers_away are = subst (AreWriters w) (sym (map-set (λ (x : Desk). x.writing) desks i away))
       (writers_set w (writings desks) i away.writing are (number_is n journal w openings (writings desks) i d.writing patch D) patch_heard)
 
-  -- it is due
   is_due_there : is_due D.router ≡ true
   is_due_there = by_test (is_due D.router) refl (sym (ap (option_and_then (λ y. cond (is_due y) (Some (image_in_force (router_publishing y))) None)) D.at) ∙ D.due)
     where
@@ -247,7 +245,6 @@ module _ (w : World) (openings : List (List (Prefix × Entry))) (desks : List De
     published_is done items v ds pushed world left =
         λ k. fabric_of n (pushed k) (world k) ((ap (λ xs. shown_images openings (writings xs)) left ∙ sym (images_back done)) k) ((ap all_lent left ∙ lent_back) k)
 
-    -- and where it was not
     pub unpublished_is : o.is_published ≡ false → (ds : List Desk) → ds ≡ set desks i back
         → fabric_seen openings n journal w ds ≡ with_lent (fabric_seen openings n journal w desks) i None
     unpublished_is not_yet ds left = λ k. fabric_of n journal w ((ap (λ xs. shown_images openings (writings xs)) left ∙ shown_back not_yet) k) ((ap all_lent left ∙ lent_back) k)

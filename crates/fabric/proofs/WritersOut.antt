@@ -31,7 +31,6 @@ count-set (x ∷ xs) (suc i) y within =
     let rest = count-set xs i y (omega (arith, within)) in
     omega (arith, old, new, rest)
 
--- none is out where each is in
 pub none_lent : (writers : List Writing) → all_lent (map desk_in writers) ≡ replicate (length writers) None
 none_lent [] = refl
 none_lent (w ∷ ws) = ap (λ xs. None ∷ xs) (none_lent ws)

@@ -151,7 +151,6 @@ served_none opened asked = record {
   out = λ i lent. inl lent;
 }
 
--- a step after steps
 turns-more : (asked : Step → Bool) (w : World) (ss : List Step) (v : World) (s : Step) → AreTurns asked w ss → Runs w ss v → IsTurnAt asked v s → AreTurns asked w (ss ++ s ∷ [])
 turns-more asked w [] v s turns runs later = (subst (λ x. IsTurnAt asked x s) (sym runs) later, tt)
 turns-more asked w (t ∷ ss) v s turns runs later = (turns.0, turns-more asked (next w t) ss v s turns.1 runs.1 later)
@@ -219,6 +218,5 @@ served_published opened asked fabric after i t served own out lawful fits is =
     by_out (inl was) = absurd (false≢true (sym own ∙ was))
     by_out (inr next_one) = inr (i, next_is fabric.world i next_one)
 
--- or not
 pub served_unpublished : (opened : Fabric) (asked : Step → Bool) (fabric after : Fabric) (i : ℕ) → IsServed opened asked fabric → is_lent opened i ≡ false → after ≡ with_lent fabric i None → IsServed opened asked after
 served_unpublished opened asked fabric after i served own is = served_lent opened asked fabric after i None served (λ was. absurd (false≢true (sym own ∙ was))) (λ no. absurd (false≢true no)) is

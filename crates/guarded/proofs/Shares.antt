@@ -13,7 +13,6 @@ use Rattle.guarded.specs.declared.share.Share.{Share}
 use Rattle.guarded.specs.Served.{IsFound, IsTurn, IsTurnRefused}
 use Rattle.guarded.specs.Shares.{AreNew, HaveServed, KeptTickets, OweAsBefore, owes}
 
--- one share more
 pub new_more : {N : Type 0} (sum : ℕ) (ss ts : List (Share N)) (s : Share N) (n : ℕ) → AreNew sum ss → ts ≡ ss ++ s ∷ [] → length ss ≡ n → s.number ≡ n → s.sum ≡ (if n == 0 then sum else 0) → owes s ≡ 0 → AreNew sum ts
 new_more sum ss ts s n new is many number its home =
     subst (AreNew sum) (sym is)
@@ -94,6 +93,5 @@ began {X} f i r out t P Q turn its is =
 pub out_of_memory : (f : Fabric) (i : ℕ) → (next_fabric_step f i ≡ Some (Publish i)) × (fabric_refusal f (Publish i) ≡ None) → IsTurn f i (Err Refusal.NoMemory)
 out_of_memory f i due = inr (Publish i, due.0, inl (subst (λ o. CanBeRefused o Refusal.NoMemory) (sym due.1) refl))
 
--- or its ticket is handed back
 pub handed_back : (f : Fabric) (i : ℕ) → (next_fabric_step f i ≡ Some (Publish i)) × (fabric_refusal f (Publish i) ≡ None) → IsTurn f i (Err Refusal.WrongTicket)
 handed_back f i due = inr (Publish i, due.0, inr (refl, refl))

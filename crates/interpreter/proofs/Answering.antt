@@ -22,7 +22,6 @@ module _ (s : Simulation) (forwards : ForwardsAsPublished s) (router addr : ℕ)
           let there = element_there s.world.routers router (omega (arith, short, every)) in
           (there.0, there.1, sym (forwards.longest router there.0 image there.1 at addr) ∙ ap (λ (b : Answer). b.matched) (Some_injective h))
 
-  -- there is no such router
   pub unanswered : answer_there s router addr ≡ None → unknown_router s.world router ≡ Some UnknownRouter
   unanswered is = by_length (nat_lt router (length s.world.routers)) refl
     where

@@ -13,11 +13,9 @@ use Rattle.interpreter.specs.Dispatching.{CannotInject, CannotWork}
 pub waiting_in : {A B : Type 0} (f : A → List B) (o : Option A) (x : A) → Some x ≡ o → f x ≡ option_map_or f o []
 waiting_in f o x is = ap (λ q. option_map_or f q []) is
 
--- there is no job
 pub no_job : (refusal : Option Refusal) (e : Refusal) (kind : FaultKind) → kind ≡ refusal_kind e → CanBeRefused refusal e → CannotInject refusal kind
 no_job refusal e kind is why = inl (e, is, why)
 
--- they did not begin
 pub not_begun : (e : PoolFault) (kind : FaultKind) → kind ≡ pool_kind e → IsBeginFault e → CannotWork kind
 not_begun e kind is why = (e, is, inl why)
 

@@ -12,7 +12,6 @@ use Rattle.interpreter.specs.Commands.{IsDone, AreDone}
 use Rattle.interpreter.specs.Nets.{Meaning}
 
 module _ {S : Type 0} (k : Meaning S) where
-  -- one command more
   pub one_done : (cs : List Command) (c : Command) (f g h : S) → AreDone k cs f g → IsDone k c g h → AreDone k (cs ++ c ∷ []) f h
   one_done [] c f g h same is = (h, subst (λ m. IsDone k c m h) same is, refl)
   one_done (d ∷ cs) c f g h done is = (done.0, done.1, one_done cs c done.0 g h done.2 is)

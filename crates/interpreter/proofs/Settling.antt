@@ -8,7 +8,6 @@ use Rattle.simulation.specs.Simulation.{Simulation, after_step, after_steps}
 use Rattle.simulation.specs.Settling.{HasTurned}
 use Rattle.interpreter.specs.Settling.{StopsSettling, StopsThere}
 
--- each step is counted
 counted : (s : Simulation) (xs : List Step) → (after_steps s xs).steps ≡ s.steps + length xs
 counted s [] = (let same : s.steps ≡ s.steps + 0 = omega arith in same)
 counted s (x ∷ xs) = (let rest : (after_steps (after_step s x) xs).steps ≡ (s.steps + 1) + length xs = counted (after_step s x) xs in let both : (s.steps + 1) + length xs ≡ s.steps + length (x ∷ xs) = omega arith in rest ∙ both)

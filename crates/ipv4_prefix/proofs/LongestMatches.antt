@@ -56,7 +56,6 @@ module _ {X : Type 0} (addr : ℕ) where
           longer_some false t e = none-some s (sym e)
       by_test false fails o is e rest = by_row (Contains-cases s rows r h) fails (rest (is ∙ e))
 
-  -- what is found is a longest match
   pub longest_match-found : (rows : List (Prefix × X)) (found : Prefix × X) → longest_match addr rows ≡ Some found → IsLongestMatch addr rows found
   longest_match-found [] found is = absurd (none-some found is)
   longest_match-found (s ∷ rows) found is = by_test (covers s.0 addr) refl (longest_match addr rows) refl is (longest_match-found rows)
@@ -101,7 +100,6 @@ module _ {X : Type 0} (addr : ℕ) where
       by_match None none = absurd (true≢false (sym covered ∙ longest_match-none rows none r is_row))
       by_match (Some found) some = (found, some)
 
--- a prefix has one row
 pub same_row : {X : Type 0} (rows : List (Prefix × X)) (r s : Prefix × X) → HasDistinctPrefixes rows → Contains rows r → Contains rows s → r.0 ≡ s.0 → r ≡ s
 same_row rows r s distinct is_row is_other same =
     let (i, i_within, at_i) = at_from_Contains rows r is_row in

@@ -73,7 +73,6 @@ module _ (text : List ℕ) (p : Prefix) (spells : SpellsPrefix text p) where
   pub spells_length : SpellsLength (length_part text) p.len
   spells_length = (spells.0.short, rw apart (after_first-append is_slash _ _ slash (NoSlash-address_text p.addr spells.0.fits) refl))
 
--- a text spells one length
 SpellsLength_unique : (text : List ℕ) (m n : ℕ) → SpellsLength text m → SpellsLength text n → m ≡ n
 SpellsLength_unique text m n h k = Spells_unique text m n (omega (arith, h.0), h.1) (omega (arith, k.0), k.1)
 

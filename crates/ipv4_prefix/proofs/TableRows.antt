@@ -25,11 +25,9 @@ writable_from p h =
 pub writable_test : (p : Prefix) → IsPrefix p → is_writable p ≡ true
 writable_test p h = and_from _ _ (and_from _ _ (le-leb _ _ h.short) (lt-ltb _ _ h.fits)) (eq-eqb _ _ h.no_host_bits)
 
--- the number of a prefix
 abbrev number : Prefix → ℕ
 number p = p.addr * 64 + p.len
 
--- it has that number
 numbered-number : (p : Prefix) → IsPrefix p → numbered (number p) ≡ p
 numbered-number p h =
     let short = h.short in
@@ -69,7 +67,6 @@ module _ {X : Type 0} (p : Prefix) (rows : List (Prefix × X)) where
       by_test true = find-put prefix_cmp prefix_cmp_total q p x rows ∙ ap (λ b. cond b (Some x) (row_of prefix_cmp q rows)) (apart q p differ)
       by_test false = refl
 
-  -- the prefix finds its entry
   find_with_own : (o : Option X) → IsPrefix p → row_of prefix_cmp p rows ≡ None → row_of prefix_cmp p (with_entry p o rows) ≡ o
   find_with_own None h none = none
   find_with_own (Some x) h none =

@@ -42,7 +42,6 @@ module _ {X : Type 0} where
 
 module _ {X : Type 0} (entry : Prefix → Option X) (addr : ℕ) (rows : List (Prefix × X)) (writable : HasWritablePrefixes rows) (distinct : HasDistinctPrefixes rows)
     (same : (p : Prefix) → IsPrefix p → entry p ≡ row_of prefix_cmp p rows) where
-  -- a row has its entry
   entry_of : (r : Prefix × X) → Contains rows r → entry r.0 ≡ Some r.1
   entry_of r h = same r.0 (All-contains (λ x. IsPrefix x.0) rows r writable h) ∙ row_of-row rows r distinct h
 

@@ -23,7 +23,6 @@ steps_more names links attachments text version steps new lines rest line s has 
 
 -- ---- words that are refused
 
--- the verb of a step
 abbrev verb_of : Step → Text
 verb_of (LinkUp link) = codes "up"
 verb_of (LinkDown link) = codes "down"

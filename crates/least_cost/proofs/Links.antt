@@ -33,7 +33,6 @@ module _ (t : Topology) (old new : State) (k : Kept t old) (s : LinkUp t old new
       line_gains (line old e) (line new e) (UpNotice (new.session e) (new.cost e)) (port_same old new s.machines e) (s.inbox_at e h) l
       (l.end_up ∙ end_up_is t old s.a e false k s.valid_place s.was_down h, omega (arith, l.end_session, s.session_at e h), omega (arith, l.positive, s.costs.cost_same e))
 
-  -- each line is kept
   lines_up : (e : LinkEnd) → t.valid e ≡ true → LineKept (line new e)
   lines_up e v = go (end_cases t s.a e)
     where
@@ -100,7 +99,6 @@ module _ (t : Topology) (old new : State) (k : Kept t old) (s : LinkDown t old n
         replay_append (notices (old.inbox e)) (DownNotice (old.session e) ∷ []) p,
       )
 
-  -- each line is kept
   lines_down : (e : LinkEnd) → t.valid e ≡ true → LineKept (line new e)
   lines_down e v = go (end_cases t s.a e)
     where
@@ -146,7 +144,6 @@ module _ (t : Topology) (old new : State) (k : Kept t old) (s : SetCost t old ne
       let l = k.lines s.a s.valid_place in
       line_gains (line old s.a) (line new s.a) (CostNotice (old.session s.a) (new.cost s.a)) (port_same old new s.machines s.a) s.inbox_at l (l.end_up ∙ s.was_up, s.positive)
 
-  -- each line is kept
   lines_cost : (e : LinkEnd) → t.valid e ≡ true → LineKept (line new e)
   lines_cost e v = go (place_cases e s.a)
     where

@@ -36,7 +36,6 @@ module _ (t : Topology) (old new : State) (k : Kept t old) (i : ℕ) (event : Ev
   was_here : (j : ℕ) → j ≡ i → old.machine j ≡ m
   was_here j h = ap old.machine h
 
-  -- each machine is still sound
   sound_still : (j : ℕ) → IsSound (new.machine j)
   sound_still j = go (cases_eq j i)
     where

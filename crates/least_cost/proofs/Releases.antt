@@ -84,7 +84,6 @@ module _ (t : Topology) (old new : State) (k : Kept t old) (s : Release t old ne
       go true h i = arrived_one h i
       go false h i = arrived_none i
 
-  -- each line is still kept
   lines_still : (e : LinkEnd) → t.valid e ≡ true → LineKept (line new e)
   unfolding receiver
   lines_still e v = go (place_cases e receiver)

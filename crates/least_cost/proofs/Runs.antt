@@ -49,7 +49,6 @@ ports_down ns o p = go (slice_get ns p) refl
 ports_sound : (ns : List Neighbour) → OpeningPorts ns → AllSound ns
 ports_sound ns o p n h = record { costs = o.ports_cost p n h; bounded = omega (arith, o.ports_report p n h) }
 
--- the opening is kept
 kept_opening : (t : Topology) (s : State) → Opening t s → Kept t s
 kept_opening t s o = record {
   sound = λ i. rw (o.machines i) (opened_sound (o.attachment i) (o.ports i) (o.attachment_range i) (ports_sound (o.ports i) (o.opening_ports i)) (o.opening_ports i).ports_report);

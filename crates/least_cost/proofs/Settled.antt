@@ -92,7 +92,6 @@ module _ (t : Topology) (s : State) (I : Invariant t s) (k : Kept t s) (rest : N
       falls : ((s.machine e.router).fd < (s.machine f.router).fd) × (s.published_fd e.router < (s.machine f.router).fd)
       falls = back.control_edge_falls chosen
 
-  -- every machine is passive
   pub all_passive : (i : ℕ) → is_active (s.machine i) ≡ false
   all_passive = passive_all s.machine I.sound debtor_across
 

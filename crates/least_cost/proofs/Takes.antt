@@ -90,7 +90,6 @@ module _ (t : Topology) (old new : State) (k : Kept t old) (s : Take t old new) 
       go (inl h) = subst (λ x. Fits (new.inbox x) (port_at new x)) (sym h) (subst (λ x. Fits (new.inbox s.a) x) (sym port_at_a) fits_first.1)
       go (inr d) = subst (λ x. Fits (new.inbox e) x) (sym (port_elsewhere e d)) (subst (λ x. Fits x (port_at old e)) (sym (s.inbox_elsewhere e d)) (k.lines e v).fits)
 
-  -- each line is still kept
   lines_still : (e : LinkEnd) → t.valid e ≡ true → LineKept (line new e)
   lines_still e v = record {
     positive = rw (s.costs.cost_same e) (k.lines e v).positive;

@@ -17,11 +17,9 @@ module _ (t : Topology) (old new : State) (k : Kept t old) (s : TakeAtHome t old
       go (inl h) = ap (λ x. x.ports) (ap new.machine h ∙ s.machine_at) ∙ ports_home machine_laws (old.machine s.i) s.notice ∙ ap (λ j. (old.machine j).ports) (sym h)
       go (inr d) = ap (λ x. x.ports) (s.machine_elsewhere i d)
 
-  -- and each line
   line_still : (e : LinkEnd) → line new e ≡ line old e
   line_still e = rw (ports_still e.router, s.seen_same e, s.inboxes.inbox_same e, s.links.up_same e, s.links.session_same e, s.costs.cost_same e) refl
 
-  -- each line is still kept
   lines_still : (e : LinkEnd) → t.valid e ≡ true → LineKept (line new e)
   lines_still e v = rw (line_still e) (k.lines e v)
 

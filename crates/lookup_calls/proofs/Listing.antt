@@ -21,17 +21,14 @@ filled_at_end shown rows from old new count room there first rest ended =
       others = sym (drop_all (length old) all (omega (arith, many, room)));
     }
 
--- where there is no first one, there is none
 pub none_of_first : (rows : List (Prefix × Marked)) → None ≡ slice_get rows 0 → rows ≡ []
 none_of_first [] none = refl
 none_of_first (row ∷ rows) none = absurd (none-some row none)
 
 module _ (all : List (Prefix × Marked)) (row : Prefix × Marked) (others : List (Prefix × Marked)) (count : ℕ) (next : drop count all ≡ row ∷ others) where
-  -- there is one more
   pub one_more_there : count + 1 ≤ length all
   one_more_there = omega (arith, length-drop count all, ap length next)
 
-  -- it is this one
   pub one_more_row : take (count + 1) all ≡ take count all ++ row ∷ []
   one_more_row =
       let zero : count + 0 ≡ count = omega arith in
@@ -43,6 +40,5 @@ module _ (all : List (Prefix × Marked)) (row : Prefix × Marked) (others : List
   one_more_written shown new room first =
       take_more_set new count (shown row) room ∙ (λ i. first i ++ shown row ∷ []) ∙ sym (map-append shown (take count all) (row ∷ [])) ∙ ap (map shown) (sym one_more_row)
 
-  -- the others follow
   pub others_follow : others ≡ drop (count + 1) all
   others_follow = ap (drop 1) (sym next ∙ drop_more all count row (omega (arith, one_more_there)))

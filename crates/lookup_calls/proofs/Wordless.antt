@@ -71,11 +71,9 @@ sorted_either (Err e) old new rows ok err sorted =
     subst (λ (i : Image). is_sorted prefix_cmp i.rows ≡ true) (sym err) sorted
 
 module _ (form : Form) (image : Image) (table : WordTable) (is : form ≡ Plain image) (view : form_table form ≡ table) where
-  -- it has this table
   pub its_table : wordless_table image ≡ table
   its_table = sym (ap form_table is) ∙ view
 
-  -- rows that are set in it
   pub set_in_table : (rows : List (Prefix × Entry)) (new : Image) → new ≡ record { generation = image.generation; rows = with_rows rows image.rows }
       → wordless_table new ≡ record { generation = table.generation; rows = with_marked (wordless_rows rows) table.rows }
   set_in_table rows new e =
@@ -91,6 +89,5 @@ module _ (form : Form) (image : Image) (table : WordTable) (is : form ≡ Plain 
       ∙ (λ i. record { generation = image.generation; rows = wordless_without p image.rows i })
       ∙ ap (λ (t : WordTable). record { generation = t.generation; rows = without_marked p t.rows }) its_table
 
--- one with words is its table
 pub words_table : (form : Form) (image table : WordTable) → form ≡ Words image → form_table form ≡ table → image ≡ table
 words_table form image table is view = sym (ap form_table is) ∙ view

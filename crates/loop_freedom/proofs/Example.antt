@@ -12,7 +12,6 @@ is_place a e = (e.router == a.router) && (e.port == a.port)
 is_place_same : (a : LinkEnd) → is_place a a ≡ true
 is_place_same a = and_from (a.router == a.router) (a.port == a.port) (eq-eqb a.router a.router refl) (eq-eqb a.port a.port refl)
 
--- a link end is no other
 is_place_other : (a e : LinkEnd) → (e ≡ a → ⊥) → is_place a e ≡ false
 is_place_other a e d = false_from_ne_true (is_place a e) (λ x.
     let p = and_parts (e.router == a.router) (e.port == a.port) x in
@@ -200,7 +199,6 @@ sets_cost t s a c v u p = record {
 abbrev is_there : LinkEnd → Bool
 is_there e = ((e.router == 0) || (e.router == 1)) && (e.port == 0)
 
--- the end across the link
 abbrev across : LinkEnd → LinkEnd
 across e = if e.router == 0 then at_port 1 0 else at_port 0 0
 
@@ -277,7 +275,6 @@ s0 = record {
   published_fd = λ i. (opening_machine (home i) (down_port ∷ [])).fd;
 }
 
--- it is an opening
 pub opens : Opening pair s0
 opens = record {
   attachment = home;

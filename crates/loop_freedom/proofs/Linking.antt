@@ -15,7 +15,6 @@ not_seen : (m : Machine) (q seen n : ℕ) → seen < n → is_current m q seen n
 not_seen m q seen n lt = and_right (is_up_at m q) (seen == n) (ne_eqb seen n (λ e. omega (arith, e, lt)))
 
 module _ (t : Topology) (old new : State) (I : Invariant t old) (L : LinkUp t old new) where
-  -- both ends were down
   was_down_at : (e : LinkEnd) → IsEnd t L.a e → old.up e ≡ false
   was_down_at e (inl p) = ap old.up p ∙ L.was_down
   was_down_at e (inr p) = ap old.up p ∙ I.up_far L.a L.valid_place ∙ L.was_down
@@ -138,7 +137,6 @@ module _ (t : Topology) (old new : State) (I : Invariant t old) (L : LinkUp t ol
   }
 
 module _ (t : Topology) (old new : State) (I : Invariant t old) (L : LinkDown t old new) where
-  -- both ends were up
   was_up_at : (e : LinkEnd) → IsEnd t L.a e → old.up e ≡ true
   was_up_at e (inl p) = ap old.up p ∙ L.was_up
   was_up_at e (inr p) = ap old.up p ∙ I.up_far L.a L.valid_place ∙ L.was_up

@@ -24,7 +24,6 @@ pub record Met (old new : State) (i : ℕ) (ev : Event) : Type 0 where
   pub costs : SameCosts old new
   pub publications : SamePublished old new
 
--- a router that takes an item
 pub met_item : (t : Topology) (old new : State) (T : Take t old new) → Met old new T.a.router (event_of T.a.port T.item)
 met_item t old new T = record {
   machine_at = T.machine_at;

@@ -11,7 +11,6 @@ down_or_absent : (o : Option Neighbour) → ((n : Neighbour) → o ≡ Some n �
 down_or_absent None f = refl
 down_or_absent (Some n) f = f n refl
 
--- no port is up at the opening
 opening_ports_down : (ns : List Neighbour) → OpeningPorts ns → (p : ℕ) → test_at (λ (n : Neighbour). n.up) (slice_get ns p) ≡ false
 opening_ports_down ns P p = down_or_absent (slice_get ns p) (λ n e. P.ports_down p n e)
 

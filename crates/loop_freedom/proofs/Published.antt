@@ -90,6 +90,5 @@ invariant_there {x} {y} {y'} S h = subst (λ (z : End). EndInvariant x z) (sym S
 pub answered_here : {x x' y : End} → ShownAs x x' → Answered x y → Answered x' y
 answered_here {x} {x'} {y} S h = subst (λ (z : End). Answered z y) (sym S.is) (record { answered = (let u = h.answered in let s = ap (count Query) S.pipe_is in omega (arith, u, s)) })
 
--- and so is it by the other
 pub answered_there : {x y y' : End} → ShownAs y y' → Answered x y → Answered x y'
 answered_there {x} {y} {y'} S h = subst (λ (z : End). Answered x z) (sym S.is) (record { answered = (let u = h.answered in let s = ap (count Reply) S.pipe_is in omega (arith, u, s)) })

@@ -58,7 +58,6 @@ skip_keeps t old new I S =
 messages_cost : (xs : List SeenItem) (n c : ℕ) → messages (xs ++ CostNotice n c ∷ []) ≡ messages xs
 messages_cost xs n c = messages-append xs (CostNotice n c ∷ []) ∙ append-nil (messages xs)
 
--- a new cost keeps the invariant
 pub set_cost_keeps : (t : Topology) (old new : State) → Invariant t old → SetCost t old new → Invariant t new
 set_cost_keeps t old new I S =
     still_keeps t old new I S.machines S.publications S.links
@@ -105,7 +104,6 @@ outs_arriving xs n h hs = by_session (h.session == n)
     by_session true = rw (messages-append xs (Reported h.message ∷ [])) (append_assoc (messages xs) (h.message ∷ []) (live n hs))
     by_session false = rw (append-nil xs) refl
 
--- a release keeps the invariant
 pub release_keeps : (t : Topology) (old new : State) → Invariant t old → Release t old new → Invariant t new
 release_keeps t old new I S =
     still_keeps t old new I S.machines S.publications S.links

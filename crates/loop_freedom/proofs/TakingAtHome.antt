@@ -19,7 +19,6 @@ module _ (laws : MachineLaws) (m : Machine) where
   ports_home None = laws.keeps_records m (event_at_home None)
   ports_home (Some c) = laws.keeps_records m (event_at_home (Some c))
 
-  -- or which of them are up
   pub up_home : (o : Option ℕ) (q : ℕ) → is_up_at (reaction m (event_at_home o)).machine q ≡ is_up_at m q
   up_home o q = ap (λ (ns : List Neighbour). test_at (λ (x : Neighbour). x.up) (slice_get ns q)) (ports_home o)
 

@@ -13,7 +13,6 @@ use Rattle.loop_freedom.proofs.StillMachines.{release_keeps, set_cost_keeps, ski
 use Rattle.loop_freedom.proofs.Linking.{link_up_keeps, link_down_keeps}
 use Rattle.loop_freedom.proofs.Opened.{opening_keeps}
 
--- every step keeps the invariant
 pub steps_keep : MachineLaws → (t : Topology) (old new : State) → Invariant t old → Step t old new → Invariant t new
 steps_keep laws t old new I (Takes s) = take_keeps laws t old new I s
 steps_keep laws t old new I (TakesAtHome s) = take_at_home_keeps laws t old new I s
@@ -24,7 +23,6 @@ steps_keep laws t old new I (LinkGoes s) = link_down_keeps t old new I s
 steps_keep laws t old new I (CostChanges s) = set_cost_keeps t old new I s
 steps_keep laws t old new I (Skips s) = skip_keeps t old new I s
 
--- every run keeps the invariant
 pub run_keeps : MachineLaws → (t : Topology) (first last : State) → Invariant t first → Run t first last → Invariant t last
 run_keeps laws t first last I Start = I
 run_keeps laws t first last I (Then {middle = b} r s) = steps_keep laws t b last (run_keeps laws t first b I r) s
@@ -78,7 +76,6 @@ edges_fall : (t : Topology) (edge : LinkEnd → Type 0) (h : ℕ → ℕ) → ((
 edges_fall t edge h f i [] w = tt
 edges_fall t edge h f i (e ∷ es) w = (subst (λ (n : ℕ). h (t.far e).router < h n) w.0 (f e w.1 w.2), edges_fall t edge h f (t.far e).router es w.3)
 
--- so it meets no router twice
 walk_distinct : (t : Topology) (edge : LinkEnd → Type 0) (h : ℕ → ℕ) → ((e : LinkEnd) → t.valid e ≡ true → edge e → h (t.far e).router < h e.router)
     → (i : ℕ) (es : List LinkEnd) → IsEdgeWalk t edge i es → meets_twice (i ∷ met t es) ≡ false
 walk_distinct t edge h f i es w = falls_distinct h (i ∷ met t es) (edges_fall t edge h f i es w)

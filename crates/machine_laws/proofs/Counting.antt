@@ -87,7 +87,6 @@ waiting_queries m e c debt answer p h d fair = go (is_message Reply p e) refl
         let same = ap (test_at (λ b. b)) (awaited_kept e p c.awaited (λ k. both_ways _ t (released_by p e d k))) in
         rw (same, t, active_awaits m c p h, none) refl
 
--- every outcome counts its queries
 queries_of : (m : Machine) (e : Event) (r : Reaction) → IsSound m → Outcome m e r → (p : ℕ) → is_down p e ≡ false → (is_message Reply p e ≡ true → awaits m p ≡ true) → QueriesCount m e r p
 queries_of m e r sound (came_up q cost) p d fair = rw (greeting_count Query m p q refl) refl
 queries_of m e r sound (goes_on _ c debt answer h some a) p d fair = waiting_queries m e c debt answer p h d fair
@@ -113,7 +112,6 @@ alone_account m e debt answer p sound a none =
       false_from_ne_true (is_port p answer) (λ t. both_ways (is_up_at (with_records m e) p) down (a.answer_up p (is_port-Some p answer t))),
     )
 
--- every outcome counts its replies
 replies_of : (m : Machine) (e : Event) (r : Reaction) → IsSound m → Outcome m e r → (p : ℕ) → is_down p e ≡ false → (is_message Query p e ≡ true → owes_port m p ≡ false) → RepliesCount m e r p
 replies_of m e r sound (came_up q cost) p d fair = rw (greeting_count Reply m p q refl) refl
 replies_of m e r sound (goes_on _ c debt answer h some a) p d fair = rw (count_one Reply Reply p answer m.rd) (a.balance p d fair)

@@ -200,7 +200,6 @@ at_home_sound None f p n e = absurd (none-some n e)
 at_home_sound (Some c) f zero n e = subst IsSoundPort (same_Some (at_home c) n e) (record { costs = f c refl; bounded = omega arith })
 at_home_sound (Some c) f (suc p) n e = absurd (none-some n e)
 
--- so all ways are sound
 pub ways_sound : (ns : List Neighbour) (a : Option ℕ) → AllSound ns → ((c : ℕ) → a ≡ Some c → 0 < c) → AllSound (ns ++ home_ways a)
 ways_sound ns a sound f = append_each IsSoundPort ns (home_ways a) sound (at_home_sound a f)
 

@@ -280,7 +280,6 @@ outcome_started m e sound meets h f = go (asker e) refl
         by_successor true t = outcome_begun m e m.fd (Some q) d (account_debt m e q meets h k (is_port-Some q (with_records m e).successor t)) f
         by_successor false t = outcome_begun_after m e m.fd q None d (subst (λ o. Account m e None o) k (account_answer m e meets h)) f
 
--- a passive machine has an outcome
 outcome_passive : (m : Machine) (e : Event) → IsSound m → Meets m e → m.computation ≡ None → Outcome m e (passive_reaction (with_records m e) e)
 outcome_passive m e sound meets h = go (condition_holds m.fd (ways (with_records m e))) refl
   where
@@ -296,7 +295,6 @@ outcome_completed m e debt sound d a = go (condition_holds m.rd (ways (with_reco
     go true t = settles e m.rd debt d (account_paid m e debt a) t
     go false t = outcome_begun m e m.rd debt d a t
 
--- an active machine has an outcome
 outcome_active : (m : Machine) (e : Event) (c : Computation) → IsSound m → Meets m e → m.computation ≡ Some c → Outcome m e (active_reaction (with_records m e) e c)
 outcome_active m e c sound meets h = go (list_any (λ b. b) (awaited_after e c.awaited)) refl
   where

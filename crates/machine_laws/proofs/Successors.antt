@@ -2,11 +2,9 @@
 use Rattle.std.proofs.Common.{◌≡◌, ℕ, ◌<◌, Bool, true, false, Option, Some, None, refl, arith, eqb-true, eq-eqb, ne_eqb, sym, ◌==◌, if◌then◌else◌, option_and_then}
 use Rattle.network_model.proofs.Common.{none-some, Machine, port_count, port_successor, is_port}
 
--- a successor that is a port
 pub port_successor_is : (m : Machine) (p : ℕ) → m.successor ≡ Some p → p < port_count m → port_successor m ≡ Some p
 port_successor_is m p h l = rw (h, ne_eqb p (port_count m) (λ e. omega (arith, l, e))) refl
 
--- no successor is no port
 pub port_successor_none : (m : Machine) → m.successor ≡ None → port_successor m ≡ None
 port_successor_none m h = rw h refl
 
@@ -14,7 +12,6 @@ port_successor_none m h = rw h refl
 pub port_successor_home : (m : Machine) → m.successor ≡ Some (port_count m) → port_successor m ≡ None
 port_successor_home m h = rw (h, eq-eqb (port_count m) (port_count m) refl) refl
 
--- a port that is the successor
 pub port_successor_from : (m : Machine) (p : ℕ) → port_successor m ≡ Some p → m.successor ≡ Some p
 port_successor_from m p h = go m.successor h
   where

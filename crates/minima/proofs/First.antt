@@ -16,7 +16,6 @@ module _ (n : ℕ) (ns : List (Option Due)) (least : HasLeast n ns) where
   above_no_later k p first inner (inl e) = subst (λ j. NoLater (node_at ns p) (node_at ns j)) (sym e) (subst (λ o. NoLater o (node_at ns (p + p))) (sym (least p first inner)) (lesser_left (node_at ns (p + p)) (node_at ns (p + p + 1))))
   above_no_later k p first inner (inr e) = subst (λ j. NoLater (node_at ns p) (node_at ns j)) (sym e) (subst (λ o. NoLater o (node_at ns (p + p + 1))) (sym (least p first inner)) (lesser_right (node_at ns (p + p)) (node_at ns (p + p + 1))))
 
-  -- so the root is no later than any
   pub root_no_later : (fuel k : ℕ) → k ≤ fuel → 1 ≤ k → k < n + n → NoLater (node_at ns 1) (node_at ns k)
   root_no_later zero k within first below = absurd (omega (arith, within, first))
   root_no_later (suc fuel) k within first below = by_order (λ j. root_no_later fuel j) (cases_lt 1 k) (halves k)

@@ -74,7 +74,6 @@ lesser_right (Some a) (Some b) = by_test (is_sooner b a) refl
     by_test true is = no_later_itself (Some b)
     by_test false is = not_before b a is
 
--- and it is one of them
 pub lesser_is : (a b : Option Due) → (lesser a b ≡ a) ⊎ (lesser a b ≡ b)
 lesser_is None b = inr refl
 lesser_is (Some a) None = inl refl

@@ -50,7 +50,6 @@ climbed_all n ns c root above k first below = above k first below (λ e. absurd 
 
 -- ---- the tree after that
 
--- the pair of a router has that router
 pair_router : (r : ℕ) (moment : Option ℕ) (d : Due) → pair_of r moment ≡ Some d → d.router ≡ r
 pair_router r None d is = absurd (None_not_Some is)
 pair_router r (Some m) d is = sym (ap (λ (x : Due). x.router) (Some_injective is))

@@ -128,7 +128,6 @@ marked m K p i k e row lead = lead
 pub unmarked_is : Sound unmarked_leads
 unmarked_is m K p i k e row lead = unmarked m.topology p (m.fd_published p) m.processes (K p).invariant (K p).orderly i k e (inl row) lead
 
--- the moment
 abbrev pub now : (t : Topology) (w : Processes) → AreReached t w → Moment
 now t w M = record { topology = t; processes = w; fd_published = fds_reached t w M }
 

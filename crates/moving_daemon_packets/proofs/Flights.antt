@@ -193,7 +193,6 @@ last_along m K e session (Rewires t ∷ es) v le on =
     let last_is = last_same m K t e on.0 on.1 in
     last_along (moment_rewired m t) (kept_rewired m t K on.0) e session es S.is (omega (arith, last_is, le)) on.2
 
--- what is kept then
 kept_after : (m : Moment) → IsKept m → (e : LinkEnd) (session : ℕ) (es : List DaemonEvent) → IsOnLink e session m es → IsKept (moment_after m es)
 kept_after m K e session [] on = K
 kept_after m K e session (Goes k ∷ es) on = absurd on
@@ -244,7 +243,6 @@ in_order m K i k q session p es row on before leads = by_test (n.valid (at_port 
         at_once m K i k q session p es row on
         (ap (λ c. if c then Some (n.far (at_port i q)).router else None) (and_from (n.valid (at_port i q)) (is_in_session v (n.far (at_port i q)) session) a (ap (is_in_session v (n.far (at_port i q))) (sym same) ∙ b)) ∙ g)
 
--- at every moment
 pub always_at_once : HoldsAtEveryMoment HopsAtOnce
 always_at_once t w M = at_once (now t w M) (kept t w M)
 

@@ -81,7 +81,6 @@ module _ (leads : LeadsOn) (across : LeadsAcross leads) (once : NeverTwice leads
   done_alone w i (Does x ∷ es) h = (h.0, done_alone (after_happening t w x) i es h.1)
   done_alone w i (Rewires t' ∷ es) h = absurd h
 
--- so hops end
 hops_end : (leads : LeadsOn) → LeadsAcross leads → NeverTwice leads → HoldsAlways (HopsEnd leads)
 hops_end leads across once t w M F = (suc B.0 * F.routers, bound)
   where
@@ -97,7 +96,6 @@ hops_end leads across once t w M F = (suc B.0 * F.routers, bound)
         let sum = suc-mul B.0 F.routers in
         omega (arith, all, first, more, sum)
 
--- the router across a link
 across_link : (t : Topology) (e : LinkEnd) (session k : ℕ) (b : Bool) → (if t.valid e && b then Some (t.far e).router else None) ≡ Some k → (f : LinkEnd) × (t.valid f ≡ true) × (f.router ≡ k)
 across_link t e session k b h = by_test (t.valid e && b) refl h
   where

@@ -32,7 +32,6 @@ always_for_better n ss w valid r addr i k p q es F C G =
 comes_low : (h : History) → IsMade h → (addr i k : ℕ) (p : Prefix) → IsForwarded h.world addr p i k → IsLow (fd_published h p k) (fd_chosen h p k) false (fd_published h p i)
 comes_low h M addr i k p F = (let below = lower h M addr i k p F in record { published = below.1; chosen = λ e. below.0 })
 
--- it stays near
 stays_near : (h : History) → IsMade h → (addr : ℕ) (q : Prefix) (risen : Bool) (k g : ℕ) (es : List Event) → IsLow (fd_published h q k) (fd_chosen h q k) risen g → IsCalm h addr q risen k es → StaysNear h addr q g k es
 stays_near h M addr q risen k g [] W C = W.published
 stays_near h M addr q risen k g (Goes l ∷ es) W C = (W.published, (C.0, C.1, stays_near h M addr C.0 false l (fd_published h C.0 k) es (comes_low h M addr k l C.0 C.1) C.2))
@@ -40,7 +39,6 @@ stays_near h M addr q risen k g (Does s ∷ es) W C =
     let low = stays_low (fd_published h q k) (fd_chosen h q k) (fd_published (with_step h s) q k) (fd_chosen (with_step h s) q k) risen risen g (λ e. (e, stays_or_chosen h s q k C.0)) C.1 W in
     (C.0, stays_near (with_step h s) (made_more h s M C.0) addr q (risen || rises fd_chosen h s q k) k g es low C.2)
 
--- after every run
 pub always_near : HoldsAfterEveryRun CalmStaysNear
 always_near n ss w valid r addr i k p es F C =
     let M = made n ss w valid r in
@@ -58,6 +56,5 @@ nearer h addr p k g (Goes l ∷ es) C B =
     omega (arith, rest, lt)
 nearer h addr p k g (Does s ∷ es) C B = nearer (with_step h s) addr p k g es C.1 B
 
--- after every run
 pub always_nearer : HoldsAfterEveryRun HopsComeNearer
 always_nearer n ss w valid r addr i k p es F C B = (let lt = nearer (history n ss) addr p k (fd_published (history n ss) p i) es C B in omega (arith, lt))

@@ -8,7 +8,6 @@ use Rattle.moving_packets.specs.Moving.{fd_published, router_at_end, history_aft
 
 -- ---- a packet that waits
 
--- the steps, as events
 abbrev waiting : List Step → List Event
 waiting [] = []
 waiting (s ∷ ss) = Does s ∷ waiting ss

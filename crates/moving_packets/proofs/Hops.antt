@@ -94,7 +94,6 @@ always_few n ss w valid r addr i es lt h =
 
 -- ---- a network that is left alone
 
--- the steps that are done
 abbrev done : List Event → List Step
 done [] = []
 done (Goes k ∷ es) = done es

@@ -18,7 +18,6 @@ pub record IsMade (h : History) : Type 0 where
   pub runs : Runs (opening network) steps h.world
   pub is : history network steps ≡ h
 
--- one step more
 steps_more : (h : History) (ss : List Step) (s : Step) → with_steps h (ss ++ s ∷ []) ≡ with_step (with_steps h ss) s
 steps_more h [] s = refl
 steps_more h (x ∷ ss) s = steps_more (with_step h x) ss s

@@ -137,7 +137,6 @@ module _ {M : Type 0} {kept : M → Type 0} {fd : M → Prefix → ℕ → ℕ} 
           let lt : fd m p i < g = subst (λ (x : Prefix). fd m x i < g) prefix low in
           inl (omega (arith, lt, below))
 
-  -- and so it does where it comes back
   pub comes_back : (m0 : M) → kept m0 → (addr i k0 : ℕ) (p : Prefix) → goes m0 addr p i k0 → (m : M) → kept m → (q : Prefix) (k g : ℕ) → IsOn addr p (fd m0 p i) q g → fd m q k < g → (q' : Prefix) → goes m addr q' k i
       → IsBetter addr p (fd m0 p i) (fd m p i) (row m0 i) (row m i)
   comes_back m0 K0 addr i k0 p G0 m K q k g O low q' G =
@@ -244,7 +243,6 @@ module _ {M : Type 0} {kept : M → Type 0} {fd : M → Prefix → ℕ → ℕ} 
       by_kind true d = omega arith
       by_kind false d = omega arith
 
--- one hop more
 pub count_hop : (b : Bool) (visits publications s' s : ℕ) → visits ≤ publications + s' → (if b then suc s' else s') ≤ s → (if b then suc visits else visits) ≤ publications + s
 count_hop true visits publications s' s few le = omega (arith, few, le)
 count_hop false visits publications s' s few le = omega (arith, few, le)

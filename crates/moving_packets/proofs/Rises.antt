@@ -8,7 +8,6 @@ use Rattle.no_packet_loops.proofs.Places.{topology}
 use Rattle.moving_packets.specs.Moving.{HoldsAfterEveryRun, RisesComeFrom, fd_chosen, fd_published}
 use Rattle.moving_packets.proofs.Reached.{IsMade, made, set_or_not, wired_is, here}
 
--- what is the same does not rise
 no_rise : (a b : ℕ) → b ≡ a → nat_lt a b ≡ true → ⊥
 no_rise a b e is = (let lt = ltb-true a b is in omega (arith, lt, e))
 
@@ -109,6 +108,5 @@ come_from h M = record {
       (E.0, omega (arith, le, then_is)));
 }
 
--- after every run
 pub always_come_from : HoldsAfterEveryRun RisesComeFrom
 always_come_from n ss w valid r = come_from (_) (made n ss w valid r)

@@ -43,7 +43,6 @@ same_rows w (Detach j k) i quiet = refl
 same_fd : (h : History) (s : Step) (p : Prefix) (i : ℕ) → Lawful h.world s → publishes i s ≡ false → fd_published (with_step h s) p i ≡ fd_published h p i
 same_fd h s p i L quiet = elim (same_published h.world h.published s p i L) [ inl e ↦ e | inr e ↦ absurd (false≢true (sym (ap (publishes i) (sym e) ∙ quiet) ∙ eq-eqb i i refl)) ]
 
--- the entry of a row
 entry_is : (w : World) (i : ℕ) (p : Prefix) → published_entry w i p ≡ row_of prefix_cmp p (rows_of (slice_get w.routers i))
 entry_is w i p = by_router (slice_get w.routers i)
   where
@@ -63,7 +62,6 @@ same_shown h addr i q g k (Does s ∷ es) C quiet =
     let none = or_parts (publishes i s) (has_published i es) quiet in
     shows_same i h (with_step h s) (history_after (with_step h s) es) (same_step h s i C.0 none.0) (same_shown (with_step h s) addr i q g k es C.1 none.1)
 
--- after every run
 pub always_once_published : HoldsAfterEveryRun ComesBackOncePublished
 always_once_published n ss w valid r addr i k p q es F C G = by_test (has_published i es) refl
   where
@@ -82,7 +80,6 @@ few h M addr i q k g (Does s ∷ es) C w =
     let N = wait_counts descends addr i h (with_step h s) q k g (publishes i s) (same_step h s i C.0) w in
     count_wait (publishes i s) (visits i es) (publications i es) (spare descends N.0) (spare descends w) (few (with_step h s) (made_more h s M C.0) addr i q k g es C.1 N.0) N.1
 
--- after every run
 pub always_seldom : HoldsAfterEveryRun ComesBackSeldom
 always_seldom n ss w valid r addr i k p es F C =
     let M = made n ss w valid r in

@@ -22,11 +22,9 @@ module _ {X : Type 0} (fault : X → Option CallFault) (xs : List X) (i : ℕ) (
   pub passed : fault x ≡ None → first_place fault i (drop i xs) ≡ first_place fault (i + 1) (drop (i + 1) xs)
   passed none = here ∙ ap (λ o. option_map_or (λ f. Some (f, i)) o (first_place fault (i + 1) (drop (i + 1) xs))) none
 
-  -- the first with one is found
   pub found : (f : CallFault) → fault x ≡ Some f → first_place fault i (drop i xs) ≡ Some (f, i)
   found f is = here ∙ ap (λ o. option_map_or (λ f. Some (f, i)) o (first_place fault (i + 1) (drop (i + 1) xs))) is
 
--- where none is left, none has one
 pub none_left : {X : Type 0} (fault : X → Option CallFault) (xs : List X) (i : ℕ) → length xs ≤ i → first_place fault i (drop i xs) ≡ None
 none_left fault xs i over = ap (first_place fault i) (drop_all i xs over)
 
@@ -46,7 +44,6 @@ module _ (links : List LinkParts) (attachments : List AttachmentParts) where
   none_listed no_link no_attachment =
       ap (λ a. option_map_or (λ f. Some (failure_in_list 1 f)) a (option_map (failure_in_list 2) (first_place attachment_parts_fault 0 attachments))) no_link ∙ ap (option_map (failure_in_list 2)) no_attachment
 
-  -- so only memory can be lacked
   pub lacks_memory : (network : Option (Failure × FaultPlace)) → first_place link_fault 0 links ≡ None → first_place attachment_parts_fault 0 attachments ≡ None
       → IsOpeningFault (list_fault links attachments) network (Given NoMemory, record { position = 0; list = 0 })
   lacks_memory network no_link no_attachment = subst (λ o. IsOpeningFault o network (Given NoMemory, record { position = 0; list = 0 })) (sym (none_listed no_link no_attachment)) (inl refl)

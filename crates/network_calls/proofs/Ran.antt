@@ -21,7 +21,6 @@ use Rattle.network_calls.specs.declared.step.StepParts.{StepParts}
 pub ran_none : (parts : List StepParts) (s : Simulation) → IsRanTo parts s s 0
 ran_none parts s = record { within = omega arith; runs = refl; after = refl }
 
--- one step more
 pub ran_more : (parts : List StepParts) (old mid new : Simulation) (done : ℕ) (p : StepParts) → IsRanTo parts old mid done → done < length parts → p ≡ get_or parts done p
     → Lawful mid.world (step_of p) → new ≡ after_step mid (step_of p) → IsRanTo parts old new (done + 1)
 ran_more parts old mid new done p ran below read lawful is =

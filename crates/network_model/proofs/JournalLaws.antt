@@ -29,7 +29,6 @@ packed_injective c d h k e =
     let one : _ = digits_16 c.kind c.subject d.kind d.subject h.subject k.subject two.0 in
     λ i. record { kind = one.0 i; subject = one.1 i; port = two.1 i; cost = three.1 i; addr = four.1 i; len = five.1 i }
 
--- the step that has this code
 abbrev step_of_code : Code → Step
 step_of_code c =
     if c.kind == 0 then LinkUp c.subject

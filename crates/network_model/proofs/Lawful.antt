@@ -83,7 +83,6 @@ there_before : {A B : Type 0} (f : A → Option B) (o : Option A) {y : B} → op
 there_before f None e = absurd (None_not_Some e)
 there_before f (Some x) e = refl
 
--- an item is on a link
 link_there : (w : World) (o : Option Place) {item : Item} → option_and_then (λ s. slice_get s.inbox 0) (option_and_then (λ p. option_map (side p.end) (slice_get w.links p.link)) o) ≡ Some item → is_none (option_and_then (λ p. slice_get w.links p.link) o) ≡ false
 link_there w None e = absurd (None_not_Some e)
 link_there w (Some p) {item} e = by_link (slice_get w.links p.link) e
@@ -115,7 +114,6 @@ Lawful_to_refusal w s lawful = none_first (causes w s) (by_step s lawful)
     by_step (Attach i p cost) h = (ap is_none h.1, (ap not h.2, tt))
     by_step (Detach i p) h = (ap is_none h.2, (ap not h.3, (ap is_none h.4, tt)))
 
--- steps that can be asked
 abbrev pub AllCanBeAsked : List Step → Type 0
 AllCanBeAsked = AllByRecursion CanBeAsked
 

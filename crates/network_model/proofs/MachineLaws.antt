@@ -22,7 +22,6 @@ distance-bounded n = by_up n.up (nat_lt (n.reported + n.cost) infinity) refl
 
 -- ---- nobody is up
 
--- no neighbour is up
 abbrev pub IsNoneUp : List Neighbour → Type 0
 IsNoneUp ns = list_any (λ n. n.up) ns ≡ false
 

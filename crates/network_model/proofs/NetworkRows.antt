@@ -523,7 +523,6 @@ small_faults : map (network_fault small) (
 unfolding small network link ten ten_one everything
 small_faults = refl
 
--- the widest limits
 widest_faults : map (network_fault widest_limits) (network 65536 [] [] ∷ network 65537 [] [] ∷ network 65536 (link 65534 65535 1 1 ∷ []) ((ten, 65535, 1) ∷ []) ∷ network 33 (star 32 1) [] ∷ network 34 (star 33 1) [] ∷ [])
     ≡ None ∷ Some BadRouters ∷ None ∷ None ∷ Some (TooManyLinks 32) ∷ []
 unfolding network link star ten

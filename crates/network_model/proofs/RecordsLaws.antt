@@ -57,7 +57,6 @@ keeps_active n e c =
 keeps_decision : (n : Machine) (e : Event) → KeepsRecords n (decision n e)
 keeps_decision n e = option_map_or-ind (KeepsRecords n) (active_reaction n e) n.computation (passive_reaction n e) (keeps_passive n e) (λ c _. keeps_active n e c)
 
--- so does every reaction
 pub reaction-keeps : (m : Machine) (e : Event) → KeepsRecords (with_records m e) (reaction m e)
 reaction-keeps m (Message q k v) = keeps_decision (with_records m (Message q k v)) (Message q k v)
 reaction-keeps m (Up q cost) = record { ports = refl; attachment = refl }

@@ -54,7 +54,6 @@ session_changed q change ports lt s sees =
 
 module _ (n : Network) (p : Prefix) (i : ℕ) (r : Router) (R : RouterKept n p i r) (q : ℕ) (there : q < length r.ports)
     (item : SeenItem) (change : Port → Port) (S : StaysOpened (event_of q item) q change r.ports) (sees : (x : Port) → slice_get r.ports q ≡ Some x → (change x).session ≡ seen_after item x.session) where
-  -- the event
   abbrev e : Event
   e = event_of q item
 

@@ -84,6 +84,5 @@ module _ (n : Network) (N : IsWired n) (p : Prefix) (w : World) (pfd : ℕ → �
   pub attaches : (k : Prefix) (cost : ℕ) → IsCost cost → StepKept n N p w pfd (next w (Attach i k cost)) pfd
   attaches k cost good = changes (with_attachment k cost) (λ r a A. attached p r a A k cost good)
 
-  -- so does the step Detach
   pub detaches : (k : Prefix) → StepKept n N p w pfd (next w (Detach i k)) pfd
   detaches k = changes (without_attachment k) (λ r a A. detached p r a A k)

@@ -42,7 +42,6 @@ module _ (n : Network) (N : IsWired n) (p : Prefix) where
   abbrev home_of : ℕ → Option ℕ
   home_of i = row_of prefix_cmp p (costs_of n i)
 
-  -- it is a cost
   home_cost : (i c : ℕ) → home_of i ≡ Some c → IsCost c
   home_cost i c is = cost_listed IsCost p i n.attachments N.attachment_costs c is
 

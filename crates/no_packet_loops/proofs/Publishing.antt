@@ -74,7 +74,6 @@ module _ (n : Network) (N : IsWired n) (p : Prefix) (w : World) (pfd : ℕ → �
   new_at : (j : ℕ) → j ≡ i → slice_get v.routers j ≡ Some (router_publishing r)
   new_at j e = ap (slice_get v.routers) e ∙ slice_get-changed_at router_publishing i w.routers ∙ ap (option_map router_publishing) router_at
 
-  -- router i was the router r
   old_at : (j : ℕ) → j ≡ i → slice_get w.routers j ≡ Some r
   old_at j e = ap (slice_get w.routers) e ∙ router_at
 

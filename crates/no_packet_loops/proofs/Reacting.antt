@@ -111,7 +111,6 @@ module _ (p : Prefix) (r : Router) (within : (r.gate).ripe ≤ length (r.gate).h
     abbrev pub rows : List (Prefix × Machine)
     rows = put prefix_cmp k x.machine r.machines
 
-    -- what is held more
     abbrev pub more : List Held
     more = map (held_of r.ports k) x.sends
 

@@ -58,7 +58,6 @@ pub Runs-shape : (w : World) (ss : List Step) (v : World) → Runs w ss v → Sa
 Runs-shape w [] v e = subst (SameShape w) e (SameShape-itself w)
 Runs-shape w (s ∷ ss) v r = SameShape-trans (next-shape w s) (Runs-shape (next w s) ss v r.1)
 
--- a run with one step more
 pub runs_more : (w : World) (ss : List Step) (v : World) (s : Step) → Runs w ss v → Lawful v s → Runs w (ss ++ s ∷ []) (next v s)
 runs_more w [] v s r L = subst (λ x. Lawful w s × (next w s ≡ next x s)) r (subst (λ x. Lawful x s) (sym r) L, refl)
 runs_more w (t ∷ ss) v s r L = (r.0, runs_more (next w t) ss v s r.1 L)

@@ -160,7 +160,6 @@ module _ {T : Type 0} where
   pub head_within : (xs : List (Cell T)) (lists : List FreeList) (size : ℕ) → 0 < size → 0 < count_at lists (size - 1) → ∥ IsLinked xs lists ∥₁ → (free_list lists (size - 1)).first + size ≤ length xs
   head_within xs lists size s p h = ∥∥₁_elim h le_prop (λ w. let l = first_within xs lists (size - 1) p w in omega (arith, l))
 
-  -- every cell of it is free
   pub head_free : (xs : List (Cell T)) (lists : List FreeList) (size k : ℕ) → 0 < size → 0 < count_at lists (size - 1) → (free_list lists (size - 1)).first ≤ k → k < (free_list lists (size - 1)).first + size
       → ∥ IsLinked xs lists ∥₁ → is_some (at xs k) ≡ false
   head_free xs lists size k s p l u h = ∥∥₁_elim h (Bool-set _ _) (λ w. first_free xs lists (size - 1) k p (l, omega arith) w)

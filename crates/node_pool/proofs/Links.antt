@@ -79,7 +79,6 @@ module _ {T : Type 0} where
   first_free xs lists i k p b w = let e = w.first i p in w.free i (count_at lists i - 1) k (omega arith) (omega (arith, e, b.0), omega (arith, e, b.1))
 
 module _ {T : Type 0} (xs ys : List (Cell T)) (lists : List FreeList) (i : ℕ) (within : i < length lists) where
-  -- the list that was set
   same_list : (l : FreeList) → free_list (set lists i l) i ≡ l
   same_list l = get_or-set_same lists i l (record { first = 0; count = 0 }) within
 

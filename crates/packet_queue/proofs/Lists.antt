@@ -17,7 +17,6 @@ module _ {X : Type 0} (P : X → Type 0) where
   pub all_front : (all xs : List X) (y : X) → all ≡ xs ++ y ∷ [] → All P all → All P xs
   all_front all xs y e a = front xs y (subst (All P) {x = all} e a)
 
-  -- and of the last
   pub all_last : (all xs : List X) (y : X) → all ≡ xs ++ y ∷ [] → All P all → P y
   all_last all xs y e a = last xs y (subst (All P) {x = all} e a)
 

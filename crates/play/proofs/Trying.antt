@@ -16,7 +16,6 @@ module _ {S : Type 0} (k : Meaning S) where
   pub tried_more : (f g h : S) → WereTried k f g → WereTried k g h → WereTried k f h
   tried_more f g h before tried = (before.0 ++ tried.0, tried_all before.0 tried.0 f g h before.1 tried.1)
 
-  -- one command
   pub tried_one : (c : Command) (f g : S) → IsTried k c f g → WereTried k f g
   tried_one c f g is = (c ∷ [], (g, is, refl))
 

@@ -16,7 +16,6 @@ module _ {A : Type 0} where
   pub rest_at : (n : ℕ) (all : List A) (x : A) (xs : List A) → x ∷ xs ≡ drop n all → xs ≡ drop (n + 1) all
   rest_at n all x xs is = ap (drop 1) is ∙ drop-drop 1 n all
 
-  -- and the first of it
   pub first_at : (n : ℕ) (all : List A) (x d : A) (xs : List A) → x ∷ xs ≡ drop n all → x ≡ get_or all n d
   first_at n all x d xs is =
       let here : n + 0 ≡ n = omega arith in

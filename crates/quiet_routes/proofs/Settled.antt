@@ -54,11 +54,9 @@ module _ (n : Network) (V : IsNetwork n) (ss : List Step) (w : World) (r : Runs 
     links : (list_all is_quiet_link w.links ≡ true) × (list_all has_no_notice w.attachments ≡ true)
     links = and_parts (list_all is_quiet_link w.links) (list_all has_no_notice w.attachments) parts.0
 
-    -- every router is done
     done : (i : ℕ) (x : Router) → slice_get w.routers i ≡ Some x → IsDone x
     done i x at = done_from_idle x (all_at is_idle w.routers parts.1 i x at)
 
-    -- every machine is passive
     passive : (p : Prefix) (i : ℕ) (x : Router) → slice_get w.routers i ≡ Some x → is_active (machine_of x p) ≡ false
     passive p i x at =
         sym (ap is_active (on_router-there (λ (y : Router). machine_of y p) (opening_machine None []) w.routers i x at))
@@ -68,7 +66,6 @@ module _ (n : Network) (V : IsNetwork n) (ss : List Step) (w : World) (r : Runs 
           unripe_empty = λ e v. unripe_none p w (λ j y there. (done j y there).holds_none) e.router e.port;
         }) i
 
-    -- every router is quiet
     quiet_router : (i : ℕ) (x : Router) → slice_get w.routers i ≡ Some x → is_quiet_router x ≡ true
     quiet_router i x at = quiet_of x ((seen (record { addr = 0; len = 0 })).kept.routers_kept i x at).sorted (λ p. passive p i x at) (done i x at)
 
@@ -84,7 +81,6 @@ module _ (n : Network) (V : IsNetwork n) (ss : List Step) (w : World) (r : Runs 
     each : (list_all is_quiet_router w.routers ≡ true) × (list_all is_quiet_link w.links ≡ true)
     each = and_parts (list_all is_quiet_router w.routers) (list_all is_quiet_link w.links) both.0
 
-    -- every router is idle
     idle_router : (i : ℕ) (x : Router) → slice_get w.routers i ≡ Some x → is_idle x ≡ true
     idle_router i x at =
         let all = and_parts (list_all (λ m. is_none (m.1).computation) x.machines && is_empty (x.gate).held) (is_empty (changed_rows x.table)) (all_at is_quiet_router w.routers each.0 i x at) in

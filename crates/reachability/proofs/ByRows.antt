@@ -98,7 +98,6 @@ module _ (w : World) (p : Prefix) (marks : List Bool) where
       by_row (Some (Via q session)) row h = by_far q session row (entry_leads w i (Via q session)) refl h
       by_row (Some Unreachable) row h = absurd (false≢true h)
 
-  -- so it may be marked
   pub only_more : (i : ℕ) → leads_home w p marks i ≡ true → OnlyRouted w p marks → OnlyRouted w p (set marks i true)
   only_more i leads only = holds_more (HasWay w p) marks i (way_from_row i leads only) only
 

@@ -52,7 +52,6 @@ patched (r ∷ rows) sorted =
     by_row (Some e) false is below below_published rest =
         is_set ((r.0, e) ∷ published_rows rows) (put_here prefix_cmp r.0 (r.1).control (r.0, e) (published_rows rows) (tied_itself prefix_cmp_total r.0)) below rest
 
--- so it is of a table
 pub patched_at : (t : TableAndRoom) (rows : List (Prefix × Row)) (room : ℕ) → ◌≡◌ {A = TableAndRoom} (record { table = table_of rows; room = room }) t → is_sorted prefix_cmp rows ≡ true
     → with_rows (changed_rows (t.table)) (t.table).published ≡ (t.table).control
 patched_at t rows room is sorted =

@@ -22,7 +22,6 @@ all-put P p v (r ∷ rs) new all = by_place (prefix_cmp p r.0) (all-put P p v rs
     by_place Equal rest = (new r.0, all.1)
     by_place Greater rest = (all.0, rest)
 
--- what is found is one of them
 pub found_has : {X : Type 0} (P : Prefix × X → Type 0) (Q : X → Type 0) (p : Prefix) (rows : List (Prefix × X)) (d : X) → ((r : Prefix × X) → P r → Q r.1) → AllByRecursion P rows → Q d → Q (unwrap_or (row_of prefix_cmp p rows) d)
 found_has P Q p [] d part all default = default
 found_has P Q p (r ∷ rs) d part all default = by_key (eq_by_cmp prefix_cmp p r.0) (found_has P Q p rs d part all.1 default)
@@ -88,7 +87,6 @@ all-opening : (ports : List Port) (costs : List (Prefix × ℕ)) → AllByRecurs
 all-opening ports [] = tt
 all-opening ports (a ∷ rest) = (ups-neighbours ports, all-opening ports rest)
 
--- and are local
 entries-opening : (ports : List Port) (costs : List (Prefix × ℕ)) → local_rows costs ≡ chosen_rows ports (opening_machines ports costs)
 entries-opening ports [] = refl
 entries-opening ports (a ∷ rest) = λ i. (a.0, local i) ∷ entries-opening ports rest i

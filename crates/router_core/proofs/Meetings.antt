@@ -6,7 +6,6 @@ use Rattle.std.proofs.Math.Nat.{mul-le-mul_right}
 use Rattle.dual_machine.specs.State.{MachineState}
 use Rattle.router_core.specs.Parts.{machines_of}
 
--- the machines after the event
 abbrev pub reacted : Event → List (Prefix × Machine) → List (Prefix × Machine)
 reacted e ms = map (λ x. (x.0, (x.1).machine)) (reactions e ms)
 

@@ -57,7 +57,6 @@ module _ {X Y : Type 0} (f : X → Y) where
   onward_under None rows = refl
   onward_under (Some at) rows = filter_under (λ q. not (is_before q at)) rows
 
-  -- the first of them
   pub first_under : (at : Prefix) (rows : List (Prefix × X)) → first_row_from at (map under rows) ≡ option_map under (first_row_from at rows)
   first_under at rows = ap (λ rs. slice_get rs 0) (filter_under (λ q. not (is_before q at)) rows) ∙ head_map (rows_from at rows)
     where
@@ -275,7 +274,6 @@ rows_found cells rows (addr ∷ addrs) = λ i. sym (longest_marked cells addr ro
 
 -- ---- rows that are listed
 
--- where there is no first one, there is none
 pub none_of_first : {X : Type 0} (rows : List (Prefix × X)) → None ≡ slice_get rows 0 → rows ≡ []
 none_of_first [] none = refl
 none_of_first (row ∷ rows) none = absurd (none-some row none)
@@ -285,7 +283,6 @@ module _ (cells : List Marked) (items all : List (Prefix × Marked)) (left : Lis
   pub listed_all : left ≡ [] → items ≡ all
   listed_all none = sym (append-nil items) ∙ ap (λ rs. items ++ marked cells rs) (sym none) ∙ listed
 
-  -- one row more
   pub listed_more : (row : Prefix × Entry) (others : List (Prefix × Entry)) (x : Marked) → left ≡ row ∷ others → x ≡ mark_in cells row.1 → (items ++ (row.0, x) ∷ []) ++ marked cells others ≡ all
   listed_more row others x next is =
       append_assoc items ((row.0, x) ∷ []) (marked cells others)

@@ -44,6 +44,5 @@ module _ {B : Type 0} (is_marked : B → Bool) (Shows : ℕ → B → Type 0) wh
           all.current j x at (ap is_marked (sym same) ∙ unmarked)
       by_place j x less at (inr d) = all.below j x (omega arith) at
 
-  -- all are shown
   pub shown_all : (n : ℕ) (books : List B) → length books ≤ n → AreShownBelow n books → (j : ℕ) (b : B) → slice_get books j ≡ Some b → Shows j b
   shown_all n books past all j b at = let within = slice_get_within books j b at in all.below j b (omega (arith, within)) at

@@ -187,7 +187,6 @@ spares_also router One Other before after also marked = record {
       (old.0, old.1, record { shown = old.2.shown; machines = old.2.machines; places = old.2.places; is_marked = old.2.is_marked; spared = λ j p there unmarked. let was = old.2.spared j p there unmarked in (was.0, also p was.1) });
 }
 
--- no link
 pub no_link : (r : Recorder) (goes_down : Bool) → LinkMarked None goes_down r r
 no_link r goes_down = record {
   prefixes = refl;
@@ -198,7 +197,6 @@ no_link r goes_down = record {
   cut = record { this = λ l old new e was now. absurd (none-some l e); others = λ l old new apart was now. flag_stays (r.links).items l old new was now };
 }
 
--- a step that touches no router
 link_marks : (w : World) (s : Step) (before after : Recorder) → touched_router w s ≡ None → LinkMarked (touched_link w s) (cuts s) before after → MarksTouched w s before after
 link_marks w s before after none marked = record {
   prefixes = marked.prefixes;

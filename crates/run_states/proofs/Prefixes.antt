@@ -18,7 +18,6 @@ given_next attachments n a rows p within here before =
     by_key false None = refl
     by_key false (Some x) = refl
 
--- one more key is listed
 pub keys_next : (rows : List (Prefix × Unit {0})) (n : ℕ) (r : Prefix × Unit {0}) (ps : List Prefix) → n < length rows → r ≡ get_or rows n r → ps ≡ map (λ x. x.0) (take n rows)
     → ps ++ r.0 ∷ [] ≡ map (λ x. x.0) (take (n + 1) rows)
 keys_next rows n r ps within here before =

@@ -49,7 +49,6 @@ first_numbers every last positive =
 pub said : (d : Directory) (links : List LinkSpec) (steps : List Step) (k : ℕ) (s : Step) → slice_get steps k ≡ Some s → step_told d links steps (k + 1) ≡ Some (step_text d links s)
 said d links steps k s at = ap (step_told d links steps) (add-one k) ∙ ap (option_map (step_text d links)) at
 
--- one step more
 pub ran_on : (n : Network) (steps : List Step) (k : ℕ) (s : Step) (w v : World) → slice_get steps k ≡ Some s → Runs (opening n) (take k steps) w → Lawful w s → v ≡ next w s → Runs (opening n) (take (k + 1) steps) v
 ran_on n steps k s w v at runs lawful is =
     subst (λ ss. Runs (opening n) ss v) (sym (take_next steps k s at)) (subst (Runs (opening n) (take k steps ++ s ∷ [])) (sym is) (with_last_step (opening n) (take k steps) w s runs lawful))
@@ -85,7 +84,6 @@ module _ (n : Network) (d : Directory) (steps : List Step) (moments : List ℕ) 
         (subst (λ ks. Tell n d steps moments ks r rest) (sym (next_numbers every (length steps) k false within not_so)) (told_also n d steps moments (numbers_from every (length steps) (k + 1 + 1)) r s rest same told));
   }
 
-  -- a state that is told
   pub telling_more : (k : ℕ) (start r s t : Recorder) (line : Text) (old mid new : Option Text) → k < length steps → is_told every (length steps) (k + 1) ≡ true → ShowSame r s
       → IsStateLine n d steps moments (k + 1) s t line → Appends mid new (line ++ 10 ∷ []) → Telling n d steps moments every k start r old mid → Telling n d steps moments every (k + 1) start t old new
   telling_more k start r s t line old mid new within is_so same is_line more so_far = record {

@@ -81,7 +81,6 @@ in_force published (r ∷ rs) p e at unchanged = by_key (prefix_eq p r.0) (has_r
     by_key false true is has later here unchanged = later here unchanged
     by_key false false is has later here unchanged = later here (sym (ap (λ b. is_some (cond b (Some r.1) (row_of prefix_cmp p rest))) is) ∙ unchanged)
 
--- a router that publishes
 published_other : (x : Router) (p : Prefix) → (x.table).control ≡ chosen_rows x.ports x.machines → is_some (row_of prefix_cmp p (changed_rows x.table)) ≡ false → SameMachine p x (router_publishing x)
 published_other x p chosen unchanged = λ m at.
     let row = chosen_row x p chosen ∙ ap (option_map (entry_of x.ports)) at in
@@ -89,11 +88,9 @@ published_other x p chosen unchanged = λ m at.
 
 -- ---- the world
 
--- a router that stays remembers
 pub stays_heard : (p : Prefix) (x y : Router) → x ≡ y → Remembers p x y
 stays_heard p x y same = subst (λ z. Remembers p x z) same (λ none. none)
 
--- a router that stays
 pub stays : (p : Prefix) (x y : Router) → x ≡ y → SameMachine p x y
 stays p x y same = subst (λ z. SameMachine p x z) same (λ m at. (at, refl, refl))
 
@@ -105,7 +102,6 @@ module _ (w : World) (i : ℕ) (x y : Router) (p : Prefix) (at : slice_get w.rou
   same_is : (v : World) → v.routers ≡ w.routers → slice_get v.routers i ≡ Some y → x ≡ y
   same_is v same there = same_Some x y (sym at ∙ ap (λ rs. slice_get rs i) (sym same) ∙ there)
 
-  -- a delivery
   delivered : (q : ℕ) (o : Option Item) → slice_get (option_map_or (with_delivered i q w) o (option_map_or (with_noticed i w) (notice_at w i q) w)).routers i ≡ Some y
       → matches_prefix (message_prefix o) p ≡ false → SameMachine p x y
   delivered q (Some (Item.Message m)) there apart =
@@ -116,7 +112,6 @@ module _ (w : World) (i : ℕ) (x y : Router) (p : Prefix) (at : slice_get w.rou
   delivered q (Some (Item.Cost session cost)) there apart = absurd (false≢true (sym apart))
   delivered q None there apart = absurd (false≢true (sym apart))
 
-  -- a release
   released : (o : Option Held) → slice_get (option_map_or (with_released i w) o w).routers i ≡ Some y → SameMachine p x y
   released None there = stays p x y (same_is w refl there)
   released (Some h) there = subst (SameMachine p x) (changed_is router_releasing (changed_link i h.port (with_message h) w) (routers-changed_link i h.port (with_message h) w) there) (λ m at. (at, refl, refl))

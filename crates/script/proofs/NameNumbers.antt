@@ -63,7 +63,6 @@ none-mapped : (f : ℕ → ℕ) (o : Option ℕ) → option_map f o ≡ None →
 none-mapped f None e = refl
 none-mapped f (Some k) e = cc
 
--- a name has a number
 pub not_among : (names : List Text) (word : Text) → router_number names word ≡ None → ¬ (Contains names word)
 not_among names word none (k, within, is) =
     let nowhere = sym (position_from-zero (bytes_eq word) names) ∙ none-mapped (min no_router) (position (bytes_eq word) names) none in

@@ -4,7 +4,6 @@ use Rattle.script.proofs.Common.{cons_option, position-Some, length-filter, slic
 
 -- ---- the place of a link
 
--- the link of a place
 abbrev link_in : List Place → ℕ → Option ℕ
 link_in places port = option_map (λ p. p.link) (slice_get places port)
 
@@ -29,7 +28,6 @@ module _ (i : ℕ) where
       by_ends later false true (suc k) deeper = later k deeper
       by_ends later false false k deeper = later k deeper
 
-  -- one link more
   degree-first : (t : LinkSpec) (ts : List LinkSpec) → degree i (t ∷ ts) ≡ cond (touches i t) 1 0 + degree i ts
   degree-first t ts = sym (length-filter (touches i) (t ∷ ts)) ∙ counts (touches i t) ∙ ap (λ n. cond (touches i t) 1 0 + n) (length-filter (touches i) ts)
     where

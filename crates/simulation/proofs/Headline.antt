@@ -26,6 +26,5 @@ along_tables s kept addr = way_by (λ i k. hop_by_image s addr i ≡ Some k) (λ
 pub along_images : (s : Simulation) → IsSimulation s → (addr : ℕ) (way : List ℕ) → IsWay s.world addr way → IsWayByImages s addr way
 along_images s kept addr = way_by (λ i k. hop s.world addr i ≡ Some k) (λ i k. hop_by_image s addr i ≡ Some k) (λ i k h. hop_is s kept addr i ∙ h)
 
--- no packet circles
 pub never_twice : (s : Simulation) → IsSimulation s → NoPacketCircles s.world → NeverMeetsTwice s
 never_twice s kept none addr way w = none addr way (along_tables s kept addr way w)

@@ -18,7 +18,6 @@ is_opening n c images opened shown = ap (with_images c) shown ∙ ap (λ (x : Co
 
 -- ---- steps
 
--- steps after steps
 pub after_push : (s : Simulation) (xs : List Step) (x : Step) → after_steps s (xs ++ x ∷ []) ≡ after_step (after_steps s xs) x
 after_push s [] x = refl
 after_push s (y ∷ ys) x = after_push (after_step s y) ys x

@@ -9,7 +9,6 @@ use Rattle.texts.specs.Words.{Text}
 use Rattle.texts.specs.Lines.{lines_text}
 
 module _ {A : Type 0} (part : A → Text) where
-  -- one part more
   pub part_more : (xs : List A) (x : A) (old mid new : Option Text) → Appends old mid (flat_map part xs) → Appends mid new (part x) → Appends old new (flat_map part (xs ++ x ∷ []))
   part_more xs x old mid new before more = subst (Appends old new) (flat_map_more part [] xs x) (Appends-trans old mid new (flat_map part xs) (part x) before more)
 
@@ -22,14 +21,12 @@ module _ {A : Type 0} (part : A → Text) where
       (part_more (take k xs) x old mid new before more)
 
 module _ {A : Type 0} (line : A → Text) where
-  -- lines before lines
   lines_text-append : (xs ys : List A) → lines_text line (xs ++ ys) ≡ lines_text line xs ++ lines_text line ys
   lines_text-append [] ys = refl
   lines_text-append (x ∷ xs) ys =
       ap (λ t. (line x ++ 10 ∷ []) ++ t) (lines_text-append xs ys)
       ∙ sym (append_assoc (line x ++ 10 ∷ []) (lines_text line xs) (lines_text line ys))
 
-  -- one line more
   pub line_more : (xs : List A) (x : A) (old mid new : Option Text) → Appends old mid (lines_text line xs) → Appends mid new (line x ++ 10 ∷ []) → Appends old new (lines_text line (xs ++ x ∷ []))
   line_more xs x old mid new before more =
       subst (Appends old new) (sym (lines_text-append xs (x ∷ [])))

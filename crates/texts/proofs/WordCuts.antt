@@ -19,7 +19,6 @@ pub words-one : (line : Text) (r : Option (Bor Text × Bor Text)) → IsCut line
 words-one line None cut = slice_split_none is_space line (λ k d within. fails_before_first is_space line k d (omega (arith, cut)))
 words-one line (Some w) cut = tt
 
--- a line has a word
 pub words-some : (line : Text) → words_of line ≢ []
 words-some line none = absurd (omega (arith, length-slice_split is_space line, ap length none))
 

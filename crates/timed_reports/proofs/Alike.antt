@@ -74,7 +74,6 @@ module _ (p : Prefix) (w v : World) (S : IsAlike p w v) where
   place_same : (i q : ℕ) → place_at v i q ≡ place_at w i q
   place_same i q = ap (λ (ps : List (List Place)). option_and_then (λ (xs : List Place). slice_get xs q) (slice_get ps i)) S.places
 
-  -- the router at an end
   end_same : (e : End) (k m : Link) → shape m ≡ shape k → (side e m).router ≡ (side e k).router
   end_same A k m same = ap (λ (s : Shape). s.a) same
   end_same B k m same = ap (λ (s : Shape). s.b) same

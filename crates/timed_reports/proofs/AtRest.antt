@@ -27,7 +27,6 @@ module _ (n : Network) (V : IsNetwork n) (ss : List Step) (w : World) (runs : Ru
   none_computing quiet busy = false≢true (sym (still n (wired n V) p w (history n ss).published (reached n (wired n V) p ss w runs) (good p n ss w V runs) quiet i busy.router busy.at).passive ∙ busy.active)
 
 module _ (n : Network) (V : IsNetwork n) where
-  -- an opening is settled
   opening_settled : is_settled (opening n) ≡ true
   opening_settled =
       let watched : unrest (opening n) ≡ 0 = sym (watched-opening n (opening n) refl (few_links n V.no_fault) (few_routers n V)).counts in

@@ -88,7 +88,6 @@ unmet_elsewhere w i q None tells c (inr unmet) = absurd (false≢true (sym unmet
 unmet_elsewhere w i q (Some p) tells c (inl other) = inl other
 unmet_elsewhere w i q (Some p) (m, front, same) c (inr unmet) = inr (m, front, ap (prefix_eq c.prefix) same ∙ unmet)
 
--- and after each step
 pub passed_elsewhere : (w : World) (s : Step) (told : Option Prefix) → IfSome told (IsToldPrefix w s) → (c : Watched) → IsPassedBy s told c → IsElsewhere w s c
 passed_elsewhere w (Deliver i q) told tells c passed = unmet_elsewhere w i q told tells c passed
 passed_elsewhere w _ told tells c passed = tt

@@ -8,7 +8,6 @@ passes : (b : Bool) → not b ≡ false → b ≡ true
 passes true is = refl
 passes false is = absurd (false≢true (sym is))
 
--- one more prefix has its mark
 pub marked_more : (w : World) (s : Step) (n : ℕ) (q : Prefix) → slice_get w.prefixes n ≡ Some q → (still : Bool) → (IsTrue still → MovesNoWay w s q) → (marks : List Bool) → n < length marks
     → ((k : ℕ) (p : Prefix) → k < n → slice_get w.prefixes k ≡ Some p → get_or marks k false ≡ false → MovesNoWay w s p) → (now : List Bool) → now ≡ set marks n (not still)
     → ((k : ℕ) (p : Prefix) → k < n + 1 → slice_get w.prefixes k ≡ Some p → get_or now k false ≡ false → MovesNoWay w s p) × (length now ≡ length marks)

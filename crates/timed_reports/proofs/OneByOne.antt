@@ -76,7 +76,6 @@ module _ (K : Kind) (v : World) (now : ℕ) (Aside : Watched → Type 0) (old : 
   abbrev Looked : ℕ → List Watched → List Spell → Type 0
   Looked below cs after = AreLooked K v now Aside below old cs before after
 
-  -- none was looked at
   pub looked_none : Looked 0 old before
   looked_none = record {
     as_many = refl;
@@ -99,7 +98,6 @@ module _ (K : Kind) (v : World) (now : ℕ) (Aside : Watched → Type 0) (old : 
     at_old : slice_get old below ≡ Some c
     at_old = sym (L.rest below (omega arith)) ∙ at
 
-    -- the first ones with it
     first_more : take (below + 1) old ≡ take below old ++ c ∷ []
     first_more = take_more old below c (slice_get_within old below c at_old) ∙ ap (λ (d : Watched). take below old ++ d ∷ []) (get_or_from_slice_get old below c c at_old)
 
@@ -120,7 +118,6 @@ module _ (K : Kind) (v : World) (now : ℕ) (Aside : Watched → Type 0) (old : 
             let is : d ≡ b = Some_injective (sym there ∙ L.rest x over ∙ was) in
             inl (is, subst Aside same aside)
 
-    -- one more was looked at
     pub looked_more : (holds : Bool) → (IsTrue holds ↔ HoldsOf K v c) → Looked (below + 1) (set cs below (seen now holds c)) (after ++ option_to_list (ended_by now holds c))
     looked_more holds rightly = record {
       as_many = length-set cs below (seen now holds c) ∙ L.as_many;
@@ -161,7 +158,6 @@ module _ (K : Kind) (v : World) (now : ℕ) (Aside : Watched → Type 0) (old : 
       subst (λ (n : ℕ). Looked n cs after) further
       (looked_over many (below + 1) cs after (looked_beside below cs after L c at here) (omega (arith, fits)) (λ x d from to is. aside x d (omega (arith, from)) (omega (arith, to)) is))
 
-  -- the next one
   pub looked_next : (below : ℕ) (cs : List Watched) (after : List Spell) → Looked below cs after → below < length cs → (ds : List Watched) (then : List Spell) → IsLooked K v now Aside below cs ds after then → Looked (below + 1) ds then
   looked_next below cs after L less ds then one = (let (c, at) = get_within cs below less in looked_one below cs after L c at ds then one)
 
@@ -194,7 +190,6 @@ looked_beside_more K v now Aside More more below old new before after L = record
     end_with_more (c ∷ cs) ss (inl (aside, E)) = inl (more c aside, end_with_more cs ss E)
     end_with_more (c ∷ cs) ss (inr (holds, rest, is, all, E)) = inr (holds, rest, is, all, end_with_more cs rest E)
 
--- the same of one look
 pub look_beside_more : (K : Kind) (v : World) (now : ℕ) (Aside More : Watched → Type 0) → ((c : Watched) → Aside c → More c) → (place : ℕ) (old new : List Watched) (before after : List Spell) → IsLooked K v now Aside place old new before after → IsLooked K v now More place old new before after
 look_beside_more K v now Aside More more place old new before after looked c at = by_look (looked c at)
   where

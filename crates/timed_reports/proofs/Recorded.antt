@@ -112,7 +112,6 @@ module _ (K : Kind) where
           by_look c right (inl (is, aside)) = subst (IsRight w all after) (sym is) (right_aside c (same c aside) right)
           by_look c right (inr look) = subst (IsRight w all after) (sym look.written) (right_seen c look.holds look.rightly right)
 
-      -- all were looked at
       all_end : EndByLooks K after e.moment Aside cs (L.ended).0
       all_end = subst (λ (xs : List Watched). EndByLooks K after e.moment Aside xs (L.ended).0) (take_all (length cs) cs (omega arith)) (L.ended).2
 

@@ -57,7 +57,6 @@ each_prefix ps count zs each p i below one =
 
 -- ---- their order
 
--- one more router of a prefix
 pub routers_more : (p : Prefix) (place : ℕ) (before xs zs : List Watched) → zs ≡ xs ++ watched place p None ∷ [] → map watched_at xs ≡ map watched_at before ++ with_routers place p → map watched_at zs ≡ map watched_at before ++ with_routers (place + 1) p
 routers_more p place before xs zs pushed order =
     ap (map watched_at) pushed
@@ -73,7 +72,6 @@ none_listed cs none k c at = absurd (None_not_Some (sym (ap (λ (l : List Watche
 pub none_in_order : (count : ℕ) (ps : List Prefix) (cs : List Watched) → cs ≡ [] → AreInOrder count (take 0 ps) cs
 none_in_order count ps cs none = ap (map watched_at) none
 
--- one more prefix
 pub in_order_more : (count : ℕ) (ps : List Prefix) (n : ℕ) (q : Prefix) (xs zs : List Watched) → n < length ps → q ≡ get_or ps n q → AreInOrder count (take n ps) xs → map watched_at zs ≡ map watched_at xs ++ with_routers count q → AreInOrder count (take (n + 1) ps) zs
 in_order_more count ps n q xs zs below read order pushed =
     pushed
@@ -82,7 +80,6 @@ in_order_more count ps n q xs zs below read order pushed =
     ∙ sym (flat_map-append (with_routers count) (take n ps) (q ∷ []))
     ∙ ap (flat_map (with_routers count)) (ap (λ (p : Prefix). take n ps ++ p ∷ []) read ∙ sym (take_more ps n q below))
 
--- all of them
 pub all_in_order : (count : ℕ) (ps : List Prefix) (n : ℕ) (cs : List Watched) → length ps ≤ n → AreInOrder count (take n ps) cs → AreInOrder count ps cs
 all_in_order count ps n cs over order = order ∙ ap (flat_map (with_routers count)) (take_all n ps over)
 

@@ -120,11 +120,9 @@ joined_after old e timed w K is made at =
     let R : IsReportOf K.done old = K.exact in
     subst IsJoined (sym (at ∙ ap world_of made)) (joined n R.valid (steps_of (K.done ++ e ∷ [])) (next (world_of old.timed) e.step) (runs_all (opening n) K.done (world_of old.timed) e R.runs is.lawful))
 
--- and has as many routers
 pub as_many_after : (old new : Timed) (e : Event) → new ≡ after_event old e → length (world_of new).routers ≡ length (world_of old).routers
 as_many_after old new e made = ap (λ (t : Timed). length (world_of t).routers) made ∙ (next-shape (world_of old) e.step).routers
 
--- and the same prefixes
 pub same_prefixes_after : (old new : Timed) (e : Event) → new ≡ after_event old e → (world_of new).prefixes ≡ (world_of old).prefixes
 same_prefixes_after old new e made = ap (λ (t : Timed). (world_of t).prefixes) made ∙ prefixes_next (world_of old) e.step
 
@@ -158,7 +156,6 @@ equal_report r timed xs cs ys ds same past going out cut = λ i. record { timed 
 pub same_report : (r : Reported) (timed : Timed) (xs ys : List Spell) → timed ≡ r.timed → xs ≡ r.computations → ys ≡ r.outages → reported_of timed xs r.computing ys r.cut_off ≡ r
 same_report r timed xs ys same past out = equal_report r timed xs r.computing ys r.cut_off same past refl out refl
 
--- a report at the opening
 pub report_opening : (t : Timed) → IsNetwork (t.simulation).network → t.clock ≡ 0 → world_of t ≡ opening (t.simulation).network → (computing cut_off : List Watched)
     → AreWatched ((t.simulation).network).routers (prefixes_of ((t.simulation).network).attachments) computing → ((x : ℕ) (c : Watched) → slice_get computing x ≡ Some c → c.since ≡ None)
     → AreWatched ((t.simulation).network).routers (prefixes_of ((t.simulation).network).attachments) cut_off → ((x : ℕ) (c : Watched) → slice_get cut_off x ≡ Some c → c.since ≡ None)
@@ -211,7 +208,6 @@ run_goes_on old mid new done e R is made records = record {
   grown = grown_on old mid new R.grown records.grown;
 }
 
--- what is kept
 pub kept_after : (old new : Reported) (e : Event) → IsReport old → RecordsEvent old e new → IsReport new
 kept_after old new e K records = record { done = K.done ++ e ∷ []; exact = records.exact K.done K.exact }
 

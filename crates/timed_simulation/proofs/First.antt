@@ -54,7 +54,6 @@ of_many m f (suc n) i below found = by_place (cases_lt i n) (λ less. of_many m 
 -- ---- what is due is done next, or something sooner
 
 module _ (t : Timed) (m : ℕ) (from : t.clock ≤ m) where
-  -- of what a router has to do
   of_router : (i : ℕ) (r : Router) → slice_get (world_of t).routers i ≡ Some r → Before m (router_event t i) → Before m (next_event t)
   of_router i r at found = of_second m (change_event t) (soonest (router_event t) (length (world_of t).routers)) (of_many m (router_event t) (length (world_of t).routers) i (slice_get_within (world_of t).routers i r at) found)
 
@@ -141,7 +140,6 @@ module _ (t : Timed) (m : ℕ) (from : t.clock ≤ m) where
   own_before (Attach i p cost) D = absurd D
   own_before (Detach i p) D = absurd D
 
-  -- of the changes the first
   pub first_change_before : (c : Change) → slice_get t.changes 0 ≡ Some c → c.moment ≤ m → Before m (next_event t)
   first_change_before c at le = of_first m (change_event t) (soonest (router_event t) (length (world_of t).routers))
       (record { moment = max t.clock c.moment; step = c.step; given = true }, ap (option_map (λ (c : Change). record { moment = max t.clock c.moment; step = c.step; given = true })) at, omega (arith, le, from))

@@ -72,7 +72,6 @@ soonest_is f m k (suc n) below is least lowest =
         takes_second m (soonest f n) (f n) (ap (λ i. moment_of (f i)) (sym last) ∙ is) (later_many (suc m) f n (λ i less. not_before (suc m) (f i) (beyond last i less)))
         ∙ ap f (sym last)
 
--- where there is none, there is no soonest
 soonest_none : (f : ℕ → Option Event) (n : ℕ) → ((i : ℕ) → i < n → f i ≡ None) → soonest f n ≡ None
 soonest_none f zero none = refl
 soonest_none f (suc n) none = ap (λ o. sooner o (f n)) (soonest_none f n (λ i below. none i (omega (arith, below)))) ∙ none n (omega arith)
@@ -105,7 +104,6 @@ module _ (t : Timed) (moments : List (Option ℕ)) (K : KeepsMoments t moments) 
       by_event i below None is = refl
       by_event i below (Some e) is = absurd (none i e.moment (K.each i below ∙ ap (λ (o : Option Event). Some (moment_of o)) is))
 
-  -- with other changes they are the same
   pub kept_changes : (cs : List Change) → KeepsMoments (record t { changes = cs }) moments
   kept_changes cs = record { as_many = K.as_many; each = K.each }
 
@@ -160,7 +158,6 @@ module _ (u : Timed) where
       by_test true = length-set moments j (next_moment u j)
       by_test false = refl
 
-  -- the one that is asked is right then
   asked_right : (i : ℕ) (moments : List (Option ℕ)) → length moments ≡ length (world_of u).routers → i < length (world_of u).routers → IsRight i (looked_at u i moments)
   asked_right i moments many below =
       subst (λ (b : Bool). IsRight i (if b then set moments i (next_moment u i) else moments)) (sym (lt-ltb i (length (world_of u).routers) below)) (written moments i (next_moment u i) (omega (arith, many, below)))

@@ -6,7 +6,6 @@ use Rattle.timed_simulation.specs.Timed.{place_among}
 use Rattle.timed_simulation.specs.Due.{RisesFrom, UpTo}
 
 module _ {A : Type 0} (f : A → ℕ) where
-  -- from sooner on
   pub rises_sooner : (from mid : ℕ) (xs : List A) → from ≤ mid → RisesFrom f mid xs → RisesFrom f from xs
   rises_sooner from mid [] le r = tt
   rises_sooner from mid (x ∷ xs) le r = (let first = r.0 in omega (arith, le, first), r.1)
@@ -34,7 +33,6 @@ module _ {A : Type 0} (f : A → ℕ) where
   up_to_tail to [] u = tt
   up_to_tail to (x ∷ xs) u = u.1
 
-  -- up to later
   pub up_to_later : (to more : ℕ) (xs : List A) → to ≤ more → UpTo f to xs → UpTo f more xs
   up_to_later to more [] le u = tt
   up_to_later to more (x ∷ xs) le u = (let first = u.0 in omega (arith, le, first), up_to_later to more xs le u.1)

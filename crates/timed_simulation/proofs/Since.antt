@@ -21,7 +21,6 @@ module _ (test : World → Bool) where
   stays_more w [] v e same stays holds = (stays, subst (λ (u : World). test (next u e.step) ≡ true) (sym same) holds)
   stays_more w (x ∷ xs) v e runs stays holds = (stays.0, stays_more (next w x.step) xs v e runs.1 stays.1 holds)
 
-  -- it still holds
   since_before : (m : ℕ) (w : World) (es : List Event) (v : World) (e : Event) → Runs w (steps_of es) v → HoldsSince test m w es → test (next v e.step) ≡ true → HoldsSince test m w (es ++ e ∷ [])
   since_before m w [] v e same since holds = absurd since
   since_before m w (x ∷ xs) v e runs (inl here) holds = inl (here.0, here.1, stays_more (next w x.step) xs v e runs.1 here.2 holds)
@@ -80,7 +79,6 @@ module _ (w : World) (i : ℕ) where
   begun (Attach j p cost) L none due = absurd (false≢true (sym none ∙ due))
   begun (Detach j p) L none due = absurd (false≢true (sym none ∙ due))
 
-  -- and had nothing before
   had_nothing : (s : Step) → begins_at w s ≡ Some i → is_due_at w i ≡ false
   had_nothing (Deliver j q) is = by_due (is_due_at w j) refl is
     where

@@ -5,7 +5,6 @@ use Rattle.timed_simulation.specs.declared.events.Event.{Event}
 use Rattle.timed_simulation.specs.Timed.{Timed, world_of}
 use Rattle.timed_simulation.specs.Events.{arrival_event, home_event, publication_event, sooner, soonest, waiting_event}
 
--- one more
 pub soonest_more : (f : ℕ → Option Event) (n : ℕ) (a b r : Option Event) → a ≡ soonest f n → b ≡ f n → r ≡ sooner a b → r ≡ soonest f (n + 1)
 soonest_more f n a b r before here is = is ∙ ap (λ x. sooner x b) before ∙ ap (sooner (soonest f n)) here ∙ sym (ap (soonest f) (add-one n))
 

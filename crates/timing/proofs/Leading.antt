@@ -75,7 +75,6 @@ pub timed_with : (f : Timed → Timed) (r : Recording) → timed_in (with_timed 
 timed_with f (Off t) = refl
 timed_with f (On r) = refl
 
--- one more is given
 given_more : (cs : List Change) (i : ℕ) (d : Change) (t : Timed) → i < length cs
     → with_changes (drop i cs) t ≡ with_changes (drop (suc i) cs) (with_timed_change (get_or cs i d) t)
 given_more [] i d t within = absurd (omega (arith, within))

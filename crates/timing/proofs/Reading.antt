@@ -15,7 +15,6 @@ all_said Says P (line ∷ lines) [] each says i d within = absurd says
 all_said Says P (line ∷ lines) (x ∷ xs) each says zero d within = each line x says.0
 all_said Says P (line ∷ lines) (x ∷ xs) each says (suc i) d within = all_said Says P lines xs each says.1 i d (omega (arith, within))
 
--- what is not so
 pub not_so : (b : Bool) → true ≡ not b → b ≡ false
 not_so false is = refl
 not_so true is = absurd (true≢false is)

@@ -13,7 +13,6 @@ use Rattle.timing.specs.declared.times.Times.{Times}
 use Rattle.timing.specs.Runs.{ComesNext, with_changes}
 use Rattle.timing.specs.Steps.{AllCome, Came, IsDoneAt, RunsInSteps, done_of, if_done, event_moments}
 
--- one more comes
 all_more : (t : Timed) (cs : List Came) (u v : Timed) (c : Came) → AllCome t cs u → ComesNext u c.event v c.refusal → AllCome t (cs ++ c ∷ []) v
 all_more t [] u v c same comes = (v, subst (λ x. ComesNext x c.event v c.refusal) (sym same) comes, refl)
 all_more t (x ∷ xs) u v c all comes = (all.0, all.1, all_more all.0 xs u v c all.2 comes)
@@ -26,7 +25,6 @@ done_more (x ∷ xs) c = ap (λ es. if_done x.refusal x.event ++ es) (done_more 
 pub none_done_at : (t : Timed) (steps : List Step) (moments : List ℕ) → steps ≡ [] → moments ≡ [] → IsDoneAt t steps moments t
 none_done_at t steps moments no_steps no_moments = record { came = []; leads = refl; steps_are = no_steps; moments_are = no_moments }
 
--- one more
 pub more_done_at : (t u v : Timed) (steps more : List Step) (moments others : List ℕ) (c : Came) → IsDoneAt t steps moments u → ComesNext u c.event v c.refusal
     → more ≡ steps ++ steps_of (done_of (c ∷ [])) → others ≡ moments ++ event_moments (done_of (c ∷ [])) → IsDoneAt t more others v
 more_done_at t u v steps more moments others c done comes more_is others_is = record {
@@ -43,7 +41,6 @@ run_more : (t u : Timed) (e : Event) (r : Option Refusal) (es : List Event) (w :
 run_more t u e None es w comes runs = ((comes.0).lawful, subst (λ x. Runs (world_of x) (steps_of es) w) comes.1 runs)
 run_more t u e (Some r) es w comes runs = subst (λ x. Runs (world_of x) (steps_of es) w) comes.2 runs
 
--- they are a run
 runs_of : (t : Timed) (cs : List Came) (u : Timed) → AllCome t cs u → Runs (world_of t) (steps_of (done_of cs)) (world_of u)
 runs_of t [] u same = ap world_of same
 runs_of t (c ∷ cs) u all = run_more t all.0 c.event c.refusal (done_of cs) (world_of u) all.1 (runs_of all.0 cs u all.2)

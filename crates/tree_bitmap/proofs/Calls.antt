@@ -72,7 +72,6 @@ module _ (N M N' : ℕ → Option Node) (G : ℕ → Option Entry) (index path d
     (unset : bit_at a.external four ≢ 1)
     (grown : IsGrown N M a.child_base size below blank base)
     (written : IsCellWritten M N' index (record { internal = a.internal; external = external; child_base = base; result_base = a.result_base })) where
-  -- the bit is clear
   clear : bit_at a.external four ≡ 0
   clear = clear_bit a.external four unset
 
@@ -84,7 +83,6 @@ module _ (N M N' : ℕ → Option Node) (G : ℕ → Option Entry) (index path d
   written' : IsCellWritten M N' index (with_child a four base)
   written' = subst (λ e. IsCellWritten M N' index (record { internal = a.internal; external = e; child_base = base; result_base = a.result_base })) x written
 
-  -- the children have moved
   moved : MovesChildren N N' index a (with_child a four base)
   moved = new_child N M N' G index four base a sound here clear grown' written'
 
@@ -124,7 +122,6 @@ module _ (N N' : ℕ → Option Node) (G G' : ℕ → Option Entry) (index bit :
     (unset : bit_at a.internal bit ≢ 1)
     (grown : IsGrown G G' a.result_base size below entry base)
     (written : IsCellWritten N N' index (record { internal = internal; external = a.external; child_base = a.child_base; result_base = base })) where
-  -- the bit is clear
   clear' : bit_at a.internal bit ≡ 0
   clear' = clear_bit a.internal bit unset
 
@@ -146,7 +143,6 @@ module _ (N N' : ℕ → Option Node) (G G' : ℕ → Option Entry) (index bit :
 
 module _ (N : ℕ → Option Node) (G G' : ℕ → Option Entry) (index bit : ℕ) (entry : Entry) (a : Node) (below : ℕ)
     (sound : IsLaidOut N G) (here : N index ≡ Some a) (b : below ≡ rank a.internal bit) (has : bit_at a.internal bit ≡ 1) where
-  -- its cell is written
   written_over : IsCellWritten G G' (a.result_base + below) entry → IsCellWritten G G' (a.result_base + rank a.internal bit) entry
   written_over w = subst (λ r. IsCellWritten G G' (a.result_base + r) entry) b w
 

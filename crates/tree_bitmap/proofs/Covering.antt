@@ -26,7 +26,6 @@ one_bit i k = elim (cases_eq k i) [
 abbrev four_bits : ℕ → ℕ → ℕ → ℕ
 four_bits a b c = bit_or (bit_or (bit_or 1 (2 ^ a)) (2 ^ b)) (2 ^ c)
 
--- a bit of it is one of the four
 four_bits_at : (a b c k : ℕ) → bit_at (four_bits a b c) k ≡ max (max (max (bit_at (2 ^ 0) k) (bit_at (2 ^ a) k)) (bit_at (2 ^ b) k)) (bit_at (2 ^ c) k)
 four_bits_at a b c k =
     bit_at_or (bit_or (bit_or 1 (2 ^ a)) (2 ^ b)) (2 ^ c) k
@@ -181,7 +180,6 @@ module _ (a : Node) (four depth cover : ℕ) (small : four < 16)
             omega (arith, one, none)),
       )
 
-  -- so it is the longest, if there is one
   pub longest_in : (bit : Option ℕ) → IsHighest 16 (bit_and a.internal cover) bit → GreatestBelow (λ len. result_place (internal_bit four len) (Some a)) (lengths_within depth) (bit_place a bit)
   longest_in None top = none_in top
   longest_in (Some bit) top = some_in bit top

@@ -19,7 +19,6 @@ empty_rows nodes results q m e =
     (cases_lt 0 (m / 4))
 
 module _ (nodes : ℕ → Option Node) (results : ℕ → Option Entry) (root : nodes 0 ≡ Some blank) (alone : (k : ℕ) → 0 < k → nodes k ≡ None) where
-  -- its only node is blank
   is_blank : (j : ℕ) (a : Node) → nodes j ≡ Some a → a ≡ blank
   is_blank zero a e = Some_same (nodes 0) a blank e root
   is_blank (suc j) a e = absurd (none≢some (nodes (suc j)) a (alone (suc j) (omega arith)) e)

@@ -165,13 +165,11 @@ module _ (N N' : ℕ → Option Node) (G : ℕ → Option Entry) (index external
   results_apart_of i' j' c d (inr (inr (i, e, n, m))) (inr (inr (j, f, o, v))) ne k q r =
       sound.results_apart i j c d e f (apart_of i i' j j' m v ne) k q r
 
-  -- the root is no child
   root_apart_of : (j' : ℕ) (c : Node) → Back N index a b j' c → IsChild c 0 → ⊥
   root_apart_of j' c (inl (p, e)) q = not_new 0 sound.root (sound.root_apart index a moved.before) (subst (λ x. IsChild x 0) e q)
   root_apart_of j' c (inr (inl e)) q = empty_has_no_child c e 0 q
   root_apart_of j' c (inr (inr (j, e, n, m))) q = sound.root_apart j c e q
 
-  -- no node is its own child
   not_own_child_of : (j' : ℕ) (c : Node) → Back N index a b j' c → IsChild c j' → ⊥
   not_own_child_of j' c (inl (p, e)) q =
       not_new index (is_some-from (N index) a moved.before) (sound.not_its_own_child index a moved.before) (subst (λ x. IsChild x index) e (subst (IsChild c) p q))
@@ -266,7 +264,6 @@ module _ (N N' : ℕ → Option Node) (G : ℕ → Option Entry) (index external
       row-some N' G path len j' b w (ap N' stays ∙ moved.after)
       ∙ entry-with_children G bit a external base ∙ ap (λ x. entry_at_bit G bit (Some x)) (sym same) ∙ sym (row-some N G path len j c f e)
 
-  -- so it is by its path
   pub row_on : (path len j : ℕ) → path_node N path (len / 4) ≡ Some j → path_entry N' G path len ≡ path_entry N G path len
   row_on path len j f =
       let (c, e) = some-from (N j) (node_used N G sound path (len / 4) j f) in

@@ -61,7 +61,6 @@ module _ (N N' : ℕ → Option Node) (index internal base : ℕ) (a : Node) (he
   still_at k u (inl e) = is_some-from (N' k) _ (ap N' e ∙ written.here)
   still_at k u (inr n) = ap is_some (written.other k n) ∙ u
 
-  -- the children are as they were
   same_children : (j : ℕ) (b : Node) → Was j b → (c : Node) × (N j ≡ Some c) × ((k : ℕ) → IsChild b k → IsChild c k)
   same_children j b (inl (e, f)) = (a, ap N e ∙ here, λ k q. subst (λ x. IsChild x k) f q)
   same_children j b (inr (n, c)) = (b, c, λ k q. q)

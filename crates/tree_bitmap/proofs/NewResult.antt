@@ -112,7 +112,6 @@ module _ (N N' : ℕ → Option Node) (G G' : ℕ → Option Entry) (index bit b
     (sound : IsLaidOut N G) (here : N index ≡ Some a) (clear : bit_at a.internal bit ≡ 0)
     (grown : IsGrown G G' a.result_base (count_ones a.internal) (rank a.internal bit) entry base)
     (written : IsCellWritten N N' index (with_result a bit base)) where
-  -- the results have moved
   moved : IsMoved G G' a.result_base a.internal base (a.internal + 2 ^ bit)
   moved = moved_by_growth G G' a.result_base a.internal bit entry base clear grown
 

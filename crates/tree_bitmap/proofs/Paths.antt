@@ -121,11 +121,9 @@ row-none nodes results path len e =
     ap (λ o. entry_at_bit results (internal_bit (nibble path (len / 4)) (len % 4)) (node_cell nodes o)) e
     ∙ entry-none results (internal_bit (nibble path (len / 4)) (len % 4))
 
--- an empty node has no child
 pub empty_has_no_child : (a : Node) → IsEmpty a → (k : ℕ) → IsChild a k → ⊥
 empty_has_no_child a e k q = omega (arith, q.0, q.1, ap count_ones e.0, ones_of_zero)
 
--- an empty node has no result
 pub empty_has_no_result : (a : Node) → IsEmpty a → (k : ℕ) → IsResult a k → ⊥
 empty_has_no_result a e k q = omega (arith, q.0, q.1, ap count_ones e.1, ones_of_zero)
 

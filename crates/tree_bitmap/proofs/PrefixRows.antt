@@ -25,7 +25,6 @@ covering_bits : (p : Prefix) (addr : ℕ) → p.len ≤ 32 → covers p addr ≡
 covering_bits p addr short covered = path_bits p.addr p.len short ∙ eqb-true _ _ covered ∙ sym (path_bits addr p.len short)
 
 module _ (nodes : ℕ → Option Node) (results : ℕ → Option Entry) where
-  -- the entry of a prefix
   abbrev entry_at : Prefix → Option Entry
   entry_at p = path_entry nodes results (p.addr * 16) p.len
 

@@ -29,7 +29,6 @@ CameTo n steps ran = (w : World) × Runs (opening n) (take ran.done steps) w × 
 pub whole_of : (n : Network) (steps : List Step) (ran : Ran) → CameTo n steps ran → ran.refusal ≡ None → ran.done ≡ length steps
 whole_of n steps ran came none = subst (λ o. MatchOption o (ran.done ≡ length steps) (StopsAt (refusal came.0) steps ran.done)) none came.2
 
--- states were written as lines
 pub lines_written : (n : Network) (d : Directory) (steps : List Step) (moments : List ℕ) (json : Bool) (old new : Option Text) (r : Result ⊤ FaultKind) → json ≡ true
     → OnOk r ((text : Text) × IsStatesText n d steps moments 1 text × Appends old new text) → OnOk r (IsWritten json n d steps moments old new)
 lines_written n d steps moments json old new (Err e) is told = tt
@@ -42,7 +41,6 @@ lines_written n d steps moments json old new (Ok x) is told = record {
   written = subst (λ b. Appends old new (if b then told.0 else page_text told.0)) (sym is) told.2;
 }
 
--- a page of states was written
 pub page_written : (n : Network) (d : Directory) (steps : List Step) (moments : List ℕ) (json : Bool) (old new : Option Text) (states : Text) → json ≡ false
     → (every : ℕ) × IsStatesText n d steps moments every states × IsShort steps every states → Appends old new (page_text states) → IsWritten json n d steps moments old new
 page_written n d steps moments json old new states is told written = record {

@@ -8,7 +8,6 @@ use Rattle.word_pool.specs.declared.pool.Pool.{Pool}
 use Rattle.word_pool.proofs.Blocks.{noted_here, noted_other, noted_start, block_none, heap, heap_taken, heap_given, heap_written, heap_split, size-sized_block, word-sized_block}
 use Rattle.word_pool.proofs.Laid.{width_some, laid_set, laid_pop, laid_push, laid_split, laid_grow, used_within, used_disjoint, head_some, head_unused, head_aligned, upper_unused, beyond_unused, zero_used, zero_word}
 
--- four zeros
 four_zeros : (f : ℕ → ℕ) → ((k : ℕ) → k < 4 → f k ≡ 0) → sized_block f 0 4 ≡ Some (0 ∷ 0 ∷ 0 ∷ 0 ∷ [])
 unfolding sized_block read
 four_zeros f z = ap (λ xs. Some xs) (ap (λ x. x ∷ f 1 ∷ f 2 ∷ f 3 ∷ []) (z 0 (omega arith)) ∙ ap (λ x. 0 ∷ x ∷ f 2 ∷ f 3 ∷ []) (z 1 (omega arith))

@@ -127,7 +127,6 @@ refused_for_link o e r is cause answer = subst (λ c. MatchOption c (is_ok r ≡
     by_answer (Ok x) none = absurd none
     by_answer (Err x) same = ap (λ y. Err y) same
 
--- and keeps what every world keeps
 pub up-keeps : (w : World) (l : ℕ) (links : List Link) → refusal_to_come_up w.links l ≡ None → links ≡ changed_at l link_come_up w.links → IsWorld w → IsWorld (record w { links = links })
 up-keeps w l links none is = step-keeps w (LinkUp l) tt (up_refusal w l ∙ ap (option_map step_refusal) none) (record w { links = links }) (ap (λ ks. record w { links = ks }) is)
 
@@ -334,7 +333,6 @@ detach_lawful w i p a none there attached =
     some_there None e = absurd (true≢false e)
     some_there (Some c) e = (c, refl)
 
--- one that has none may not
 pub not_attached : (w : World) (i : ℕ) (p : Prefix) (a : Attachments) → prefix_refusal w i p ≡ None → slice_get w.attachments i ≡ Some a → is_none (row_of prefix_cmp p a.costs) ≡ true → refusal w (Detach i p) ≡ Some Refusal.NotAttached
 not_attached w i p a none there unattached =
     let K = known_there w i p none in
@@ -407,7 +405,6 @@ put_refused w i m p e h at answer =
 pub released-keeps : (w : World) (i : ℕ) (m : Held) (v : World) → release_at w i ≡ Some m → v ≡ next w (Release i) → IsWorld w → IsWorld v
 released-keeps w i m v front is h = subst IsWorld (sym is) (next-kept w (Release i) (m, front) h)
 
--- what is so on Ok is so
 pub on_ok : {T E P : Type 0} (r : Result T E) {x : T} → r ≡ Ok x → OnOk r P → P
 on_ok (Ok x) is holds = holds
 on_ok (Err e) is holds = absurd (true≢false (sym (ap is_ok is)))

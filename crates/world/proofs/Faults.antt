@@ -5,7 +5,6 @@ use Rattle.world.specs.Parts.{network_of_parts}
 
 -- ---- causes before others
 
--- two tests before the others
 pub two_tests : {X : Type 0} (a b : Bool) (x y : X) (cs : List (Bool × X)) → a ≡ true → first_cause ((a, x) ∷ (b, y) ∷ cs) ≡ Some x
 two_tests a b x y cs holds = ap (λ t. if t then Some x else first_cause ((b, y) ∷ cs)) holds
 

@@ -19,7 +19,6 @@ opening_place n i q p at =
     let own : places_from 0 i n.links ≡ ps.0 = (listed_within (λ j. places_from 0 j n.links) n.routers i ps.0 ps.1).1 in
     place_to_IsPort 0 i n.links q p (ap (λ xs. slice_get xs q) own ∙ ps.2)
 
--- router i at the opening
 opening_router_at : (n : Network) (i : ℕ) (r : Router) → slice_get (opening n).routers i ≡ Some r → r ≡ opening_router_of n i
 opening_router_at n i r at = sym (listed_within (opening_router_of n) n.routers i r at).1
 

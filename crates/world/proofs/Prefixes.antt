@@ -45,7 +45,6 @@ length-distinct (p ∷ ps) = by_test (list_any (prefix_eq p) ps) (length-distinc
     by_test true rest = omega (arith, rest)
     by_test false rest = omega (arith, rest)
 
--- there are no more than attachments
 pub few_prefixes : (attachments : List (Prefix × ℕ × ℕ)) → length (prefixes_of attachments) ≤ length attachments
 few_prefixes attachments =
     let few = length-distinct (map (λ a. a.0) attachments) in
@@ -101,7 +100,6 @@ either : (a b : Bool) → cond a true b ≡ (a || b)
 either true b = refl
 either false b = refl
 
--- which prefixes are given by them
 pub given_from : (attachments : List (Prefix × ℕ × ℕ)) (i : ℕ) (a : Prefix × ℕ × ℕ) → 0 < i → i ≤ length attachments → a ≡ get_or attachments (i - 1) a → (p : Prefix) (before now : Bool)
     → now ≡ cond (prefix_eq a.0 p) true before → before ≡ list_any (prefix_eq p) (map (λ x. x.0) (drop i attachments)) → now ≡ list_any (prefix_eq p) (map (λ x. x.0) (drop (i - 1) attachments))
 given_from attachments i a some within at p before now is was =

@@ -17,7 +17,6 @@ one_made g made longer all x k e below is grown before =
     ∙ ap (λ ns. made ++ map g ns) (sym (range_from k e below))
     ∙ before
 
--- what is made of all of them
 pub all_made : {B : Type 0} (g : ℕ → B) (made all : List B) (k e : ℕ) → e ≤ k → made ++ map g (range_with_len k (e - k)) ≡ all → made ≡ all
 all_made g made all k e past before =
     let none : e - k ≡ 0 = omega (arith, past) in

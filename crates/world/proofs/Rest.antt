@@ -38,7 +38,6 @@ count-few test (x ∷ xs) = by_test (test x) (count-first test x xs) (count-few 
     by_test true first rest = omega (arith, first, rest)
     by_test false first rest = omega (arith, first, rest)
 
--- one that passes is counted
 count-there : {A : Type 0} (test : A → Bool) (xs : List A) (k : ℕ) → one_if (option_map_or test (slice_get xs k) false) ≤ count_passing test xs
 count-there test [] k = omega arith
 count-there test (x ∷ xs) zero = let first = count-first test x xs in omega (arith, first)
@@ -70,7 +69,6 @@ count-all test quiet opposite (x ∷ xs) =
     by_quiet true rest = (let same : 0 + count_passing test xs ≡ count_passing test xs = omega arith in ap (λ (n : ℕ). n == 0) same) ∙ rest
     by_quiet false rest = ne_eqb (1 + count_passing test xs) 0 (λ e. omega (arith, e))
 
--- a sum is zero where both are
 sum-zero : (a b : ℕ) → ((a + b) == 0) ≡ ((a == 0) && (b == 0))
 sum-zero zero b = let same : 0 + b ≡ b = omega arith in ap (λ (n : ℕ). n == 0) same
 sum-zero (suc a) b = ne_eqb (suc a + b) 0 (λ e. omega (arith, e)) ∙ ap (λ x. x && (b == 0)) (sym (ne_eqb (suc a) 0 (λ e. omega (arith, e))))
@@ -175,7 +173,6 @@ unrest-next (Release i) w = by_front (release_at w i)
 unrest-next (Attach i p cost) w = let notices = count-changed has_notice (with_attachment p cost) i w.attachments in omega (arith, notices)
 unrest-next (Detach i p) w = let notices = count-changed has_notice (without_attachment p) i w.attachments in omega (arith, notices)
 
--- what it touches was counted
 pub touched-counted : (t : Touched) (w : World) → unrest_at t w ≤ unrest w
 touched-counted t w =
     let link = passing-few is_busy w.links t.link in

@@ -143,7 +143,6 @@ front_taken-across End.B End.B k apart = absurd (apart refl)
 
 -- router i takes this item, which is the front one, from its port q at place p
 module _ (i q : ℕ) (p : Place) (item : Item) (w : World) (h : IsWorld w) (at : place_at w i q ≡ Some p) (front : (k : Link) → slice_get w.links p.link ≡ Some k → slice_get (side p.end k).inbox 0 ≡ Some item) where
-  -- the world then
   abbrev taking : World
   taking = record w { links = changed_at p.link (with_front_taken p.end) w.links; routers = changed_at i (router_accepting q item) w.routers }
 

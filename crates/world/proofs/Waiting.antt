@@ -143,7 +143,6 @@ next_step-known w i r there =
         (ap (λ (k : ℕ). is_lawful w (Deliver i k)) (plain (length ps)) ∙ notice-lawful w i r ps there at)
         ∙ ap (λ n. option_map (λ q. Deliver i q) (option_map_or (λ q. Some q) (position_from (is_waiting w.links) 0 ps) (if some_wait (slice_get w.attachments i) then Some n else None))) (plain (length ps))
 
--- one that can release
 pub next_step-release : (w : World) (i : ℕ) (r : Router) → slice_get w.routers i ≡ Some r → is_some (ripe_front r) ≡ true → next_step w i ≡ Some (Release i)
 next_step-release w i r there front =
     next_step-known w i r there

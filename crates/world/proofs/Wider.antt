@@ -32,7 +32,6 @@ module _ (l m : Limits) (within : AreWithin l m) where
       no_test (is_bad_link routers before s) (is_link_too_many m before s) (BadLink (length before)) (TooManyLinks (length before)) (link_causes m routers (before ++ s ∷ []) ss) fine.0 (fewer_links before s few.0)
       ∙ links_wider routers (before ++ s ∷ []) ss few.1
 
-  -- an attachment that can be
   good_attachment : (routers : ℕ) (before : List (Prefix × ℕ × ℕ)) (a : Prefix × ℕ × ℕ) → is_bad_attachment l routers before a ≡ false → is_bad_attachment m routers before a ≡ false
   good_attachment routers before a good =
       by_tests (nat_lt a.1 routers) (nat_lt (length before) l.attachments) (nat_lt (length before) m.attachments) (below_wider (length before) l.attachments m.attachments within.attachments)

@@ -8,7 +8,6 @@ use Rattle.reachability.proofs.links.spread.Goals.{in-Some, in_default}
 use Rattle.reachability.proofs.links.spread.Goals as goal
 
 module _ (w : World) (old marks : List Bool) (grown : Bool) (place : ℕ) (R : IsRound (KeepsReach w) (AddsNone w) old marks grown place) where
-  -- a router is added
   added : IsJoined w → length marks ≡ length w.routers → (k : ℕ) → IsAddedBy w marks place k → (marks' : List Bool) → marks' ≡ slice_set marks k true → (grown' : Bool) → grown' ≡ true → IsRound (KeepsReach w) (AddsNone w) old marks' grown' (place + 1)
   added joined size k A marks' marks_is grown' grown_is =
       let known = joined.ends place A.link A.end A.at in
@@ -18,7 +17,6 @@ module _ (w : World) (old marks : List Bool) (grown : Bool) (place : ℕ) (R : I
       (subst (λ (xs : List Bool). IsRound (KeepsReach w) (AddsNone w) old xs true (place + 1)) (sym marks_is)
       (with_mark (KeepsReach w) (AddsNone w) old marks grown place R k (keeps_more w old marks place k within A) within A.fresh))
 
-  -- none is
   passed : AddsNone w marks place → (marks' : List Bool) → marks' ≡ marks → (grown' : Bool) → grown' ≡ grown → IsRound (KeepsReach w) (AddsNone w) old marks' grown' (place + 1)
   passed none marks' marks_is grown' grown_is =
       subst (λ (b : Bool). IsRound (KeepsReach w) (AddsNone w) old marks' b (place + 1)) (sym grown_is)

@@ -9,7 +9,6 @@ use Rattle.script.specs.Directories.{name_text}
 use Rattle.run_states.specs.Values.{count_value, list, word}
 use Rattle.run_states.proofs.states.opening_value.Goals as goal
 
--- a member that was put
 put_on : (k : Text) (v d : Data) (before after ms : Members) → after ≡ put k v before → v ≡ d → before ≡ ms → after ≡ put k d ms
 put_on k v d before after ms more is same = more ∙ ap (λ x. put k x before) is ∙ ap (put k d) same
 

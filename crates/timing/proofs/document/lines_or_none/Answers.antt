@@ -13,7 +13,6 @@ returns-then-count_key-eq0-clause-ok c =
     list_absent (get_member c.args.key.now (table_view c.args.table.now)) (sym c.count_key.ensures.count ∙ c.if-count_key-eq0.true)
     ∙ ap (λ xs. Some (map string_bytes xs)) (sym c.new.ensures.items)
 
--- the key is there
 at_key : (c : goal.After-lines_at) → list_at c.args.key.now (table_view c.args.table.now) ≡ texts_at c.args.key.now (table_view c.args.table.now)
 at_key c = list_there (get_member c.args.key.now (table_view c.args.table.now)) (λ none. c.if-count_key-eq0.false (c.count_key.ensures.count ∙ none))
 

@@ -8,7 +8,6 @@ use Rattle.bitmaps.proofs.Options.{refused}
 use Rattle.array_bitmap.proofs.Stands.{holder_stays_block, holder_stays_bit, holder_index, put_sets, put_sound, same_cells, word_of_stand}
 use Rattle.array_bitmap.proofs.tree.Tree.put_row.Goals as goal
 
--- the bit, by the path
 bit_is : (path level more five bit : ℕ) → five ≡ five_bits path level → bit ≡ row_bit five more → bit ≡ row_bit (five_bits path level) more
 bit_is path level more five bit f b = b ∙ ap (λ v. row_bit v more) f
 

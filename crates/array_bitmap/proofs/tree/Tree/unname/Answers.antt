@@ -9,7 +9,6 @@ use Rattle.array_bitmap.specs.declared.tree.Stand.{Stand}
 use Rattle.array_bitmap.proofs.Stands.{stand_is, holder_bit, holder_index, holder_stays_block, holder_stays_bit, holder_above, top_lost, kid_lost}
 use Rattle.array_bitmap.proofs.tree.Tree.unname.Goals as goal
 
--- the block above, by its level
 above_at : (c : Cells) (sound : IsSoundCells c) (path level : ℕ) (stand : Stand) → IsStand c path (level - c.first) stand → stand.holder ≢ 0
     → (c.first + 1 ≤ level) × (block_at c path (level - 1 - c.first) ≡ stand.holder)
 above_at c sound path level stand st some =
@@ -36,7 +35,6 @@ pub without_kid-place-requires-clause-small : goal.without_kid-place-requires-cl
 without_kid-place-requires-clause-small g c =
     holder_index (cells_of c.args.self.now) c.requires.sound.cells c.args.path (c.args.level - c.args.self.now.first) c.args.stand c.requires.stand (omega (arith, c.requires.deep, c.requires.low)) c.if-stand-eq0.false
 
--- the holder is the block above
 held : (c : Cells) (sound : IsSoundCells c) (path level : ℕ) (stand above : Stand) → IsStand c path (level - c.first) stand → stand.holder ≢ 0 → IsStand c path (level - 1 - c.first) above → stand.holder ≡ above.block
 held c sound path level stand above st some sa = let at = sa.at in sym (above_at c sound path level stand st some).1 ∙ at
 

@@ -135,7 +135,6 @@ returns-in_err-publish-in-Some-clause-err g c =
 abbrev old : (g : given.Over) (c : goal.After-unwrap-2 g) → Fabric
 old g c = fabric_seen g.B.FabricName.openings c.self.inside.course.network c.self.inside.journal.items c.self.inside.course.world c.self.inside.desks.items
 
--- and after
 abbrev new : (g : given.Over) (c : goal.After-unwrap-2 g) → Fabric
 new g c = fabric_seen g.B.FabricName.openings c.match-step.self-inside.course.network c.push.new.self.items c.match-step.self-inside.course.world c.match-step.self-inside.desks.items
 

@@ -42,7 +42,6 @@ index_mut-requires g c =
     let count = c.self.inside.readers.ok.0 in
     omega (arith, below, world, every, count, c.from.ensures)
 
--- the reader is of its router
 reader_number : (g : given.Over) (c : goal.After-told-2-1 g) → c.args.router ≡ c.index_mut.result.now.router
 reader_number g c =
     let below = c.in-Some.ensures.known.0 refl in

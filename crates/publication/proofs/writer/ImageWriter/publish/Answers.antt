@@ -17,7 +17,6 @@ invariant_of-self-in_err-publish g c =
       subst (λ (k : Known). length k.publications ≡ generation_of k) told c.self.invariant.1,
     )
 
--- the list has this publication more
 list_more : {A : Type 0} (told between old : Known) (waiting waited : List (PatchFields A)) (patch : PatchFields A) (w : Writing) → told ≡ with_publication between (bundle_of waiting patch) → between ≡ old → waiting ≡ waited
     → record { published = old; waiting = map patch_of waited } ≡ w → told ≡ with_publication w.published (w.waiting ++ patch_of patch ∷ [])
 list_more told between old waiting waited patch w done same kept is =

@@ -56,7 +56,6 @@ accept-requires-clause-timely g c =
 
 -- ---- a router that found no room for what the item brings
 
--- the world is as it was
 still : (g : given.Over) (c : goal.After-from_residual-in_err-accept g) → record (world_in c.self.inside) { routers = set c.self.inside.routers.items c.from.result c.accept.new.self } ≡ world_in c.self.inside
 still g c =
     ap (λ rs. record (world_in c.self.inside) { routers = rs })

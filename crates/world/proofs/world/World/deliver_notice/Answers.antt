@@ -13,7 +13,6 @@ use Rattle.world.proofs.world.World.deliver_notice.Given as given
 
 -- the notice that stands first with the router's attachments, where one stands
 module _ (g : given.Over) (c : After-front g) where
-  -- the world before
   abbrev old : World
   old = world_in c.self.inside
 
@@ -49,7 +48,6 @@ index_mut-requires-2 g c =
 
 -- ---- a router that found no room for what the notice brings
 
--- the world is as it was
 still : (g : given.Over) (c : goal.After-from_residual g) → record (world_in c.self.inside) { routers = set c.self.inside.routers.items c.from-number.result c.notice.new.self } ≡ world_in c.self.inside
 still g c =
     ap (λ rs. record (world_in c.self.inside) { routers = rs })

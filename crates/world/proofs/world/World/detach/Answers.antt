@@ -18,7 +18,6 @@ pub index_mut-attachments-requires : goal.index_mut-attachments-requires
 index_mut-attachments-requires g c =
     in_bounds c.from.ensures (known_within (world_in c.self.inside) c.args.router c.args.prefix c.self.invariant (known g (goal.at.index_mut-attachments-requires g c).In_ok-known_prefix)) c.self.inside.attachments.ok.0
 
--- the attachments of the router
 attachments_are : (g : given.Over) (c : After-index_mut-attachments g) → prefix_refusal (world_in c.self.inside) c.args.router c.args.prefix ≡ None → slice_get c.self.inside.attachments.items c.args.router ≡ Some c.index_mut-attachments.result.now
 attachments_are g c known = slice_get-read c.from.ensures c.index_mut-attachments.ensures.value refl (known_within (world_in c.self.inside) c.args.router c.args.prefix c.self.invariant known)
 

@@ -12,7 +12,6 @@ there xs w i k r seen at read within =
     let known : i < length w.routers = (let same : length xs ≡ length w.routers = ap length seen in omega (arith, same, within)) in
     slice_get-read at read seen (omega (arith, known, at))
 
--- the router that was found
 found_is : (g : given.Over) (c : In_ok-found g) → slice_get (c.args.self.now).routers c.args.router ≡ Some c.in_ok-found.found.now
 found_is g c =
     there c.deref.result.now c.args.self.now c.from.result c.args.router c.in_ok-found.found.now
