@@ -15,9 +15,8 @@ pub record Improves (rows : Bool → ℕ → List (Prefix × Entry)) (leads : �
 
 -- where one hop means another, so does a way by the one
 pub way_by : (goes goes' : ℕ → ℕ → Type 0) → ((i k : ℕ) → goes i k → goes' i k) → (way : List ℕ) → IsWayBy goes way → IsWayBy goes' way
-way_by goes goes' means [] h = tt
-way_by goes goes' means (i ∷ []) h = tt
 way_by goes goes' means (i ∷ k ∷ ks) h = (means i k h.0, way_by goes goes' means (k ∷ ks) h.1)
+way_by goes goes' means _ h = tt
 
 module _ (rows : Bool → ℕ → List (Prefix × Entry)) (leads : ℕ → Entry → Option ℕ) (fd : Bool → Prefix → ℕ → ℕ) (I : Improves rows leads fd) (addr : ℕ) where
   -- router k has rows of both kinds of a prefix that covers the address
@@ -146,11 +145,10 @@ module _ (rows : Bool → ℕ → List (Prefix × Entry)) (leads : ℕ → Entry
 
   -- no way meets a router twice
   pub none_twice : (way : List ℕ) → IsWayBy Goes way → meets_twice way ≡ false
-  none_twice [] h = refl
-  none_twice (i ∷ []) h = refl
   none_twice (i ∷ k ∷ ks) h =
       let W = (h.0).1 in
       ap (λ c. c || meets_twice (k ∷ ks)) (never_again (h.0).0 i k W W.prefix k ks (knows (h.0).0 i k W) (first_beyond (h.0).0 i k W) h.1) ∙ none_twice (k ∷ ks) h.1
+  none_twice _ h = refl
 
   -- nor does one of a packet that is matched among all rows of either kind
   pub matched_once : (way : List ℕ) → IsWayBy Matched way → meets_twice way ≡ false

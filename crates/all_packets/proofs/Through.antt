@@ -1,6 +1,6 @@
 -- Where a packet is followed whichever prefixes match it, its trace is a way, and ends.
 use Rattle.std.proofs.Common.{refl, sym, ap, subst, ◌∙◌, arith, ◌≡◌, ◌≢◌, ℕ, zero, suc, ◌<◌, Bool, true, false, if◌then◌else◌, List, [], ◌∷◌, ◌++◌, length, Option, Some, None, option_and_then}
-use Rattle.no_packet_loops.proofs.Common.{Prefix, Entry, Local, Via, Unreachable, Ending, World, row_for, entry_leads, Onward, Ends, Goes, over_link, by_entry, by_row, is_crossed, onward, Trace, traced_by, trace_from, None_not_Some, Some_injective, hop}
+use Rattle.no_packet_loops.proofs.Common.{Prefix, Entry, Via, Ending, World, row_for, entry_leads, Onward, Ends, Goes, over_link, by_entry, by_row, is_crossed, onward, Trace, traced_by, trace_from, None_not_Some, Some_injective, hop}
 use Rattle.no_packet_loops.specs.Packets.{HoldsInEveryWorld}
 use Rattle.no_packet_loops.proofs.Traces.{by_entry-goes}
 use Rattle.all_packets.specs.Packets.{IsWay, NoPacketCircles, WaysEnd}
@@ -16,13 +16,12 @@ row_leads w i (Some r) q k h = (by_entry-goes w i r.0 r.1 q k h).1
 
 -- an entry does not end it where another prefix matches
 entry_ends : (w : World) (i : ℕ) (p : Prefix) (e : Entry) (end : Ending) → by_entry w i p e ≡ Ends end → end ≢ Ending.Crossed
-entry_ends w i p Local end h = λ crossed. (let none : ⊥ = cc in none)
-entry_ends w i p Unreachable end h = λ crossed. (let none : ⊥ = cc in none)
 entry_ends w i p (Via q session) end h = by_far (entry_leads w i (Via q session)) h
   where
     by_far : (o : Option ℕ) → over_link p o ≡ Ends end → end ≢ Ending.Crossed
     by_far None is = λ crossed. (let none : ⊥ = cc in none)
     by_far (Some k) is = absurd (let none : ⊥ = cc in none)
+entry_ends w i p _ end h = λ crossed. (let none : ⊥ = cc in none)
 
 -- nor does a row, or that there is none
 pub row_ends : (w : World) (i : ℕ) (row : Option (Prefix × Entry)) (end : Ending) → by_row w i None row ≡ Ends end → end ≢ Ending.Crossed

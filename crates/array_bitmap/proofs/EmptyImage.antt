@@ -1,5 +1,5 @@
 -- An image without rows, and one with the same words.
-use Rattle.std.proofs.Common.{ℕ, zero, suc, ◌≡◌, inl, inr, ◌+◌, ◌-◌, ◌*◌, ◌^◌, ◌≤◌, List, [], get_or, replicate, Option, None, option_map, arith, refl, sym, ap, subst, ◌∙◌}
+use Rattle.std.proofs.Common.{ℕ, suc, ◌≡◌, inl, inr, ◌+◌, ◌-◌, ◌*◌, ◌^◌, ◌≤◌, List, [], get_or, replicate, Option, None, option_map, arith, refl, sym, ap, subst, ◌∙◌}
 use Rattle.std.specs.Int.{bit_at}
 use Rattle.std.specs.Int.RustNames.{count_ones}
 use Rattle.std.proofs.lemmas.Bool.{cases_eq, cases_lt, cond-true, cond-false, eq-eqb, ne_eqb}
@@ -20,9 +20,8 @@ use Rattle.array_bitmap.proofs.Walks.{zeros, no_kid_none, row-nowhere, gone, blo
 
 -- what is read of copies of a value is the value, also past their end
 pub copies_are : {T : Type 0} (n k : ℕ) (a : T) → get_or (replicate n a) k a ≡ a
-copies_are zero k a = refl
-copies_are (suc n) zero a = refl
 copies_are (suc n) (suc k) a = copies_are n k a
+copies_are _ _ a = refl
 
 -- four zeros are a block
 pub zeros_block : IsBlock zeros

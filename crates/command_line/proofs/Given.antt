@@ -85,10 +85,9 @@ no_flag E f id None value = go
     go false h = (value (codes "false") (one_text-rows f id ∙ h)).1.1 refl
 
 one_flag : (rows : List Row) (id : Text) (a b : Bool) → HasFlag rows id a → HasFlag rows id b → a ≡ b
-one_flag rows id true true h k = refl
 one_flag rows id true false h k = absurd (omega (arith, ap (λ o. option_map_or length o 0) (sym h ∙ k)))
 one_flag rows id false true h k = absurd (omega (arith, ap (λ o. option_map_or length o 0) (sym h ∙ k)))
-one_flag rows id false false h k = refl
+one_flag rows id _ _ h k = refl
 
 pub one_number : (rows : List Row) (id : Text) (most m n : ℕ) → HasNumber rows id most m → HasNumber rows id most n → m ≡ n
 one_number rows id most m n h k =

@@ -1,6 +1,6 @@
 -- What a step leaves of what every course keeps.
 use Rattle.std.proofs.Common.{refl, sym, ap, ◌∙◌, arith, length-append, ◌≡◌, ◌+◌, ◌^◌, ◌<◌, ◌≤◌, List, [], ◌∷◌, ◌++◌, length, if◌then◌else◌, Option, Some, None, Result, Err, lt-ltb}
-use Rattle.no_packet_loops.proofs.Common.{World, Network, opening, IsNetwork, Lawful, next, refusal, Refusal, Kind, Update, Query, Reply, Step}
+use Rattle.no_packet_loops.proofs.Common.{World, Network, opening, IsNetwork, Lawful, next, refusal, Refusal, Kind, Update, Step}
 use Rattle.world.specs.Headline.{IsReached}
 use Rattle.world.specs.Steps.{CanBeRefused, HasRoomForSteps, IsDoneOr}
 use Rattle.world.proofs.Runs.{with_last_step, run-room, opening-room}
@@ -33,8 +33,7 @@ kept_open n w sent opened none = record {
 -- at most one message was sent more
 sent_more : (k : Kind) (s : Sent) → sent_count (one_sent k s) ≡ sent_count s + 1
 sent_more Update s = omega arith
-sent_more Query s = omega arith
-sent_more Reply s = omega arith
+sent_more _ s = omega arith
 
 pub sent_few : (o : Option Kind) (s : Sent) → sent_count (with_sent o s) ≤ sent_count s + 1
 sent_few None s = omega arith

@@ -1,6 +1,6 @@
 -- What a step does to the images in force.
 use Rattle.std.proofs.Common.{refl, sym, ap, subst, ◌∙◌, ◌≡◌, ℕ, zero, suc, ◌<◌, Bool, true, false, cond, List, [], ◌∷◌, map, length, set, Option, Some, None, IsSome, slice_get, get_or, option_map, option_and_then}
-use Rattle.no_packet_loops.proofs.Common.{false≢true, length-map, slice_get_read, slice_get_within, slice_get-map, map-changed_at, changed_at, Item, End, Link, Router, World, Network, opening_router_of, Lawful, next, is_due, changed_router, changed_link, with_cost, with_front_taken, with_message, with_delivered, with_noticed, with_notice_taken, with_released, front_at, notice_at, release_at, changed_attachments, router_accepting, router_at_home, router_publishing, router_releasing, Image, option_map_or-ind, None_not_Some, Some_injective, routers-changed_link, Step, LinkUp, LinkDown, SetCost, Deliver, Publish, Release, Attach, Detach}
+use Rattle.no_packet_loops.proofs.Common.{false≢true, length-map, slice_get_read, slice_get_within, slice_get-map, map-changed_at, changed_at, Item, End, Link, Router, World, Network, opening_router_of, Lawful, next, is_due, changed_router, changed_link, with_cost, with_front_taken, with_message, with_delivered, with_noticed, with_notice_taken, with_released, front_at, notice_at, release_at, changed_attachments, router_accepting, router_at_home, router_publishing, router_releasing, Image, option_map_or-ind, None_not_Some, Some_injective, routers-changed_link, Step, SetCost, Deliver, Publish, Release}
 use Rattle.course.specs.Images.{chosen_image, due_at, image_in_force, images_in_force}
 
 -- ---- a step that is no publication
@@ -20,8 +20,6 @@ pub images_stay : (w : World) (s : Step) → ((i : ℕ) → s ≡ Publish i → 
 images_stay w s other = by_step s other
   where
     by_step : (s : Step) → ((i : ℕ) → s ≡ Publish i → ⊥) → images_in_force (next w s) ≡ images_in_force w
-    by_step (LinkUp l) _ = refl
-    by_step (LinkDown l) _ = refl
     by_step (SetCost i q cost) _ = images-changed_link i q (with_cost cost) w
     by_step (Deliver i q) _ = option_map_or-ind (λ v. images_in_force v ≡ images_in_force w) (with_delivered i q w) (front_at w i q) _
         (option_map_or-ind (λ v. images_in_force v ≡ images_in_force w) (with_noticed i w) (notice_at w i q) w refl
@@ -30,8 +28,7 @@ images_stay w s other = by_step s other
     by_step (Publish i) other = absurd (other i refl)
     by_step (Release i) _ = option_map_or-ind (λ v. images_in_force v ≡ images_in_force w) (with_released i w) (release_at w i) w refl
         (λ h _. images-changed_router i router_releasing (changed_link i h.port (with_message h) w) (λ _. refl) ∙ images-changed_link i h.port (with_message h) w)
-    by_step (Attach i p cost) _ = refl
-    by_step (Detach i p) _ = refl
+    by_step _ _ = refl
 
 -- ---- a publication
 

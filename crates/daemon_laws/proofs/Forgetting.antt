@@ -201,5 +201,4 @@ module _ (p : Prefix) (r : Router) (R : RouterKept p r) (sound : IsSound (machin
         by_prefix true same true may =
             subst (λ (j : Prefix). PutsInForce p r (router_forgetting j r) fd infinity) (prefix_same p k same) (puts_forgotten fd (ap (λ (j : Prefix). may_forget j r) (prefix_same p k same) ∙ may))
         by_prefix false apart true may = puts_beside apart
-        by_prefix true same false may = puts_nothing p r r fd fd sound R cheap bounded refl refl refl refl refl
-        by_prefix false apart false may = puts_nothing p r r fd fd sound R cheap bounded refl refl refl refl refl
+        by_prefix _ _ _ may = puts_nothing p r r fd fd sound R cheap bounded refl refl refl refl refl

@@ -3,7 +3,7 @@ use Rattle.std.proofs.Common.{refl, ap, subst, ◌∙◌, arith, inl, inr, ◌�
 use Rattle.no_packet_loops.proofs.Common.{Prefix, Topology, LinkEnd}
 use Rattle.network_model.proofs.Common.{cases_Bool, cases_lt, and_from, and_right, or_from, or_left, or_right, lt-ltb, le-leb}
 use Rattle.daemon_laws.specs.Processes.{Carried, Processes}
-use Rattle.daemon_laws.specs.Happenings.{Happening, Tells, Takes, Loses, Publishes, PublishesSome, Forgets, Releases, BeginsAnew, is_same_end, is_first_of, last_anew, may_come_again, lost_anew, link_stays, after_happening, MayRewire, rewired, Begun, Happened, Rewired, HoldsAlways}
+use Rattle.daemon_laws.specs.Happenings.{Happening, Tells, Takes, Loses, Releases, BeginsAnew, is_same_end, is_first_of, last_anew, may_come_again, lost_anew, link_stays, after_happening, MayRewire, rewired, Begun, Happened, Rewired, HoldsAlways}
 use Rattle.daemon_laws.specs.Moments.{fds_reached}
 use Rattle.daemon_laws.specs.Rest.{SessionsBeginWhole}
 use Rattle.daemon_laws.proofs.Cases.{by_take, by_release}
@@ -51,11 +51,9 @@ module _ (t : Topology) (w : Processes) (W : SessionsBeginWhole t w) where
   whole_next p O (Tells i x) = kept_by (after_happening t w (Tells i x)) (λ e. omega arith) (λ e n. refl)
   whole_next p O (Takes e) = by_take t w (SessionsBeginWhole t) W e (λ c at le. W)
   whole_next p O (Loses e) = loses p O e
-  whole_next p O (Publishes i) = W
-  whole_next p O (PublishesSome i n) = W
-  whole_next p O (Forgets i k) = W
   whole_next p O (Releases i) = by_release t w (SessionsBeginWhole t) W i (λ h at. W)
   whole_next p O (BeginsAnew i costs attachments) = begins i
+  whole_next p O _ = W
 
 -- and where ports get other neighbours
 whole_rewired : (t t' : Topology) (p : Prefix) (fds : ℕ → ℕ) (w : Processes) → SessionsBeginWhole t w → Invariant t p fds w → Orderly t p w → MayRewire t t' w → SessionsBeginWhole t' (rewired t t' w)

@@ -310,8 +310,7 @@ module _ (t : Topology) (p : Prefix) (pfd : ℕ → ℕ) (w : Processes) (I : In
         refl,
         subst (λ (g : LinkEnd). c.session ≤ session_of w g) (sym (end_same d e is)) (let s = in_its_session (w.routers e.router) e.port c.session c.message none in omega (arith, s)),
       )
-      hears c at le d true is false none = inl refl
-      hears c at le d false is f none = inl refl
+      hears c at le d _ is _ none = inl refl
 
       as_hears : (v : Processes) (c : Carried) (d : LinkEnd) → (v.heard d ≡ w.heard d) ⊎ ((slice_get (w.coming d) 0 ≡ Some c) × (v.heard d ≡ c.session) × (c.session ≤ session_of w d)) → Hears w v d
       as_hears v c d (inl same) = Before same

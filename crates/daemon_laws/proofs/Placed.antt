@@ -29,6 +29,5 @@ module _ (t : Topology) (w : Processes) (placed : Placed t w) where
           coming_away (t.far (at_port i h.port)) (λ cs. cs ++ as_carried h ∷ []) w.coming d
           (λ is. both_ways (t.valid d) out (subst (λ z. t.valid z ≡ true) (sym is) (t.far_valid (at_port i h.port) v)))
           ∙ placed d out
-      by_test h true false v = placed d out
-      by_test h false c v = placed d out
+      by_test h _ _ v = placed d out
   placed_next _ d out = placed d out

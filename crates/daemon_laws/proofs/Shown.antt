@@ -38,11 +38,7 @@ module _ (p : Prefix) where
     where
       by_input : (y : Input) → ShownAt (router_after y r) fd
       by_input (input.Up port session cost) = record { follows = refl; unheard_then = S.unheard_then }
-      by_input (input.Down port) = record { follows = refl; unheard_then = S.unheard_then }
-      by_input (input.Cost port cost) = record { follows = refl; unheard_then = S.unheard_then }
-      by_input (input.Message port session m) = record { follows = refl; unheard_then = S.unheard_then }
-      by_input (input.Attached q cost) = record { follows = refl; unheard_then = S.unheard_then }
-      by_input (input.Detached q) = record { follows = refl; unheard_then = S.unheard_then }
+      by_input _ = record { follows = refl; unheard_then = S.unheard_then }
 
       by_fault : (b : Bool) → ShownAt (if b then router_after x r else r) fd
       by_fault true = by_input x
@@ -90,8 +86,7 @@ module _ (p : Prefix) where
       by_test : (b : Bool) → prefix_eq p k ≡ b → (a : Bool) → ShownAt (if a then router_forgetting k (w.routers i) else w.routers i) (if b && a then infinity else fds i)
       by_test true same true = record { follows = follows_without k (w.routers i) (A i).follows; unheard_then = λ none. refl }
       by_test false apart true = record { follows = follows_without k (w.routers i) (A i).follows; unheard_then = λ none. (A i).unheard_then (sym (row_beside p k ((w.routers i).table).published apart) ∙ none) }
-      by_test true same false = A i
-      by_test false apart false = A i
+      by_test _ _ _ = A i
   next_shown t w (Releases i) fds can A = by_release t w (λ v. AllShown v.routers fds) A i
       (λ h is. changed_shown i router_releasing w.routers fds fds (λ j d. refl) A (record { follows = (A i).follows; unheard_then = (A i).unheard_then }))
   next_shown t w (BeginsAnew i costs attachments) fds can A = changed_shown i (λ r. made_router costs attachments) w.routers fds (fds_next p w (BeginsAnew i costs attachments) fds) (λ j d. rw (ne_eqb j i d) refl) A

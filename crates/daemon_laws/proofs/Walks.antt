@@ -1,6 +1,6 @@
 -- Along the rows of routers in processes of their own the feasible distances fall, so no packet meets a router twice.
-use Rattle.std.proofs.Common.{refl, sym, ap, subst, ◌∙◌, arith, inl, inr, ◌≡◌, ◌⊎◌, ℕ, ◌<◌, ◌≤◌, max, Bool, true, false, ◌&&◌, ◌==◌, if◌then◌else◌, List, [], ◌∷◌, Option, Some, None, slice_get, option_and_then, eq-eqb}
-use Rattle.no_packet_loops.proofs.Common.{and_parts, and_from, Prefix, prefix_cmp, longest_match, is_port, port_successor_from, Entry, Local, Via, Unreachable, Port, machine_of, session_at, Some_injective, None_not_Some, is_up_at, is_next_hop, Topology, meets_twice, LinkEnd, at_port, next_hop, next_hop_at, FallsAlong, falls_distinct}
+use Rattle.std.proofs.Common.{refl, sym, ap, subst, ◌∙◌, arith, inl, inr, ◌≡◌, ◌⊎◌, ℕ, ◌<◌, ◌≤◌, max, Bool, true, false, ◌&&◌, ◌==◌, if◌then◌else◌, List, ◌∷◌, Option, Some, None, slice_get, option_and_then, eq-eqb}
+use Rattle.no_packet_loops.proofs.Common.{and_parts, and_from, Prefix, prefix_cmp, longest_match, is_port, port_successor_from, Entry, Via, Port, machine_of, session_at, Some_injective, None_not_Some, is_up_at, is_next_hop, Topology, meets_twice, LinkEnd, at_port, next_hop, next_hop_at, FallsAlong, falls_distinct}
 use Rattle.network_model.proofs.Common.{cases_lt, both_ways, find as row_of}
 use Rattle.no_packet_loops.proofs.Walks.{match_is_row}
 use Rattle.no_packet_loops.proofs.Publishing.{control_hop, control_sorted, hop_chosen}
@@ -61,8 +61,6 @@ module _ (t : Topology) (p : Prefix) (pfd : ℕ → ℕ) (w : Processes) (I : In
 
   -- an entry that leads to router k is such an entry
   pub leads : (i : ℕ) (entry : Entry) (k : ℕ) → session_leads t w i entry ≡ Some k → Leads i entry k
-  leads i Local k h = absurd (None_not_Some h)
-  leads i Unreachable k h = absurd (None_not_Some h)
   leads i (Via q session) k h = by_test (t.valid (at_port i q) && is_in_session w (t.far (at_port i q)) session) refl h
     where
       by_test : (b : Bool) → (t.valid (at_port i q) && is_in_session w (t.far (at_port i q)) session) ≡ b → (if b then Some (t.far (at_port i q)).router else None) ≡ Some k → Leads i (Via q session) k
@@ -77,6 +75,7 @@ module _ (t : Topology) (p : Prefix) (pfd : ℕ → ℕ) (w : Processes) (I : In
             there = in_it (t.far (at_port i q)) session parts.1;
             far_router = Some_injective g;
           }
+  leads i _ k h = absurd (None_not_Some h)
 
   -- ---- distances
 
@@ -143,11 +142,10 @@ module _ (t : Topology) (p : Prefix) (pfd : ℕ → ℕ) (w : Processes) (I : In
       → ((i : ℕ) (addr : ℕ) (entry : Entry) → longest_match addr (rows i) ≡ Some (p, entry) → (published_entry i ≡ Some entry) ⊎ (control_entry i ≡ Some entry))
       → ((i k : ℕ) (entry : Entry) → (published_entry i ≡ Some entry) ⊎ (control_entry i ≡ Some entry) → entry_goes i entry ≡ Some k → session_leads t w i entry ≡ Some k)
       → (addr : ℕ) (walk : List ℕ) → IsPacketWalkByRows entry_goes rows addr p walk → FallsAlong height walk
-  packet_walk entry_goes rows is goes addr [] h = tt
-  packet_walk entry_goes rows is goes addr (i ∷ []) h = tt
   packet_walk entry_goes rows is goes addr (i ∷ k ∷ ks) h =
       let row = is i addr (h.0).entry (h.0).matched in
       (falls i k (record { entry = (h.0).entry; is_row = row; goes = goes i k (h.0).entry row (h.0).leads }), packet_walk entry_goes rows is goes addr (k ∷ ks) h.1)
+  packet_walk entry_goes rows is goes addr _ h = tt
 
   -- a match among published rows is the row of its prefix
   match_published : (i addr : ℕ) (entry : Entry) → longest_match addr ((w.routers i).table).published ≡ Some (p, entry) → published_entry i ≡ Some entry
@@ -233,18 +231,16 @@ module _ (t : Topology) (p : Prefix) (pfd : ℕ → ℕ) (w : Processes) (I : In
 
     -- where a packet is let in, the row leads in its session
     pub unmarked : (i k : ℕ) (entry : Entry) → (published_entry i ≡ Some entry) ⊎ (control_entry i ≡ Some entry) → unmarked_leads t w i entry ≡ Some k → session_leads t w i entry ≡ Some k
-    unmarked i k Local row g = absurd (None_not_Some g)
-    unmarked i k Unreachable row g = absurd (None_not_Some g)
     unmarked i k (Via q session) row g = by_test (t.valid (at_port i q)) refl (lets_in w (t.far (at_port i q))) refl g
       where
         by_test : (b : Bool) → t.valid (at_port i q) ≡ b → (d : Bool) → lets_in w (t.far (at_port i q)) ≡ d → (if b && d then Some (t.far (at_port i q)).router else None) ≡ Some k → session_leads t w i (Via q session) ≡ Some k
-        by_test false v d h g = absurd (None_not_Some g)
-        by_test true v false h g = absurd (None_not_Some g)
         by_test true v true h g =
             let same : session ≡ w.heard (t.far (at_port i q)) = elim row [ inl x ↦ published_session i q session x v h | inr x ↦ control_session i q session x v h ] in
             ap (λ b. if b then Some (t.far (at_port i q)).router else None)
             (and_from (t.valid (at_port i q)) (is_in_session w (t.far (at_port i q)) session) v (ap (is_in_session w (t.far (at_port i q))) same ∙ h))
             ∙ g
+        by_test _ v _ h g = absurd (None_not_Some g)
+    unmarked i k _ row g = absurd (None_not_Some g)
 
     -- by published rows no packet meets a router twice
     pub unmarked_published_free : (addr : ℕ) (walk : List ℕ) → IsPacketWalkByRows (unmarked_leads t w) (rows_in_force w) addr p walk → meets_twice walk ≡ false

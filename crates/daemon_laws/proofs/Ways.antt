@@ -1,6 +1,6 @@
 -- No packet meets a router twice, whichever prefixes match it on its way between routers in processes of their own.
 use Rattle.std.proofs.Common.{refl, sym, ap, subst, ◌∙◌, inl, inr, arith, ◌≡◌, ℕ, ◌<◌, ◌≤◌, Bool, true, false, ◌&&◌, ◌||◌, ◌==◌, if◌then◌else◌, List, [], ◌∷◌, ne_eqb, Option, Some, None, IsSome, option_and_then}
-use Rattle.no_packet_loops.proofs.Common.{Prefix, prefix_cmp, covers, longest_match, infinity, machine_of, Entry, None_not_Some, Some_injective, false≢true, Topology, LinkEnd, at_port, and_parts, is_met, meets_twice, Local, Unreachable, Via, is_sorted, longest_match-found}
+use Rattle.no_packet_loops.proofs.Common.{Prefix, prefix_cmp, covers, longest_match, infinity, machine_of, Entry, None_not_Some, Some_injective, false≢true, Topology, LinkEnd, at_port, and_parts, is_met, meets_twice, Unreachable, Via, is_sorted, longest_match-found}
 use Rattle.network_model.proofs.Common.{both_ways, find as row_of}
 use Rattle.no_packet_loops.proofs.Publishing.{control_sorted}
 use Rattle.all_packets.specs.Packets.{IsWayBy}
@@ -85,15 +85,13 @@ module _ (t : Topology) (w : Processes) (fds : Prefix → ℕ → ℕ) (I : (p :
 
   -- so it is of each router that an entry leads to, where packets carry the session of the row
   entered_marked : (i k : ℕ) (e : Entry) → session_leads t w i e ≡ Some k → Entered k
-  entered_marked i k Local h = absurd (None_not_Some h)
-  entered_marked i k Unreachable h = absurd (None_not_Some h)
   entered_marked i k (Via q session) h = entered_over (t.valid (at_port i q)) (t.far (at_port i q)) session k h
+  entered_marked i k _ h = absurd (None_not_Some h)
 
   -- and where they carry none
   entered_unmarked : (i k : ℕ) (e : Entry) → unmarked_leads t w i e ≡ Some k → Entered k
-  entered_unmarked i k Local h = absurd (None_not_Some h)
-  entered_unmarked i k Unreachable h = absurd (None_not_Some h)
   entered_unmarked i k (Via q session) h = entered_over (t.valid (at_port i q)) (t.far (at_port i q)) (w.heard (t.far (at_port i q))) k h
+  entered_unmarked i k _ h = absurd (None_not_Some h)
 
   -- a router that is entered is not shut
   not_shut : (k : ℕ) → Entered k → IsShut w k → ⊥
@@ -150,14 +148,13 @@ module _ (t : Topology) (w : Processes) (fds : Prefix → ℕ → ℕ) (I : (p :
 
     -- so it meets no router twice
     written_once : (way : List ℕ) → IsWayBy (GoesHalfWritten goes w addr) way → meets_twice way ≡ false
-    written_once [] h = refl
-    written_once (i ∷ []) h = refl
     written_once (i ∷ k ∷ ks) h =
         let on : IsWayBy (Goes rows goes fd_by I' addr) (k ∷ ks) = goes_on k (goes_in i k h.0) ks h.1 in
         elim (h.0).written [
           | inl written ↦ none_twice rows goes fd_by I' addr (i ∷ k ∷ ks) (by_written i k (h.0).table written (h.0).goes, on)
           | inr shut ↦ ap (λ b. b || meets_twice (k ∷ ks)) (never_in i shut k (goes_in i k h.0) ks h.1) ∙ none_twice rows goes fd_by I' addr (k ∷ ks) on
         ]
+    written_once _ h = refl
 
   -- where packets carry the session of the row
   improves_marked : Improves rows (session_leads t w) fd_by

@@ -80,7 +80,6 @@ module _ (t : Topology) (F : IsFinite t) (w : Processes) (K : Kept t w) where
 
   -- whatever still happens is among them
   pub candidate : (h : Happening) → HappensAlone F.routers w h → IsIn h candidates
-  candidate (Tells i x) alone = absurd alone
   candidate (Takes e) (c, at, le) = at_end e (Takes e) (link_there t w K e c at) (inl refl)
   candidate (Loses e) (c, at) = at_end e (Loses e) (link_there t w K e c at) (inr (inl refl))
   candidate (Publishes i) (within, due) = in_all F.routers (at_router w F.ports) i (Publishes i) within (inl refl)
@@ -89,13 +88,12 @@ module _ (t : Topology) (F : IsFinite t) (w : Processes) (K : Kept t w) where
       let (m, is) = may_machine p (w.routers i) may in
       in_all F.routers (at_router w F.ports) i (Forgets i p) within (of_forgotten w F.ports i (Forgets i p) (in_forgetting i p (w.routers i).machines m is))
   candidate (Releases i) (h, within, front) = in_all F.routers (at_router w F.ports) i (Releases i) within (inr (inl refl))
-  candidate (BeginsAnew i costs attachments) alone = absurd alone
+  candidate _ alone = absurd alone
 
 -- ---- whether it happens
 
 -- whether a happening may still be
 pub either : (n : ℕ) (w : Processes) (h : Happening) → HappensAlone n w h ⊎ (HappensAlone n w h → ⊥)
-either n w (Tells i x) = inr (λ a. a)
 either n w (Takes e) = by_front (slice_get (w.coming e) 0) refl
   where
     by_front : (o : Option Carried) → slice_get (w.coming e) 0 ≡ o → HappensAlone n w (Takes e) ⊎ (HappensAlone n w (Takes e) → ⊥)
@@ -132,7 +130,7 @@ either n w (Releases i) = elim (cases_lt i n) [
     by_front : i < n → (o : Option Held) → ripe_front (w.routers i) ≡ o → HappensAlone n w (Releases i) ⊎ (HappensAlone n w (Releases i) → ⊥)
     by_front lt None at = inr (λ (h, l, f). None_not_Some (sym at ∙ f))
     by_front lt (Some h) at = inl (h, lt, at)
-either n w (BeginsAnew i costs attachments) = inr (λ a. a)
+either n w _ = inr (λ a. a)
 
 pub alone_can : (n : ℕ) (w : Processes) (h : Happening) → HappensAlone n w h → CanHappen w h
 alone_can n w (Tells i x) alone = absurd alone

@@ -33,10 +33,9 @@ module _ {X : Type 0} (f g : X → Bool) where
   no_more_pass (x ∷ xs) h = by_tests (g x) (f x) h.0 (no_more_pass xs h.1)
     where
       by_tests : (b a : Bool) → (b ≡ true → a ≡ true) → length (filter g xs) ≤ length (filter f xs) → length (cond b (x ∷ filter g xs) (filter g xs)) ≤ length (cond a (x ∷ filter f xs) (filter f xs))
-      by_tests true true k rest = omega (arith, rest)
       by_tests true false k rest = absurd (false≢true (k refl))
-      by_tests false true k rest = omega (arith, rest)
       by_tests false false k rest = rest
+      by_tests _ _ k rest = omega (arith, rest)
 
   -- fewer do, where something passes the first alone
   fewer_pass : (xs : List X) → Passes xs → Drops xs → length (filter g xs) < length (filter f xs)

@@ -6,7 +6,7 @@ use Rattle.coming_to_rest.specs.Rest.{IsFinite}
 use Rattle.daemon_laws.specs.Processes.{Carried, Processes}
 use Rattle.daemon_laws.specs.Packets.{is_in_session}
 use Rattle.daemon_laws.specs.Rest.{NothingLost}
-use Rattle.daemon_laws.specs.Happenings.{Tells, Takes, Loses, Publishes, PublishesSome, Forgets, Releases, BeginsAnew, after_happenings, AllCanHappen}
+use Rattle.daemon_laws.specs.Happenings.{Takes, Loses, Publishes, PublishesSome, Forgets, Releases, after_happenings, AllCanHappen}
 use Rattle.daemon_laws.proofs.Example.{first, begins, seven}
 use Rattle.least_cost.proofs.Reached.{each_place, each_router}
 use Rattle.daemon_laws.proofs.RestExample.{until_up, onward, rest, agree}
@@ -41,14 +41,13 @@ none_comes e = by_valid (pair.valid e) refl
     by_valid false out = (kept_alone pair two now onward kept_now alone).placed e out
 
 left : NothingLeft 2 rest
-left (Tells i x) alone = absurd alone
 left (Takes e) (c, at, le) = absurd (None_not_Some (sym (ap (λ (cs : List Carried). slice_get cs 0) (none_comes e)) ∙ at))
 left (Loses e) alone = refl
 left (Publishes i) (lt, due) = absurd (false≢true (sym (each_router (λ j. is_due (rest.routers j) ≡ false) refl refl i lt) ∙ due))
 left (PublishesSome i k) (lt, some, fewer) = absurd (let none : length (changed_rows (rest.routers i).table) ≡ 0 = each_router (λ j. length (changed_rows (rest.routers j).table) ≡ 0) refl refl i lt in omega (arith, none, fewer))
 left (Forgets i p) alone = refl
 left (Releases i) (h, lt, front) = absurd (None_not_Some (sym (each_router (λ j. ripe_front (rest.routers j) ≡ None) refl refl i lt) ∙ front))
-left (BeginsAnew i costs attachments) alone = absurd alone
+left _ alone = absurd alone
 
 -- what was lost is of the first session, and no end is in that
 nothing_lost : NothingLost pair now

@@ -16,7 +16,7 @@ use Rattle.coming_to_rest.proofs.Takes.{MessageEffect, load_falls}
 use Rattle.coming_to_rest.proofs.Known.{IsOf}
 use Rattle.coming_to_rest.proofs.Prefixes.{CountsLess, each, prefixes_less, prefixes_fall, sum_places, sum_loads, dues_fall, effect_falls}
 use Rattle.daemon_laws.specs.Processes.{Carried, Processes}
-use Rattle.daemon_laws.specs.Happenings.{Happening, Tells, Takes, Loses, Publishes, PublishesSome, Forgets, Releases, BeginsAnew, with_process, with_coming, told_router, forgotten, having_taken, having_released, after_happening}
+use Rattle.daemon_laws.specs.Happenings.{Happening, Takes, Loses, Publishes, PublishesSome, Forgets, Releases, with_process, with_coming, told_router, forgotten, having_taken, having_released, after_happening}
 use Rattle.daemon_laws.proofs.Cases.{after_message}
 use Rattle.daemon_laws.proofs.Seen.{carried}
 use Rattle.daemon_laws.proofs.Steps.{router_here, router_away, coming_here, coming_away, bounded}
@@ -278,11 +278,10 @@ module _ (t : Topology) (F : IsFinite t) (ps : List Prefix) where
         record { falls = release_falls w (having_released t i w h) K G R within; known = known_release t F.routers ps w (having_released t i w h) G R within; ground = λ j. (stays_of w (having_released t i w h) i (router_releasing (w.routers i)) R.router_is R.routers_elsewhere (λ (y : Router). y.ports) refl j, λ p. stays_of w (having_released t i w h) i (router_releasing (w.routers i)) R.router_is R.routers_elsewhere (λ (y : Router). attachment_of y p) refl j) })
 
     pub goes_alone : (h : Happening) → HappensAlone F.routers w h → Goes (after_happening t w h)
-    goes_alone (Tells i x) alone = absurd alone
     goes_alone (Takes e) (c, at, le) = goes_takes e c at le
     goes_alone (Loses e) (c, at) = goes_loses e c at
     goes_alone (Publishes i) (within, due) = goes_publishes i within due
     goes_alone (PublishesSome i n) (within, more, fewer) = goes_publishes_some i n within more fewer
     goes_alone (Forgets i k) (within, may) = goes_forgets i k within may
     goes_alone (Releases i) (h, within, front) = goes_releases i h within front
-    goes_alone (BeginsAnew i costs attachments) alone = absurd alone
+    goes_alone _ alone = absurd alone

@@ -27,8 +27,7 @@ HasCost-records_after (Message q kind value) ns brought costs = HasCost-changed_
 HasCost-records_after (Up q cost) ns brought costs = HasCost-changed_at _ (λ n h. brought) q ns costs
 HasCost-records_after (Down q) ns brought costs = HasCost-changed_at _ (λ n h. h) q ns costs
 HasCost-records_after (Cost q cost) ns brought costs = HasCost-changed_at _ (λ n h. brought) q ns costs
-HasCost-records_after (Attached cost) ns brought costs = costs
-HasCost-records_after Detached ns brought costs = costs
+HasCost-records_after _ ns brought costs = costs
 
 pub HasCost-attachment_after : (e : Event) (a : Option ℕ) → BringsCost e → IfSome a (λ cost. IsCost cost) → IfSome (attachment_after e a) (λ cost. IsCost cost)
 HasCost-attachment_after (Attached cost) a brought attached = brought
@@ -43,9 +42,8 @@ HasCost-ways ns (Some cost) costs attached = All-append HasCost ns (home_ways (S
 
 least_le_via : (ns : List Neighbour) (s : Option ℕ) → least ns ≤ via_successor ns s
 least_le_via ns None = least_bounded ns
-least_le_via [] (Some q) = omega arith
-least_le_via (n ∷ ns) (Some zero) = omega arith
 least_le_via (n ∷ ns) (Some (suc q)) = omega (arith, least_le_via ns (Some q))
+least_le_via _ _ = omega arith
 
 -- a neighbour at a finite distance is up, and reported less
 nearer_up : (cost reported fd d : ℕ) → 1 ≤ cost → d < infinity → d ≤ fd → plus reported cost ≡ d → (plus reported cost == d) && nat_lt reported fd ≡ true

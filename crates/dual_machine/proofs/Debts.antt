@@ -27,10 +27,7 @@ not_risen e n s risen o untested = by_tests (is_loss_of n s e) (is_query_from s 
 module _ (n : ℕ) where
   IsDebtOf-rose : (b : Bool) (o : Origin) (s debt : Option ℕ) → IsDebtOf n o s debt → IsDebtOf n (if b then rose o else o) s debt
   IsDebtOf-rose true OwnDisturbed s debt h = h
-  IsDebtOf-rose true Own s debt h = h
-  IsDebtOf-rose true OwingDisturbed s debt h = h
-  IsDebtOf-rose true Owing s debt h = h
-  IsDebtOf-rose false o s debt h = h
+  IsDebtOf-rose _ _ s debt h = h
 
   -- a query that came from the successor came from a port
   pub is_port_of : (q : ℕ) (s : Option ℕ) → q < n → is_port q s ≡ true → (Some q ≡ s) × (is_port_below n s ≡ true)
@@ -45,17 +42,15 @@ module _ (n : ℕ) where
       kept d e = rw e refl
 
       other_port : (p : Origin) → IsDebtOf n p s debt → is_port q debt ≡ false
-      other_port OwnDisturbed e = ap (is_port q) e
-      other_port Own e = ap (is_port q) e
       other_port OwingDisturbed e = ap (is_port q) e.0 ∙ apart
       other_port Owing e = ap (is_port q) e.0 ∙ apart
+      other_port _ e = ap (is_port q) e
 
   -- a debt is to the successor, and goes with its link
   debt_dropped : (q : ℕ) (o : Origin) (s debt : Option ℕ) → is_port q s ≡ true → IsDebtOf n o s debt → (if is_port q debt then None else debt) ≡ None
-  debt_dropped q OwnDisturbed s debt at h = rw h refl
-  debt_dropped q Own s debt at h = rw h refl
   debt_dropped q OwingDisturbed s debt at h = rw (h.0, at) refl
   debt_dropped q Owing s debt at h = rw (h.0, at) refl
+  debt_dropped q _ s debt at h = rw h refl
 
   -- the attachment is no port
   not_below : (s : Option ℕ) → is_port n s ≡ true → is_port_below n s ≡ true → ⊥
@@ -64,10 +59,9 @@ module _ (n : ℕ) where
 
   -- no debt is to the attachment
   no_debt_home : (o : Origin) (s debt : Option ℕ) → is_port n s ≡ true → IsDebtOf n o s debt → debt ≡ None
-  no_debt_home OwnDisturbed s debt at h = h
-  no_debt_home Own s debt at h = h
   no_debt_home OwingDisturbed s debt at h = absurd (not_below s at h.1)
   no_debt_home Owing s debt at h = absurd (not_below s at h.1)
+  no_debt_home _ s debt at h = h
 
   -- the debt goes with the origin state
   IsDebtOf-moved : (e : Event) (s : Option ℕ) (risen : Bool) (o : Origin) (debt : Option ℕ) → IsKnown n e → IsDebtOf n o s debt

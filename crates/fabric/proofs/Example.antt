@@ -32,9 +32,8 @@ pending : IsPending world 1 patch
 pending = record { router = router; is_router = refl; due = refl; makes = refl }
 
 due : LentAreDue fabric
-due zero p at = absurd (None_not_Some at)
 due (suc zero) p at = subst (IsPending world 1) (Some_injective at) pending
-due (suc (suc i)) p at = absurd (None_not_Some at)
+due _ p at = absurd (None_not_Some at)
 
 pub goes_ahead : SomePacketGoesAhead
 goes_ahead = (

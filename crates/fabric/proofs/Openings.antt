@@ -16,9 +16,8 @@ use Rattle.publication.proofs.Places.{each_there}
 -- lists whose elements give the same, place by place
 map_same : {A B C : Type 0} (f : A → C) (g : B → C) (xs : List A) (ys : List B) → length xs ≡ length ys → ((i : ℕ) (x : A) (y : B) → slice_get xs i ≡ Some x → slice_get ys i ≡ Some y → f x ≡ g y) → map f xs ≡ map g ys
 map_same f g [] [] long same = refl
-map_same f g [] (y ∷ ys) long same = absurd (omega (arith, long))
-map_same f g (x ∷ xs) [] long same = absurd (omega (arith, long))
 map_same f g (x ∷ xs) (y ∷ ys) long same = λ k. same 0 x y refl refl k ∷ map_same f g xs ys (omega (arith, long)) (λ i. same (suc i)) k
+map_same f g _ _ long same = absurd (omega (arith, long))
 
 -- what holds of each element, with its place, holds of what is made of it
 pub each_map : {A B : Type 0} (f : A → B) (P : ℕ → A → Type 0) (Q : ℕ → B → Type 0) → ((i : ℕ) (x : A) → P i x → Q i (f x)) → (xs : List A) → EachAt P xs → EachAt Q (map f xs)

@@ -1,5 +1,5 @@
 -- Writers at their desks: one that is in publishes, goes out with the patch that is due, or comes back.
-use Rattle.std.proofs.Common.{inr, refl, sym, ap, subst, ◌∙◌, arith, ◌≡◌, ◌<◌, ◌+◌, ◌||◌, ℕ, zero, suc, Bool, true, false, cond, List, [], ◌∷◌, ◌++◌, length, set, Option, Some, None, IfSome, is_some, get_or, slice_get, option_map, option_and_then, true≢false}
+use Rattle.std.proofs.Common.{inr, refl, sym, ap, subst, ◌∙◌, arith, ◌≡◌, ◌<◌, ◌+◌, ◌||◌, ℕ, suc, Bool, true, false, cond, List, [], ◌∷◌, ◌++◌, length, set, Option, Some, None, IfSome, is_some, get_or, slice_get, option_map, option_and_then, true≢false}
 use Rattle.no_packet_loops.proofs.Common.{option_map_or, false≢true, length-map, map-set, get_or_from_slice_get, slice_get-get_or, slice_get-map, slice_get_within, or-true, map-set_same, Prefix, Entry, Network, Router, World, IsNetwork, most_steps, Lawful, is_due, next, router_publishing, Patch, None_not_Some, Some_injective, Step, Publish}
 use Rattle.image_patch.specs.declared.Patch.{Patch as PatchFields}
 use Rattle.image_patch.specs.Patches.{patched}
@@ -60,9 +60,8 @@ is_in desks i d at free = none_kept d.out (ap is_some (sym (lent_there desks i d
 
 -- an element that is set over itself
 pub set_again : {A : Type 0} (xs : List A) (k : ℕ) (d : A) → set xs k (get_or xs k d) ≡ xs
-set_again [] k d = refl
-set_again (x ∷ xs) zero d = refl
 set_again (x ∷ xs) (suc k) d = ap (λ ys. x ∷ ys) (set_again xs k d)
+set_again _ _ d = refl
 
 -- ---- a writer that is in, and publishes or not
 

@@ -41,9 +41,8 @@ count-none (suc n) = count-none n
 
 -- no patch is out of a writer that came back
 pub lent_none : (xs : List (Option Patch)) (i : ℕ) → lent_at (set xs i None) i ≡ None
-lent_none [] i = refl
-lent_none (x ∷ xs) zero = refl
 lent_none (x ∷ xs) (suc i) = lent_none xs i
+lent_none _ _ = refl
 
 -- the patch with which a writer is out is at its desk
 pub lent_there : (desks : List Desk) (i : ℕ) (d : Desk) → slice_get desks i ≡ Some d → lent_at (all_lent desks) i ≡ d.out
@@ -56,15 +55,13 @@ awaits_at lent s i k same (inr publishes) = ap (λ (j : ℕ). is_some (lent_at l
 
 -- a writer that is out after one went out or came back is that one, or was out
 pub lent_set : (xs : List (Option Patch)) (i k : ℕ) (y : Option Patch) → is_some (lent_at (set xs i y) k) ≡ true → ((k ≡ i) × (is_some y ≡ true)) ⊎ (is_some (lent_at xs k) ≡ true)
-lent_set [] i k y out = inr out
 lent_set (x ∷ xs) zero zero y out = inl (refl, out)
-lent_set (x ∷ xs) zero (suc k) y out = inr out
-lent_set (x ∷ xs) (suc i) zero y out = inr out
 lent_set (x ∷ xs) (suc i) (suc k) y out = behind (lent_set xs i k y out)
   where
     behind : ((k ≡ i) × (is_some y ≡ true)) ⊎ (is_some (lent_at xs k) ≡ true) → ((suc k ≡ suc i) × (is_some y ≡ true)) ⊎ (is_some (lent_at xs k) ≡ true)
     behind (inl here) = inl (ap suc here.0, here.1)
     behind (inr there) = inr there
+lent_set _ _ _ y out = inr out
 
 -- ---- what stays due
 
@@ -79,9 +76,8 @@ module _ {A : Type 0} (P : A → Type 0) (f : A → A) where
   at_changed : (k j : ℕ) (xs : List A) (x : A) → slice_get xs j ≡ Some x → P x → (j ≡ k → P (f x)) → (y : A) × (slice_get (changed_at k f xs) j ≡ Some y) × P y
   at_changed k j [] x at here changed = absurd (None_not_Some at)
   at_changed zero zero (z ∷ zs) x at here changed = (f x, ap (λ v. Some (f v)) (Some_injective at), changed refl)
-  at_changed zero (suc j) (z ∷ zs) x at here changed = (x, at, here)
-  at_changed (suc k) zero (z ∷ zs) x at here changed = (x, at, here)
   at_changed (suc k) (suc j) (z ∷ zs) x at here changed = at_changed k j zs x at here (λ same. changed (ap suc same))
+  at_changed _ _ _ x at here changed = (x, at, here)
 
 -- what is due at a router with this patch
 abbrev IsDueBy : Patch → Router → Type 0

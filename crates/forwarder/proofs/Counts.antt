@@ -85,8 +85,6 @@ module _ {X : Type 0} where
       no_strangers jobs (earlier ++ r ∷ []) rs f.1 k d (omega arith)
 
   strict : (vs : List (Replied X)) → ((n : ℕ) → count_by (has n) vs ≤ 1) → IsNonDecreasingBy job_number vs → (k : ℕ) → suc k < length (map job_number vs) → slice_index (map job_number vs) k < slice_index (map job_number vs) (suc k)
-  strict [] h o k l = absurd (omega arith)
-  strict (x ∷ []) h o k l = absurd (omega arith)
   strict (x ∷ y ∷ ys) h o zero l =
       let le : job_number x ≤ job_number y = o 0 1 x (omega arith) (omega arith) in
       let ne : job_number x ≢ job_number y = λ e.
@@ -97,6 +95,7 @@ module _ {X : Type 0} where
       omega arith
   strict (x ∷ y ∷ ys) h o (suc k) l =
       strict (y ∷ ys) (λ n. let c = h n in omega (arith, sum_by-cons (λ z. cond (has n z) 1 0) x (y ∷ ys))) (λ i j d p q. o (suc i) (suc j) d (omega arith) (omega arith)) k (omega arith)
+  strict _ h o k l = absurd (omega arith)
 
   module _ (jobs : List (Job X)) (rs vs : List (Replied X)) (fine : fault_in jobs [] rs ≡ None) (given : IsPermutation rs vs) where
     one_each : (n : ℕ) → count_by (has n) vs ≤ 1

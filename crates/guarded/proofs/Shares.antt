@@ -41,12 +41,11 @@ owe_as_before {N} ss ts served kept k d within = by_case (served.1 k d within).1
 -- so they have as many out together
 pub owe_in_all : {N : Type 0} (ss ts : List (Share N)) → length ts ≡ length ss → OweAsBefore ss ts → sum_by owes ts ≡ sum_by owes ss
 owe_in_all [] [] long same = refl
-owe_in_all [] (t ∷ ts) long same = absurd (omega (arith, long))
-owe_in_all (s ∷ ss) [] long same = absurd (omega (arith, long))
 owe_in_all (s ∷ ss) (t ∷ ts) long same =
     let first : owes t ≡ owes s = same 0 s (omega arith) in
     let rest = owe_in_all ss ts (omega (arith, long)) (λ k d within. same (suc k) d (omega (arith, within))) in
     omega (arith, sum_by-cons owes s ss, sum_by-cons owes t ts, first, rest)
+owe_in_all _ _ long same = absurd (omega (arith, long))
 
 -- a holder who is known to have all back, unless it met that a ticket was handed back
 pub halted : {P : Type 0} (answer : Result ⊤ Refusal) (halt : Option Refusal) → MatchResult answer (λ _. halt ≡ None) (λ e. halt ≡ Some e) → (answer ≡ Err Refusal.WrongTicket) ⊎ P → (halt ≡ Some Refusal.WrongTicket) ⊎ P

@@ -15,45 +15,38 @@ count_out (Some m ∷ xs) (suc i) l = let rest = count_out xs i l in omega (arit
 
 -- one that comes back is one fewer
 pub count_in : (lent : List (Option Patch)) (i : ℕ) (l : Patch) → lent_at lent i ≡ Some l → count_lent (set lent i None) + 1 ≡ count_lent lent
-count_in [] i l is = absurd (None_not_Some is)
-count_in (None ∷ xs) zero l is = absurd (None_not_Some is)
 count_in (Some m ∷ xs) zero l is = omega arith
 count_in (None ∷ xs) (suc i) l is = count_in xs i l is
 count_in (Some m ∷ xs) (suc i) l is = let rest = count_in xs i l is in omega (arith, rest)
+count_in _ _ l is = absurd (None_not_Some is)
 
 -- one that is out stays so where another, or itself, goes out
 pub lent_kept : (lent : List (Option Patch)) (i k : ℕ) (l : Option Patch) → (k ≡ i → is_some l ≡ true) → is_some (lent_at lent k) ≡ true → is_some (lent_at (set lent i l) k) ≡ true
 lent_kept [] i k l own there = absurd (false≢true there)
 lent_kept (x ∷ xs) zero zero l own there = own refl
-lent_kept (x ∷ xs) zero (suc k) l own there = there
-lent_kept (x ∷ xs) (suc i) zero l own there = there
 lent_kept (x ∷ xs) (suc i) (suc k) l own there = lent_kept xs i k l (λ same. own (ap suc same)) there
+lent_kept _ _ _ l own there = there
 
 -- where each that was out is out, there are no fewer
 fewer : (xs ys : List (Option Patch)) → ((i : ℕ) → is_some (lent_at xs i) ≡ true → is_some (lent_at ys i) ≡ true) → count_lent xs ≤ count_lent ys
 fewer [] ys all = omega arith
 fewer (None ∷ xs) [] all = fewer xs [] (λ i there. all (suc i) there)
-fewer (Some l ∷ xs) [] all = absurd (false≢true (all zero refl))
 fewer (None ∷ xs) (None ∷ ys) all = fewer xs ys (λ i there. all (suc i) there)
 fewer (None ∷ xs) (Some m ∷ ys) all = let rest = fewer xs ys (λ i there. all (suc i) there) in omega (arith, rest)
-fewer (Some l ∷ xs) (None ∷ ys) all = absurd (false≢true (all zero refl))
 fewer (Some l ∷ xs) (Some m ∷ ys) all = let rest = fewer xs ys (λ i there. all (suc i) there) in omega (arith, rest)
+fewer _ _ all = absurd (false≢true (all zero refl))
 
 -- where there are no more either, the same are
 same_out : (xs ys : List (Option Patch)) → ((i : ℕ) → is_some (lent_at xs i) ≡ true → is_some (lent_at ys i) ≡ true) → count_lent ys ≤ count_lent xs → (i : ℕ) → is_some (lent_at ys i) ≡ is_some (lent_at xs i)
-same_out [] [] all few i = refl
-same_out [] (None ∷ ys) all few zero = refl
 same_out [] (None ∷ ys) all few (suc i) = same_out [] ys (λ k none. absurd (false≢true none)) few i
 same_out [] (Some m ∷ ys) all few i = absurd (omega (arith, few))
-same_out (None ∷ xs) [] all few zero = refl
 same_out (None ∷ xs) [] all few (suc i) = same_out xs [] (λ k there. all (suc k) there) few i
 same_out (Some l ∷ xs) [] all few i = absurd (false≢true (all zero refl))
-same_out (None ∷ xs) (None ∷ ys) all few zero = refl
 same_out (None ∷ xs) (None ∷ ys) all few (suc i) = same_out xs ys (λ k there. all (suc k) there) few i
 same_out (None ∷ xs) (Some m ∷ ys) all few i = let rest = fewer xs ys (λ k there. all (suc k) there) in absurd (omega (arith, few, rest))
 same_out (Some l ∷ xs) (None ∷ ys) all few i = absurd (false≢true (all zero refl))
-same_out (Some l ∷ xs) (Some m ∷ ys) all few zero = refl
 same_out (Some l ∷ xs) (Some m ∷ ys) all few (suc i) = same_out xs ys (λ k there. all (suc k) there) (omega (arith, few)) i
+same_out _ _ all few _ = refl
 
 -- where no more writers are out than when the fabric was opened, the same are
 pub all_back : (opened : Fabric) (asked : Step → Bool) (fabric : Fabric) → IsServed opened asked fabric → count_lent fabric.lent ≤ count_lent opened.lent → HasSameOut opened fabric

@@ -116,7 +116,5 @@ IsTurn f i (Ok (Some s)) = (next_turn f i ≡ Some s) × Lawful f.world s
 
 -- what a turn that begins adds to its share: the number of the step that it did; nothing yet where a writer went out
 abbrev pub added_at_once : {X : Type 0} → Result (Option Step) Refusal → Option X → ℕ
-added_at_once (Err e) t = 0
-added_at_once (Ok None) t = 0
-added_at_once (Ok (Some s)) (Some t) = 0
 added_at_once (Ok (Some s)) None = step_number s
+added_at_once _ _ = 0

@@ -1,6 +1,6 @@
 -- `prefix_cmp`, the order that `Prefix` derives, is total, and only equal prefixes tie in it.
 use Rattle.std.proofs.Common.{◌≡◌, ℕ, true, arith, Ordering, refl, sym, ap, ◌∙◌}
-use Rattle.std.specs.declared.cmp.Ordering.TheVariants.{Less, Equal, Greater}
+use Rattle.std.specs.declared.cmp.Ordering.TheVariants.{Less, Equal}
 use Rattle.std.specs.Cmp.{IsTotalOrder}
 use Rattle.std.specs.Ordering.{nat_cmp, ordering_then, is_eq, is_lt}
 use Rattle.std.proofs.lemmas.Cmp.{ranked, nat_cmp_total, on_total, then_total, tied_itself}
@@ -14,9 +14,8 @@ pub prefix_cmp_total : IsTotalOrder prefix_cmp
 prefix_cmp_total = then_total (on_total (λ p. p.addr) nat_cmp_total) (on_total (λ p. p.len) nat_cmp_total)
 
 both_tied : (o u : Ordering) → ordering_then o u ≡ Equal → (o ≡ Equal) × (u ≡ Equal)
-both_tied Less u tied = absurd (cc)
 both_tied Equal u tied = (refl, tied)
-both_tied Greater u tied = absurd (cc)
+both_tied _ u tied = absurd (cc)
 
 nat_cmp-tied : (m n : ℕ) → nat_cmp m n ≡ Equal → m ≡ n
 nat_cmp-tied m n tied = ranked m n Equal (sym tied)
@@ -31,15 +30,13 @@ prefix_cmp-tied p q tied =
 
 -- an order that passes the test for equal is `Equal`
 pub equal_from_test : (o : Ordering) → is_eq o ≡ true → o ≡ Equal
-equal_from_test Less h = absurd (false≢true h)
 equal_from_test Equal h = refl
-equal_from_test Greater h = absurd (false≢true h)
+equal_from_test _ h = absurd (false≢true h)
 
 -- an order that passes the test for less is `Less`
 pub less_from_test : (o : Ordering) → is_lt o ≡ true → o ≡ Less
 less_from_test Less h = refl
-less_from_test Equal h = absurd (false≢true h)
-less_from_test Greater h = absurd (false≢true h)
+less_from_test _ h = absurd (false≢true h)
 
 -- `prefix_eq` tells whether two prefixes are equal
 pub prefix_eq-Decides : (p q : Prefix) → Decides (prefix_eq p q) (p ≡ q)

@@ -101,22 +101,19 @@ IsFirstFault-spelled text HostBits p fault spells =
 
 -- a text has at most one first fault
 pub IsFirstFault_unique : (text : List ℕ) (e f : PrefixFault) → IsFirstFault text e → IsFirstFault text f → e ≡ f
-IsFirstFault_unique text NoSlash NoSlash h k = refl
 IsFirstFault_unique text NoSlash BadAddress h k = absurd (h k.0)
 IsFirstFault_unique text NoSlash BadLength h k = absurd (h k.0)
 IsFirstFault_unique text NoSlash HostBits h k = absurd (h k.0)
 IsFirstFault_unique text BadAddress NoSlash h k = absurd (k h.0)
-IsFirstFault_unique text BadAddress BadAddress h k = refl
 IsFirstFault_unique text BadAddress BadLength h k = absurd (h.1 k.1)
 IsFirstFault_unique text BadAddress HostBits h k = absurd (h.1 (k.1.addr, k.1.address))
 IsFirstFault_unique text BadLength NoSlash h k = absurd (k h.0)
 IsFirstFault_unique text BadLength BadAddress h k = absurd (k.1 h.1)
-IsFirstFault_unique text BadLength BadLength h k = refl
 IsFirstFault_unique text BadLength HostBits h k = absurd (h.2 (k.1.len, k.1.spelled))
 IsFirstFault_unique text HostBits NoSlash h k = absurd (k h.0)
 IsFirstFault_unique text HostBits BadAddress h k = absurd (k.1 (h.1.addr, h.1.address))
 IsFirstFault_unique text HostBits BadLength h k = absurd (k.2 (h.1.len, h.1.spelled))
-IsFirstFault_unique text HostBits HostBits h k = refl
+IsFirstFault_unique text _ _ h k = refl
 
 -- an answer is right: what is read is spelled, and a fault is the first. It is then the only one that is right
 pub record IsRightAnswer (text : List ℕ) (r : Result Prefix PrefixFault) : Type 0 where

@@ -62,8 +62,7 @@ alike_after (Reported m) p r a = record { up = a.up; session = a.session; cost =
 alike_fits : (x : SeenItem) (p r : Port) → Alike p r → FitsOne x p → FitsOne x r
 alike_fits (UpNotice s c) p r a f = (sym a.up ∙ f.0, omega (arith, f.1, a.session), f.2)
 alike_fits (DownNotice s) p r a f = sym a.up ∙ f
-alike_fits (CostNotice s c) p r a f = (sym a.up ∙ f.0, f.1)
-alike_fits (Reported m) p r a f = (sym a.up ∙ f.0, f.1)
+alike_fits _ p r a f = (sym a.up ∙ f.0, f.1)
 
 -- the notices alone leave a port alike to what all the items leave
 pub notices_alike : (xs : List SeenItem) (p r : Port) → Alike p r → Alike (replay xs p) (replay (notices xs) r)
@@ -96,8 +95,7 @@ pub session_down : (xs : List SeenItem) (p : Port) → Fits xs p → p.up ≡ fa
 session_down [] p f d u = absurd (both_ways p.up d u)
 session_down (UpNotice s c ∷ xs) p f d u = omega (arith, f.0.1, session_rises xs (port_after (UpNotice s c) p) f.1)
 session_down (DownNotice s ∷ xs) p f d u = absurd (both_ways p.up d f.0)
-session_down (CostNotice s c ∷ xs) p f d u = absurd (both_ways p.up d f.0.0)
-session_down (Reported m ∷ xs) p f d u = absurd (both_ways p.up d f.0.0)
+session_down _ p f d u = absurd (both_ways p.up d f.0.0)
 
 -- the cost kept with a neighbour; 0 where there is none
 abbrev pub cost_of : Option Neighbour → ℕ

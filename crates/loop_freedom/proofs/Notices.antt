@@ -22,11 +22,8 @@ lawful_seen u s up n (Reported m ∷ is) h = lawful_seen u s up n is h.4
 
 -- a port that is down on a live link has yet to see its session
 pub lawful_later : (s n : ℕ) (is : List SeenItem) → IsLawfulInbox false s true n is → s < n
-lawful_later s n [] h = absurd (false≢true h.0)
 lawful_later s n (UpNotice k c ∷ is) h = omega (arith, h.1, lawful_seen true k true n is h.3)
-lawful_later s n (DownNotice k ∷ is) h = absurd (false≢true h.0)
-lawful_later s n (CostNotice k c ∷ is) h = absurd (false≢true h.0)
-lawful_later s n (Reported m ∷ is) h = absurd (false≢true h.0)
+lawful_later s n _ h = absurd (false≢true h.0)
 
 -- the items towards a port are lawful after its link comes up
 pub lawful_up : (u : Bool) (s n c : ℕ) (is : List SeenItem) → 0 < c → IsLawfulInbox u s false n is → IsLawfulInbox u s true (suc n) (is ++ UpNotice (suc n) c ∷ [])

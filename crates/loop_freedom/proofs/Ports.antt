@@ -1,6 +1,6 @@
 -- What an item that is taken does to the ports of a machine: to the one where it is taken, and to the others.
 use Rattle.std.proofs.Common.{refl, sym, ◌∙◌, ap, subst, arith, ◌≡◌, ℕ, zero, suc, ◌+◌, ◌<◌, Bool, true, false, ◌&&◌, ◌==◌, List, [], ◌∷◌, Option, Some, None, length, slice_get, option_map, eq-eqb, ne_eqb}
-use Rattle.network_model.proofs.Common.{both_ways, and_from, and_left, false≢true, Kind, Update, Query, Reply, infinity, Machine, records_after, reaction, length-changed_at, slice_get-changed_at, slice_get-changed_at_other, Report, SeenItem, UpNotice, DownNotice, CostNotice, Reported, one_if, Neighbour, Message}
+use Rattle.network_model.proofs.Common.{both_ways, and_from, and_left, false≢true, Kind, Reply, infinity, Machine, records_after, reaction, length-changed_at, slice_get-changed_at, slice_get-changed_at_other, Report, SeenItem, UpNotice, DownNotice, CostNotice, Reported, one_if, Neighbour, Message}
 use Rattle.machine_laws.specs.Laws.{released, is_kind, is_up_at, reported_at, reported_by, test_at, is_message, is_down, Meets, MachineLaws}
 use Rattle.loop_freedom.specs.Network.{event_of, seen_after}
 use Rattle.loop_freedom.specs.Facts.{is_current}
@@ -41,9 +41,8 @@ other_down p q _ d = refl
 
 -- a message that ends the wait for a port is a reply that came there
 released_message : (k : Kind) (p v q : ℕ) → released (Message p k v) ≡ Some q → (p ≡ q) × (k ≡ Reply)
-released_message Update p v q e = (cc, cc)
-released_message Query p v q e = (cc, cc)
 released_message Reply p v q e = (cc, refl)
+released_message _ p v q e = (cc, cc)
 
 -- an item ends the wait for its own port alone
 other_released : (p q : ℕ) (item : SeenItem) → released (event_of p item) ≡ Some q → p ≡ q

@@ -9,7 +9,7 @@ use Rattle.loop_freedom.proofs.Published.{shown_as_chosen, shown_published, inva
 use Rattle.loop_freedom.specs.Facts.{messages, live, is_current, is_next_hop, end_of, end_at}
 use Rattle.loop_freedom.proofs.OnTheWay.{live-append}
 use Rattle.loop_freedom.proofs.Notices.{lawful_seen, lawfully_held_append}
-use Rattle.loop_freedom.proofs.Invariant.{Invariant, end_at_cong, end_invariant_same, answered_same, answered_same}
+use Rattle.loop_freedom.proofs.Invariant.{Invariant, end_at_cong, end_invariant_same, answered_same}
 
 -- a published successor is port q in session n exactly where q is the machine's successor and knows of session n
 pub next_hop_seen : (m : Machine) (q n : ℕ) (seen : ℕ → ℕ) (s : Option ℕ) → (s ≡ Some q → is_up_at m q ≡ true)

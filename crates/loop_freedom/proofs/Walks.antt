@@ -54,9 +54,8 @@ control_falls t s I e v E =
 
 -- along a list of routers the height falls from each to the next
 abbrev pub FallsAlong : (ℕ → ℕ) → List ℕ → Type 0
-FallsAlong h [] = ⊤
-FallsAlong h (i ∷ []) = ⊤
 FallsAlong h (i ∷ k ∷ ks) = (h k < h i) × FallsAlong h (k ∷ ks)
+FallsAlong h _ = ⊤
 
 -- such a list does not meet a router that is higher than its first
 not_met : (h : ℕ → ℕ) (j i : ℕ) (ks : List ℕ) → h i < h j → FallsAlong h (i ∷ ks) → is_met j (i ∷ ks) ≡ false
@@ -66,9 +65,8 @@ not_met h j i (k ∷ ks) lt f =
 
 -- it meets no router twice
 pub falls_distinct : (h : ℕ → ℕ) (ks : List ℕ) → FallsAlong h ks → meets_twice ks ≡ false
-falls_distinct h [] f = refl
-falls_distinct h (i ∷ []) f = refl
 falls_distinct h (i ∷ k ∷ ks) f = or_from (is_met i (k ∷ ks)) (meets_twice (k ∷ ks)) (not_met h i k ks f.0 f.1) (falls_distinct h (k ∷ ks) f.1)
+falls_distinct h _ f = refl
 
 -- a walk along edges that fall meets such a list
 edges_fall : (t : Topology) (edge : LinkEnd → Type 0) (h : ℕ → ℕ) → ((e : LinkEnd) → t.valid e ≡ true → edge e → h (t.far e).router < h e.router)

@@ -1,6 +1,6 @@
 -- A machine that is active after an event sends no reply to the successor that it has kept.
 use Rattle.std.proofs.Common.{refl, sym, ◌∙◌, arith, inl, inr, ◌≡◌, ℕ, Bool, true, false, if◌then◌else◌, List, ◌++◌, Option, Some, None, ne_eqb}
-use Rattle.network_model.proofs.Common.{list_any, cases_Bool, false≢true, eqb-false, Update, Query, Reply, Machine, Computation, Reaction, decision, with_records, new_computation, started_computation, completion, passive_result, with_first, one_to, answers_at_once, asker, awaited_after, debt_after, condition_holds, passive_reaction, active_reaction, is_port, via_successor, ways, Neighbour, Event, Message, Up, Down, Cost, Attached, Detached, Outgoing}
+use Rattle.network_model.proofs.Common.{list_any, cases_Bool, false≢true, eqb-false, Query, Reply, Machine, Computation, Reaction, decision, with_records, new_computation, started_computation, completion, passive_result, with_first, one_to, answers_at_once, asker, awaited_after, debt_after, condition_holds, passive_reaction, active_reaction, is_port, via_successor, ways, Neighbour, Event, Message, Up, Down, Cost, Attached, Detached, Outgoing}
 use Rattle.machine_laws.specs.Laws.{is_active, sent_to, count_kind, KeepsDebt}
 use Rattle.machine_laws.proofs.Sends.{count_all}
 use Rattle.machine_laws.proofs.Counting.{count_both, greeting_count}
@@ -66,12 +66,10 @@ quiet_passive m e p = quiet_if (condition_holds m.fd (ways m)) (passive_result m
 
 -- an active machine does not answer its successor at once
 silent_answered : (m : Machine) (e : Event) (p : ℕ) → m.successor ≡ Some p → Silent p (answers_at_once m e)
-silent_answered m (Message q Update v) p s = refl
 silent_answered m (Message q Query v) p s = elim (cases_Bool (is_port q m.successor)) [
   | inl b ↦ rw b refl
   | inr b ↦ rw b (silent_one p q m.rd (not_this q p m.successor s b))
 ]
-silent_answered m (Message q Reply v) p s = refl
 silent_answered m _ p s = refl
 
 -- where the machine is active after a computation that is over, its successor was the successor before

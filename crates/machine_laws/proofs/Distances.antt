@@ -196,20 +196,18 @@ least_came_up (suc q) cost (n ∷ ns) down = ap (λ d. min (distance n) d) (leas
 
 -- an attachment is a sound way
 at_home_sound : (a : Option ℕ) → ((c : ℕ) → a ≡ Some c → 0 < c) → AllSound (home_ways a)
-at_home_sound None f p n e = absurd (none-some n e)
 at_home_sound (Some c) f zero n e = subst IsSoundPort (same_Some (at_home c) n e) (record { costs = f c refl; bounded = omega arith })
-at_home_sound (Some c) f (suc p) n e = absurd (none-some n e)
+at_home_sound _ f _ n e = absurd (none-some n e)
 
 pub ways_sound : (ns : List Neighbour) (a : Option ℕ) → AllSound ns → ((c : ℕ) → a ≡ Some c → 0 < c) → AllSound (ns ++ home_ways a)
 ways_sound ns a sound f = append_each IsSoundPort ns (home_ways a) sound (at_home_sound a f)
 
 -- a way is a port, or has the number of the attachment
 pub way_within : (ns : List Neighbour) (a : Option ℕ) (p : ℕ) (n : Neighbour) → slice_get (ns ++ home_ways a) p ≡ Some n → p ≤ length ns
-way_within [] None p n e = absurd (none-some n e)
 way_within [] (Some c) zero n e = omega arith
-way_within [] (Some c) (suc p) n e = absurd (none-some n e)
 way_within (x ∷ ns) a zero n e = omega arith
 way_within (x ∷ ns) a (suc p) n e = omega (arith, way_within ns a p n e)
+way_within _ _ _ n e = absurd (none-some n e)
 
 -- a way of that number is the attachment, which is there
 pub way_last : (ns : List Neighbour) (a : Option ℕ) (n : Neighbour) → slice_get (ns ++ home_ways a) (length ns) ≡ Some n → is_some a ≡ true

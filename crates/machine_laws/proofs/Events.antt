@@ -103,8 +103,7 @@ ports_length (Message q k v) ns = length-changed_at _ q ns
 ports_length (Up q c) ns = length-changed_at _ q ns
 ports_length (Down q) ns = length-changed_at _ q ns
 ports_length (Cost q c) ns = length-changed_at _ q ns
-ports_length (Attached c) ns = refl
-ports_length Detached ns = refl
+ports_length _ ns = refl
 
 -- a change that leaves whether a neighbour is up leaves who is up
 up_of_changed : (q p : ℕ) (f : Neighbour → Neighbour) (ns : List Neighbour) → ((n : Neighbour) → (f n).up ≡ n.up) → test_at (λ n. n.up) (slice_get (changed_at q f ns) p) ≡ test_at (λ n. n.up) (slice_get ns p)
@@ -128,8 +127,7 @@ stays_up m (Message q k v) p d u = up_of_changed q p (λ n. record { up = n.up; 
 stays_up m (Up q c) p d u = up_of_raised q p (λ n. record { up = true; cost = c; reported = infinity }) m.ports (λ n. refl) u
 stays_up m (Down q) p d u = ap (test_at (λ n. n.up)) (slice_get-changed_at_other (λ n. record { up = false; cost = n.cost; reported = n.reported }) q p m.ports (λ s. eqb-false q p d (sym s))) ∙ u
 stays_up m (Cost q c) p d u = up_of_changed q p (λ n. record { up = n.up; cost = c; reported = n.reported }) m.ports (λ n. refl) ∙ u
-stays_up m (Attached c) p d u = u
-stays_up m Detached p d u = u
+stays_up m _ p d u = u
 
 -- the ports are sound after an event that the machine meets
 pub sound_after : (m : Machine) (e : Event) → AllSound m.ports → Meets m e → AllSound (records_after e m.ports)
@@ -137,8 +135,7 @@ sound_after m (Message q k v) sound meets = changed_keeps IsSoundPort q (λ n. r
 sound_after m (Up q c) sound meets = changed_keeps IsSoundPort q (λ n. record { up = true; cost = c; reported = infinity }) m.ports (λ n s. record { costs = meets.2; bounded = omega arith }) sound
 sound_after m (Down q) sound meets = changed_keeps IsSoundPort q (λ n. record { up = false; cost = n.cost; reported = n.reported }) m.ports (λ n s. record { costs = s.costs; bounded = s.bounded }) sound
 sound_after m (Cost q c) sound meets = changed_keeps IsSoundPort q (λ n. record { up = n.up; cost = c; reported = n.reported }) m.ports (λ n s. record { costs = meets.1; bounded = s.bounded }) sound
-sound_after m (Attached c) sound meets = sound
-sound_after m Detached sound meets = sound
+sound_after m _ sound meets = sound
 
 -- the port that comes up is up
 pub up_at_up : (m : Machine) (q cost : ℕ) → q < length m.ports → is_up_at (with_records m (Up q cost)) q ≡ true

@@ -186,8 +186,6 @@ active_awaits m c p h = rw h
 -- after an event all are awaited who were, but the one that it releases
 pub awaited_after_is : (e : Event) (bs : List Bool) → awaited_after e bs ≡ option_map_or (λ q. changed_at q (λ b. false) bs) (released e) bs
 awaited_after_is (Message q Update value) bs = refl
-awaited_after_is (Message q Query value) bs = refl
-awaited_after_is (Message q Reply value) bs = refl
 awaited_after_is _ bs = refl
 
 -- who is not released is awaited as before

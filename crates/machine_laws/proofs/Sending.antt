@@ -64,9 +64,8 @@ asked_last p answer v ns up = (
 goes_of : (m : Machine) (e : Event) (r : Reaction) → IsSound m → Outcome m e r → is_active r.machine ≡ true → GoesOrAsks m r
 goes_of m e r sound (came_up q cost) act = inl (act, refl, λ p. greeting_count Query m p q refl)
 goes_of m e r sound (goes_on _ c debt answer h some a) act = inl (rw h, refl, λ p. count_one Query Reply p answer m.rd)
-goes_of m e r sound (settles _ fd owed dec a f) act = absurd (false≢true act)
 goes_of m e r sound (asks _ fd debt answer dec a f some) act = inr (λ p up. asked_last p answer (via_successor (ways (with_records m e)) (with_records m e).successor) (records_after e m.ports) up)
-goes_of m e r sound (is_alone _ fd debt answer dec a f none) act = absurd (false≢true act)
+goes_of m e r sound _ act = absurd (false≢true act)
 
 -- a machine that is active after an event goes on with its distance, or asks everyone who is up
 pub goes_on_or_asks : GoesOnOrAsks
@@ -113,11 +112,10 @@ changed_told owed old v ns = go (old == v) refl
 
 -- every outcome has the old distance, or sends something to everyone who is up
 tells_of : (m : Machine) (e : Event) (r : Reaction) → Outcome m e r → (r.machine.rd ≡ m.rd) ⊎ ((p : ℕ) → is_up_at r.machine p ≡ true → sent_to p r.sends ≢ [])
-tells_of m e r (came_up q cost) = inl refl
-tells_of m e r (goes_on _ c debt answer h some a) = inl refl
 tells_of m e r (settles _ fd owed dec a f) = changed_told owed m.rd (least (ways (with_records m e))) (records_after e m.ports)
 tells_of m e r (asks _ fd debt answer dec a f some) = inr (λ p up silent. asked_told p answer (via_successor (ways (with_records m e)) (with_records m e).successor) (records_after e m.ports) up silent)
 tells_of m e r (is_alone _ fd debt answer dec a f none) = inr (λ p up. absurd (both_ways _ (test_nowhere (λ n. n.up) (records_after e m.ports) p none) up))
+tells_of m e r _ = inl refl
 
 -- where the distance changes, everyone who is up is sent something
 pub tells_all : TellsAll

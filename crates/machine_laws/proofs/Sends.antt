@@ -107,9 +107,8 @@ each_append P (x ∷ xs) ys f g s (suc k) e = each_append P xs ys (λ t j d. f t
 
 -- what holds of the one message, if there is one, holds of each
 pub each_one : (P : Outgoing → Type 0) (o : Option ℕ) (k : Kind) (v : ℕ) → ((q : ℕ) → o ≡ Some q → P (record { port = q; kind = k; value = v })) → EachSend P (one_to o k v)
-each_one P None k v f s j e = absurd (none-some s e)
 each_one P (Some q) k v f s zero e = subst P (same_Some (record { port = q; kind = k; value = v }) s e) (f q refl)
-each_one P (Some q) k v f s (suc j) e = absurd (none-some s e)
+each_one P _ k v f s _ e = absurd (none-some s e)
 
 -- what holds of the first message, if it is there, and of each other holds of each
 each_head : (P : Outgoing → Type 0) (b : Bool) (x : Outgoing) (xs : List Outgoing) → (b ≡ true → P x) → EachSend P xs → EachSend P (if b then x ∷ xs else xs)

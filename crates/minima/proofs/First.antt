@@ -116,9 +116,8 @@ abbrev nothings : ℕ → List (Option Due)
 nothings k = replicate k None
 
 nothing_at : (count k : ℕ) → node_at (nothings count) k ≡ None
-nothing_at zero k = refl
-nothing_at (suc count) zero = refl
 nothing_at (suc count) (suc k) = nothing_at count k
+nothing_at _ _ = refl
 
 module _ (n : ℕ) (ns : List (Option Due)) (are : ns ≡ nothings (n + n)) where
   none : (k : ℕ) → node_at ns k ≡ None

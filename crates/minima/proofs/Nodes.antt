@@ -29,11 +29,9 @@ node_set_same (y ∷ ys) (suc k) x below = node_set_same ys k x (omega (arith, b
 
 -- another node has what it had
 pub node_set_other : (ns : List (Option Due)) (k j : ℕ) (x : Option Due) → j ≢ k → node_at (set ns k x) j ≡ node_at ns j
-node_set_other [] k j x apart = refl
 node_set_other (y ∷ ys) zero zero x apart = absurd (apart refl)
-node_set_other (y ∷ ys) zero (suc j) x apart = refl
-node_set_other (y ∷ ys) (suc k) zero x apart = refl
 node_set_other (y ∷ ys) (suc k) (suc j) x apart = node_set_other ys k j x (λ e. apart (ap suc e))
+node_set_other _ _ _ x apart = refl
 
 -- a node that has something is there
 pub node_there : (ns : List (Option Due)) (k : ℕ) (d : Due) → node_at ns k ≡ Some d → k < length ns

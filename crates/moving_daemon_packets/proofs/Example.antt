@@ -29,18 +29,14 @@ far_at b (suc (suc (suc zero))) (suc q) = at_port 0 0
 far_at b (suc (suc (suc (suc i)))) q = at_port 0 0
 
 abbrev valid_at : Bool → ℕ → ℕ → Bool
-valid_at b zero zero = true
 valid_at b zero (suc zero) = b
 valid_at b zero (suc (suc q)) = false
-valid_at b (suc zero) zero = true
-valid_at b (suc zero) (suc zero) = true
 valid_at b (suc zero) (suc (suc q)) = false
-valid_at b (suc (suc zero)) zero = true
-valid_at b (suc (suc zero)) (suc zero) = true
 valid_at b (suc (suc zero)) (suc (suc q)) = false
 valid_at b (suc (suc (suc zero))) zero = not b
 valid_at b (suc (suc (suc zero))) (suc q) = false
 valid_at b (suc (suc (suc (suc i)))) q = false
+valid_at b _ _ = true
 
 far_valid_at : (b : Bool) (i q : ℕ) → valid_at b i q ≡ true → valid_at b (far_at b i q).router (far_at b i q).port ≡ true
 far_valid_at b zero zero v = refl
@@ -133,10 +129,8 @@ found = Tells 0 (input.Up 1 1 1) ∷ Tells 1 (input.Up 1 1 1)
 
 may_at : (i q : ℕ) → is_new_link (links false) (links true) (at_port i q) ≡ true → (session : ℕ) → is_in_session then_are (at_port i q) session ≡ false
 may_at zero zero new session = absurd (false≢true new)
-may_at zero (suc zero) new session = refl
 may_at zero (suc (suc q)) new session = absurd (false≢true new)
 may_at (suc zero) zero new session = absurd (false≢true new)
-may_at (suc zero) (suc zero) new session = refl
 may_at (suc zero) (suc (suc q)) new session = absurd (false≢true new)
 may_at (suc (suc zero)) zero new session = absurd (false≢true new)
 may_at (suc (suc zero)) (suc zero) new session = absurd (false≢true new)
@@ -144,6 +138,7 @@ may_at (suc (suc zero)) (suc (suc q)) new session = absurd (false≢true new)
 may_at (suc (suc (suc zero))) zero new session = absurd (false≢true new)
 may_at (suc (suc (suc zero))) (suc q) new session = absurd (false≢true new)
 may_at (suc (suc (suc (suc i)))) q new session = absurd (false≢true new)
+may_at _ _ new session = refl
 
 may : MayRewire (links false) (links true) then_are
 may e new session = may_at e.router e.port new session

@@ -64,9 +64,7 @@ told_in i r q session = by_fault (is_none (told_fault i r))
     ]
     by_input (input.Down j) h = inl (goes_down r.ports j (session_at r.ports j) q session h)
     by_input (input.Cost j c) h = inl (costs_change r.ports j c q session h)
-    by_input (input.Message j s m) h = inl h
-    by_input (input.Attached p c) h = inl h
-    by_input (input.Detached p) h = inl h
+    by_input _ h = inl h
 
     by_fault : (b : Bool) → is_up_in (if b then router_after i r else r).ports q session ≡ true → (is_up_in r.ports q session ≡ true) ⊎ ((c : ℕ) × (i ≡ input.Up q session c))
     by_fault true h = by_input i h
@@ -122,10 +120,6 @@ module _ (t : Topology) (w : Processes) (f : LinkEnd) (session : ℕ) where
 last_next : (m : Moment) (e : LinkEnd) (session : ℕ) (h : Happening) → (m.topology).valid e ≡ true → Survives e session m h → session ≤ (m.processes).last ((m.topology).far e) → session ≤ (after_happening m.topology m.processes h).last ((m.topology).far e)
 last_next m e session (Tells i x) v S le = omega (arith, le)
 last_next m e session (Takes d) v S le = by_take m.topology m.processes (λ v. session ≤ v.last ((m.topology).far e)) le d (λ c at past. le)
-last_next m e session (Loses d) v S le = le
-last_next m e session (Publishes i) v S le = le
-last_next m e session (PublishesSome i n) v S le = le
-last_next m e session (Forgets i p) v S le = le
 last_next m e session (Releases i) v S le = by_release m.topology m.processes (λ v. session ≤ v.last ((m.topology).far e)) le i (λ x at. le)
 last_next m e session (BeginsAnew i costs attachments) v S le = by_place (anew_at m.topology i m.processes ((m.topology).far e))
   where
@@ -133,6 +127,7 @@ last_next m e session (BeginsAnew i costs attachments) v S le = by_place (anew_a
     by_place (Here g is) = absurd (S.0 (sym g))
     by_place (Across d g is) = (let own = S.1 (sym g ∙ ap (λ (x : LinkEnd). x.router) ((m.topology).far_far e v)) in omega (arith, is, own))
     by_place (Away d g is) = omega (arith, is, le)
+last_next m e session _ v S le = le
 
 -- a packet's process across begins anew in none of what happens
 stays_there : (m : Moment) (e : LinkEnd) (session : ℕ) (h : Happening) → Survives e session m h → (i : ℕ) (costs : _) (attachments : _) → h ≡ BeginsAnew i costs attachments → i ≢ ((m.topology).far e).router
@@ -231,8 +226,6 @@ in_order m K i k q session p es row on before leads = by_test (n.valid (at_port 
     shown = ap (λ o. is_next_hop q session o) (ap (option_and_then next_hop) row) ∙ and_from (q == q) (session == session) (eq-eqb q q refl) (eq-eqb session session refl)
 
     by_test : (b : Bool) → n.valid (at_port i q) ≡ b → (d : Bool) → lets_in v (n.far (at_port i q)) ≡ d → (if b && d then Some (n.far (at_port i q)).router else None) ≡ Some k → session_leads m.topology m.processes i (Via q session) ≡ Some k
-    by_test false a d b g = absurd (None_not_Some g)
-    by_test true a false b g = absurd (None_not_Some g)
     by_test true a true b g =
         let L = same_link m K (at_port i q) session es on a in
         let le = row_reached m.topology p (m.fd_published p) m.processes (K p).invariant (K p).orderly (at_port i q) L.valid session shown in
@@ -242,6 +235,7 @@ in_order m K i k q session p es row on before leads = by_test (n.valid (at_port 
         let same : v.heard (n.far (at_port i q)) ≡ session = omega (arith, then_le, is, before) in
         at_once m K i k q session p es row on
         (ap (λ c. if c then Some (n.far (at_port i q)).router else None) (and_from (n.valid (at_port i q)) (is_in_session v (n.far (at_port i q)) session) a (ap (is_in_session v (n.far (at_port i q))) (sym same) ∙ b)) ∙ g)
+    by_test _ a _ b g = absurd (None_not_Some g)
 
 pub always_at_once : HoldsAtEveryMoment HopsAtOnce
 always_at_once t w M = at_once (now t w M) (kept t w M)

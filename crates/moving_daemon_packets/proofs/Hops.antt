@@ -1,6 +1,6 @@
 -- Between two happenings a packet goes along a way of one moment: so its hops end once what happens alone does.
 use Rattle.std.proofs.Common.{refl, ap, ◌∙◌, arith, ◌≤◌, ◌≡◌, ℕ, suc, ◌+◌, ◌*◌, Bool, true, false, ◌&&◌, if◌then◌else◌, List, [], ◌∷◌, length, Some, None, option_and_then}
-use Rattle.no_packet_loops.proofs.Common.{Prefix, Entry, None_not_Some, Some_injective, Topology, LinkEnd, at_port, and_parts, is_met, meets_twice, or_parts, Local, Unreachable, Via, suc-mul, mul-le-mul_right}
+use Rattle.no_packet_loops.proofs.Common.{Prefix, Entry, None_not_Some, Some_injective, Topology, LinkEnd, at_port, and_parts, is_met, meets_twice, or_parts, Via, suc-mul, mul-le-mul_right}
 use Rattle.no_packet_loops.proofs.Traces.{AllBelow, few}
 use Rattle.all_packets.specs.Packets.{IsWayBy}
 use Rattle.coming_to_rest.specs.Rest.{IsFinite}
@@ -16,10 +16,8 @@ use Rattle.moving_daemon_packets.specs.Hops.{IsMoving, hops, HopsEnd}
 
 -- the routers that the packet comes to before the first happening
 abbrev before : List DaemonEvent → List ℕ
-before [] = []
 before (Goes k ∷ es) = k ∷ before es
-before (Does h ∷ es) = []
-before (Rewires t ∷ es) = []
+before _ = []
 
 -- the happenings
 abbrev done : List DaemonEvent → List Happening
@@ -39,24 +37,20 @@ NeverTwice leads = (t : Topology) (w : Processes) → AreReached t w → (addr :
 module _ (leads : LeadsOn) (across : LeadsAcross leads) (once : NeverTwice leads) (t : Topology) (F : IsFinite t) (addr : ℕ) where
   -- before the first happening the packet goes along a way
   way : (w : Processes) (i : ℕ) (es : List DaemonEvent) → IsMoving leads t F.routers w addr i es → IsWayBy (MayGoOnBy (leads t w) w addr) (i ∷ before es)
-  way w i [] h = tt
   way w i (Goes k ∷ es) h =
       let G = (h.0).1 in
       ((false, ap (λ o. option_and_then (λ (r : Prefix × Entry). leads t w i r.1) o) G.matched ∙ G.leads), way w k es h.1)
-  way w i (Does x ∷ es) h = tt
-  way w i (Rewires t' ∷ es) h = tt
+  way w i _ h = tt
 
   -- at routers of the network
   below : (w : Processes) (i : ℕ) (es : List DaemonEvent) → IsMoving leads t F.routers w addr i es → AllBelow F.routers (before es)
-  below w i [] h = tt
   below w i (Goes k ∷ es) h =
       let G = (h.0).1 in
       let A = across t w i k G.entry G.leads in
       let in_it = (F.within A.0 A.1).0 in
       let same = A.2 in
       (omega (arith, in_it, same), below w k es h.1)
-  below w i (Does x ∷ es) h = tt
-  below w i (Rewires t' ∷ es) h = tt
+  below w i _ h = tt
 
   -- so it comes to few
   few_before : (w : Processes) → AreReached t w → (i : ℕ) (es : List DaemonEvent) → IsMoving leads t F.routers w addr i es → length (before es) ≤ F.routers
@@ -104,14 +98,12 @@ across_link t e session k b h = by_test (t.valid e && b) refl h
     by_test true is g = (t.far e, t.far_valid e (and_parts (t.valid e) b is).0, Some_injective g)
 
 marked_across : LeadsAcross session_leads
-marked_across t w i k Local h = absurd (None_not_Some h)
-marked_across t w i k Unreachable h = absurd (None_not_Some h)
 marked_across t w i k (Via q session) h = across_link t (at_port i q) session k (is_in_session w (t.far (at_port i q)) session) h
+marked_across t w i k _ h = absurd (None_not_Some h)
 
 unmarked_across : LeadsAcross unmarked_leads
-unmarked_across t w i k Local h = absurd (None_not_Some h)
-unmarked_across t w i k Unreachable h = absurd (None_not_Some h)
 unmarked_across t w i k (Via q session) h = across_link t (at_port i q) session k (lets_in w (t.far (at_port i q))) h
+unmarked_across t w i k _ h = absurd (None_not_Some h)
 
 pub marked_end : HoldsAlways (HopsEnd session_leads)
 marked_end = hops_end session_leads marked_across always_no_circles

@@ -23,11 +23,7 @@ told_keeps x r = by_fault (is_none (told_fault x r))
   where
     by_input : (y : Input) → ((router_told y r).table).published ≡ (r.table).published
     by_input (input.Up port session cost) = refl
-    by_input (input.Down port) = refl
-    by_input (input.Cost port cost) = refl
-    by_input (input.Message port session m) = refl
-    by_input (input.Attached q cost) = refl
-    by_input (input.Detached q) = refl
+    by_input _ = refl
 
     by_fault : (b : Bool) → ((if b then router_told x r else r).table).published ≡ (r.table).published
     by_fault true = by_input x

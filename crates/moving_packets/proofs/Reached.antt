@@ -1,6 +1,6 @@
 -- What holds of each history that lawful steps make, and of one more step.
 use Rattle.std.proofs.Common.{refl, sym, ap, subst, ◌∙◌, inl, inr, arith, ◌<◌, ◌≤◌, ◌≡◌, ◌⊎◌, ℕ, zero, suc, true, length, List, [], ◌∷◌, ◌++◌, Option, Some, None, slice_get, slice_set, option_and_then}
-use Rattle.no_packet_loops.proofs.Common.{option_map_or, Prefix, prefix_cmp, covers, longest_match, infinity, Entry, Router, World, Network, IsForwarded, opening, machine_of, Lawful, Runs, History, history, history_from, with_step, with_steps, published_after, None_not_Some, Some_injective, IsNetwork, find as row_of, longest_match-found, Step, LinkUp, LinkDown, SetCost, Deliver, Publish, Release, Attach, Detach}
+use Rattle.no_packet_loops.proofs.Common.{option_map_or, Prefix, prefix_cmp, covers, longest_match, infinity, Entry, Router, World, Network, IsForwarded, opening, machine_of, Lawful, Runs, History, history, history_from, with_step, with_steps, published_after, None_not_Some, Some_injective, IsNetwork, find as row_of, longest_match-found, Step, Publish}
 use Rattle.no_packet_loops.specs.Packets.{DistancesFall, published_entry}
 use Rattle.no_packet_loops.proofs.Wiring.{IsWired, wired}
 use Rattle.no_packet_loops.proofs.Runs.{Reached, reached, history_world}
@@ -116,21 +116,15 @@ module _ (h : History) (M : IsMade h) where
 
 -- what stands where one was set, or beside it
 pub set_or_not : (rs : List Router) (j i : ℕ) (r : Router) → (slice_get (slice_set rs j r) i ≡ slice_get rs i) ⊎ ((i ≡ j) × (slice_get (slice_set rs j r) i ≡ Some r))
-set_or_not [] j i r = inl refl
 set_or_not (x ∷ xs) zero zero r = inr (refl, refl)
-set_or_not (x ∷ xs) zero (suc i) r = inl refl
-set_or_not (x ∷ xs) (suc j) zero r = inl refl
 set_or_not (x ∷ xs) (suc j) (suc i) r = elim (set_or_not xs j i r) [
   | inl e ↦ inl e
   | inr e ↦ inr (ap suc e.0, e.1)
 ]
+set_or_not _ _ _ r = inl refl
 
 -- a step leaves a published feasible distance, or makes it the one that was chosen
 pub stays_or_chosen : (h : History) (s : Step) (p : Prefix) (i : ℕ) → Lawful h.world s → (fd_published (with_step h s) p i ≡ fd_published h p i) ⊎ (fd_published (with_step h s) p i ≡ fd_chosen h p i)
-stays_or_chosen h (LinkUp l) p i L = inl refl
-stays_or_chosen h (LinkDown l) p i L = inl refl
-stays_or_chosen h (SetCost j q c) p i L = inl refl
-stays_or_chosen h (Deliver j q) p i L = inl refl
 stays_or_chosen h (Publish j) p i L = elim (set_or_not h.published j i L.0) [
   | inl e ↦ inl (ap fd (ap (λ (xs : List Router). slice_get xs i) is_set ∙ e))
   | inr e ↦ inr (ap fd (ap (λ (xs : List Router). slice_get xs i) is_set ∙ e.1) ∙ sym (ap fd (ap (slice_get (h.world).routers) e.0 ∙ L.1)))
@@ -141,6 +135,4 @@ stays_or_chosen h (Publish j) p i L = elim (set_or_not h.published j i L.0) [
 
     is_set : published_after h.world h.published (Publish j) ≡ slice_set h.published j L.0
     is_set = ap (λ o. option_map_or (λ (y : Router). slice_set h.published j y) o h.published) L.1
-stays_or_chosen h (Release j) p i L = inl refl
-stays_or_chosen h (Attach j k c) p i L = inl refl
-stays_or_chosen h (Detach j k) p i L = inl refl
+stays_or_chosen h _ p i L = inl refl

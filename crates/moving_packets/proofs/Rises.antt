@@ -1,6 +1,6 @@
 -- A feasible distance rises where its router takes something, at the end of a computation; a published one where the router publishes.
 use Rattle.std.proofs.Common.{refl, sym, ap, subst, ◌∙◌, inl, inr, arith, ◌<◌, ◌≤◌, ◌≡◌, ◌⊎◌, ℕ, true, nat_lt, List, Option, slice_get, slice_set, ltb-true}
-use Rattle.no_packet_loops.proofs.Common.{option_map_or, cases_eq, Prefix, infinity, Machine, reaction, event_at_home, Router, World, machine_of, changed_link, router_publishing, router_releasing, router_accepting, router_at_home, with_cost, with_front_taken, with_message, with_delivered, with_noticed, with_released, front_at, notice_at, release_at, Lawful, next, History, with_step, published_after, option_map_or-ind, routers-changed_link, machine_laws, State, Topology, event_of, is_active, is_up_at, Invariant, meets_item, meets_home, Step, LinkUp, LinkDown, SetCost, Deliver, Publish, Release, Attach, Detach, MachineLaws}
+use Rattle.no_packet_loops.proofs.Common.{option_map_or, cases_eq, Prefix, infinity, Machine, reaction, event_at_home, Router, World, machine_of, changed_link, router_publishing, router_releasing, router_accepting, router_at_home, with_cost, with_front_taken, with_message, with_delivered, with_noticed, with_released, front_at, notice_at, release_at, Lawful, next, History, with_step, published_after, option_map_or-ind, routers-changed_link, machine_laws, State, Topology, event_of, is_active, is_up_at, Invariant, meets_item, meets_home, Step, SetCost, Deliver, Publish, Release, MachineLaws}
 use Rattle.loop_freedom.specs.Network.{Step as NetStep, Takes, TakesAtHome, Publishes, Releases, LinkComes, LinkGoes, CostChanges, Skips}
 use Rattle.no_packet_loops.proofs.View.{on_router-miss, on_router-same}
 use Rattle.no_packet_loops.proofs.Runs.{fd_is, stepped}
@@ -19,8 +19,6 @@ fd_of p o = option_map_or (λ (y : Router). (machine_of y p).fd) o infinity
 
 -- a step in which the router takes nothing leaves it
 same_unless : (w : World) (s : Step) (p : Prefix) (i : ℕ) → Lawful w s → (fd_of p (slice_get (next w s).routers i) ≡ fd_of p (slice_get w.routers i)) ⊎ ((q : ℕ) × (s ≡ Deliver i q))
-same_unless w (LinkUp l) p i L = inl refl
-same_unless w (LinkDown l) p i L = inl refl
 same_unless w (SetCost j q c) p i L = inl (ap (λ (xs : List Router). fd_of p (slice_get xs i)) (routers-changed_link j q (with_cost c) w))
 same_unless w (Deliver j q) p i L = elim (cases_eq i j) [
   | inl e ↦ inr (q, ap (λ (x : ℕ). Deliver x q) (sym e))
@@ -34,8 +32,7 @@ same_unless w (Publish j) p i L = inl (on_router-same (λ (y : Router). (machine
 same_unless w (Release j) p i L = inl (option_map_or-ind (λ (v : World). fd_of p (slice_get v.routers i) ≡ fd_of p (slice_get w.routers i)) (with_released j w) (release_at w j) w refl
     (λ h is. on_router-same (λ (y : Router). (machine_of y p).fd) infinity (changed_link j h.port (with_message h) w).routers router_releasing j i (λ r at. refl)
     ∙ ap (λ (xs : List Router). fd_of p (slice_get xs i)) (routers-changed_link j h.port (with_message h) w)))
-same_unless w (Attach j k c) p i L = inl refl
-same_unless w (Detach j k) p i L = inl refl
+same_unless w _ p i L = inl refl
 
 -- in a network of one destination it rises at the end of a computation, if a port is up then
 ends_there : (laws : MachineLaws) (t : Topology) (old new : State) → Invariant t old → NetStep t old new → (i q : ℕ) → (old.machine i).fd < (new.machine i).fd → is_up_at (new.machine i) q ≡ true
@@ -78,17 +75,11 @@ ends_there laws t old new I (Skips P) i q lt up = (let same = ap (λ (m : Machin
 
 -- a step in which the router does not publish leaves it
 pub same_published : (w : World) (rs : List Router) (s : Step) (p : Prefix) (i : ℕ) → Lawful w s → (fd_of p (slice_get (published_after w rs s) i) ≡ fd_of p (slice_get rs i)) ⊎ (s ≡ Publish i)
-same_published w rs (LinkUp l) p i L = inl refl
-same_published w rs (LinkDown l) p i L = inl refl
-same_published w rs (SetCost j q c) p i L = inl refl
-same_published w rs (Deliver j q) p i L = inl refl
 same_published w rs (Publish j) p i L = elim (set_or_not rs j i L.0) [
   | inl e ↦ inl (ap (fd_of p) (ap (λ (xs : List Router). slice_get xs i) (ap (λ o. option_map_or (λ (y : Router). slice_set rs j y) o rs) L.1) ∙ e))
   | inr e ↦ inr (ap (λ (x : ℕ). Publish x) (sym e.0))
 ]
-same_published w rs (Release j) p i L = inl refl
-same_published w rs (Attach j k c) p i L = inl refl
-same_published w rs (Detach j k) p i L = inl refl
+same_published w rs _ p i L = inl refl
 
 -- ---- both
 

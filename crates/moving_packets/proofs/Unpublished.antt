@@ -1,6 +1,6 @@
 -- A router that publishes nothing keeps its published rows and feasible distances: so a packet that stays near does not come back to it.
 use Rattle.std.proofs.Common.{refl, sym, ap, ◌∙◌, inl, inr, arith, ◌≤◌, ◌≡◌, ℕ, ◌+◌, Bool, true, false, ◌==◌, List, [], ◌∷◌, Option, Some, None, slice_get, option_and_then, eq-eqb}
-use Rattle.no_packet_loops.proofs.Common.{option_map_or, cases_eq, false≢true, Prefix, prefix_cmp, Entry, Router, World, Item, changed_link, router_publishing, router_releasing, router_accepting, router_at_home, with_cost, with_front_taken, with_message, with_delivered, with_noticed, with_released, front_at, notice_at, release_at, Lawful, next, History, history, with_step, option_map_or-ind, routers-changed_link, or_parts, find as row_of, Step, LinkUp, LinkDown, SetCost, Deliver, Publish, Release, Attach, Detach}
+use Rattle.no_packet_loops.proofs.Common.{option_map_or, cases_eq, false≢true, Prefix, prefix_cmp, Entry, Router, World, Item, changed_link, router_publishing, router_releasing, router_accepting, router_at_home, with_cost, with_front_taken, with_message, with_delivered, with_noticed, with_released, front_at, notice_at, release_at, Lawful, next, History, history, with_step, option_map_or-ind, routers-changed_link, or_parts, find as row_of, Step, SetCost, Deliver, Publish, Release}
 use Rattle.no_packet_loops.specs.Packets.{published_entry}
 use Rattle.no_packet_loops.proofs.View.{on_router-miss, on_router-same}
 use Rattle.all_packets.specs.Journeys.{Event, Goes, Does}
@@ -21,8 +21,6 @@ keeps_rows q _ r = refl
 
 -- a step in which the router does not publish leaves them
 same_rows : (w : World) (s : Step) (i : ℕ) → publishes i s ≡ false → rows_of (slice_get (next w s).routers i) ≡ rows_of (slice_get w.routers i)
-same_rows w (LinkUp l) i quiet = refl
-same_rows w (LinkDown l) i quiet = refl
 same_rows w (SetCost j q c) i quiet = ap (λ (xs : List Router). rows_of (slice_get xs i)) (routers-changed_link j q (with_cost c) w)
 same_rows w (Deliver j q) i quiet = option_map_or-ind (λ (v : World). rows_of (slice_get v.routers i) ≡ rows_of (slice_get w.routers i)) (with_delivered j q w) (front_at w j q) (option_map_or (with_noticed j w) (notice_at w j q) w)
     (option_map_or-ind (λ (v : World). rows_of (slice_get v.routers i) ≡ rows_of (slice_get w.routers i)) (with_noticed j w) (notice_at w j q) w refl
@@ -36,8 +34,7 @@ same_rows w (Publish j) i quiet = elim (cases_eq i j) [
 same_rows w (Release j) i quiet = option_map_or-ind (λ (v : World). rows_of (slice_get v.routers i) ≡ rows_of (slice_get w.routers i)) (with_released j w) (release_at w j) w refl
     (λ h is. on_router-same (λ (y : Router). (y.table).published) [] (changed_link j h.port (with_message h) w).routers router_releasing j i (λ r at. refl)
     ∙ ap (λ (xs : List Router). rows_of (slice_get xs i)) (routers-changed_link j h.port (with_message h) w))
-same_rows w (Attach j k c) i quiet = refl
-same_rows w (Detach j k) i quiet = refl
+same_rows w _ i quiet = refl
 
 -- nor does it the published feasible distance
 same_fd : (h : History) (s : Step) (p : Prefix) (i : ℕ) → Lawful h.world s → publishes i s ≡ false → fd_published (with_step h s) p i ≡ fd_published h p i

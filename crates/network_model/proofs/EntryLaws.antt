@@ -8,9 +8,8 @@ use Rattle.network_model.specs.Step.{entry_eq}
 
 -- an entry is equal to itself by the test
 pub entry_eq-refl : (e : Entry) → entry_eq e e ≡ true
-entry_eq-refl Local = refl
 entry_eq-refl (Via p s) = and_from _ _ (eq-eqb p p refl) (eq-eqb s s refl)
-entry_eq-refl Unreachable = refl
+entry_eq-refl _ = refl
 
 -- entries that are equal by the test are one entry
 pub entry_from_eq : (e f : Entry) → entry_eq e f ≡ true → e ≡ f

@@ -14,9 +14,8 @@ one_if_at i s = if s.a == i then 1 else if s.b == i then 1 else 0
 
 -- how many ports router i has on the links before number k
 abbrev pub ports_before : ℕ → ℕ → List LinkSpec → ℕ
-ports_before zero i ss = 0
-ports_before (suc k) i [] = 0
 ports_before (suc k) i (s ∷ ss) = one_if_at i s + ports_before k i ss
+ports_before _ i _ = 0
 
 -- the place at this end of link l
 abbrev pub place_of : ℕ → End → Place

@@ -156,10 +156,9 @@ module _ (n : Network) (p : Prefix) (w : World) (K : WorldKept n p w) (l : ℕ) 
 
 -- an end of a link is a given end or the other one
 pub two_ends : (d e : End) → (e ≡ d) ⊎ (e ≡ other d)
-two_ends A A = inl refl
 two_ends A B = inr refl
 two_ends B A = inr refl
-two_ends B B = inl refl
+two_ends _ _ = inl refl
 
 -- places on one link, at one end, are one place
 places_equal : (x y : Place) → x.link ≡ y.link → x.end ≡ y.end → x ≡ y

@@ -82,12 +82,11 @@ done_of r idle none = by_tests (nat_lt 0 (length (changed_rows r.table))) refl (
     holds (x ∷ xs) (suc m) le f = absurd (None_not_Some (sym (sym (ap (λ b. if b then Some x else None) (lt-ltb 0 (suc m) (omega arith))) ∙ f)))
 
     by_tests : (a : Bool) → nat_lt 0 (length (changed_rows r.table)) ≡ a → (b : Bool) → nat_lt (r.gate).ripe (length (r.gate).held) ≡ b → (a || b) ≡ false → IsDone r
-    by_tests true at b bt e = absurd (false≢true (sym e))
-    by_tests false at true bt e = absurd (false≢true (sym e))
     by_tests false at false bt e = record {
       holds_none = holds (r.gate).held (r.gate).ripe (ltb-false (r.gate).ripe (length (r.gate).held) bt) none;
       published = empty_length (changed_rows r.table) (ltb-false 0 (length (changed_rows r.table)) at);
     }
+    by_tests _ at _ bt e = absurd (false≢true (sym e))
 
 -- where it holds nothing, nothing is ripe
 pub nothing_ripe : (r : Router) → (r.gate).held ≡ [] → ripe_of r ≡ []

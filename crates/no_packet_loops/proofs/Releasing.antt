@@ -139,10 +139,9 @@ message_unheard p h d e k apart = by_message (λ z. inbox_of p d z ≡ inbox_of 
     none xs = heard-append p xs (Item.Message h.message ∷ []) ∙ (let e : heard p (Item.Message h.message ∷ []) ≡ [] = rw apart refl in ap (λ ys. heard p xs ++ ys) e) ∙ append-nil (heard p xs)
 
     by_ends : (d e : End) → inbox_of p d (changed_side (other e) (with_item (Item.Message h.message)) k) ≡ inbox_of p d k
-    by_ends A A = refl
     by_ends A B = none (k.a).inbox
     by_ends B A = none (k.b).inbox
-    by_ends B B = refl
+    by_ends _ _ = refl
 
 -- ---- routers
 

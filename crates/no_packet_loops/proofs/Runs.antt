@@ -86,11 +86,9 @@ set_here (x ∷ xs) (suc i) r lt = set_here xs i r (omega (arith, lt))
 
 -- the elements at other positions stay
 pub set_beside : (rs : List Router) (i j : ℕ) (r : Router) → (j ≡ i → ⊥) → slice_get (slice_set rs i r) j ≡ slice_get rs j
-set_beside [] i j r d = refl
 set_beside (x ∷ xs) zero zero r d = absurd (d refl)
-set_beside (x ∷ xs) zero (suc j) r d = refl
-set_beside (x ∷ xs) (suc i) zero r d = refl
 set_beside (x ∷ xs) (suc i) (suc j) r d = set_beside xs i j r (λ e. d (ap suc e))
+set_beside _ _ _ r d = refl
 
 module _ (n : Network) (N : IsWired n) (p : Prefix) (w : World) (pfd : ℕ → ℕ) (K : WorldKept n p w) (I : Invariant (topology n N) (view n p w pfd)) where
   -- a step to v that publishes nothing is one of the view, and v keeps what a world keeps

@@ -1,6 +1,6 @@
 -- Ways of packets are walks of the view, so they meet no router twice; along rows the feasible distances fall.
 use Rattle.std.proofs.Common.{refl, sym, ap, subst, ◌∙◌, inl, inr, arith, ◌<◌, ◌≡◌, ◌⊎◌, ℕ, Bool, true, false, cond, ◌&&◌, ◌==◌, nat_lt, if◌then◌else◌, List, [], ◌∷◌, Option, Some, None, is_some, slice_get, option_map, option_and_then, eqb-true, eq-eqb}
-use Rattle.no_packet_loops.proofs.Common.{⊤, option_map_or, and_parts, false≢true, and_from, Prefix, prefix_cmp, covers, longer_row, longest_match, Machine, opening_machine, port_successor, is_port, port_successor_from, Entry, Local, Via, Unreachable, Link, Side, Router, World, Network, other, side, machine_of, opening, Place, session_at, entry_leads, IsForwarded, IsPacketWalk, Some_injective, None_not_Some, is_up_at, machine_laws, Topology, PublishedEdge, ControlEdge, IsEdgeWalk, met, meets_twice, next_hop_of, always_mixed, router_end, history, LinkEnd, State, NextHop, at_port, next_hop, next_hop_at, view, lay, fd_in, is_next_hop, is_current, find as row_of, is_sorted, below_all}
+use Rattle.no_packet_loops.proofs.Common.{⊤, option_map_or, and_parts, false≢true, and_from, Prefix, prefix_cmp, covers, longer_row, longest_match, Machine, opening_machine, port_successor, is_port, port_successor_from, Entry, Via, Link, Side, Router, World, Network, other, side, machine_of, opening, Place, session_at, entry_leads, IsForwarded, IsPacketWalk, Some_injective, None_not_Some, is_up_at, machine_laws, Topology, PublishedEdge, ControlEdge, IsEdgeWalk, met, meets_twice, next_hop_of, always_mixed, router_end, history, LinkEnd, State, NextHop, at_port, next_hop, next_hop_at, view, lay, fd_in, is_next_hop, is_current, find as row_of, is_sorted, below_all}
 use Rattle.no_packet_loops.specs.Packets.{HoldsInEveryWorld, NoPacketLoops, NoMixtureLoops, IsForwardedBy, IsMixtureWalk, published_entry, control_entry, DistancesAlwaysFall}
 use Rattle.no_packet_loops.proofs.Wiring.{IsWired, wired}
 use Rattle.no_packet_loops.specs.LinkEnds.{across}
@@ -23,9 +23,8 @@ pub record MayGo (w : World) (p : Prefix) (i k : ℕ) : Type 0 where
 
 -- a list of routers each of which may send a packet of this prefix to the next
 abbrev pub IsMixedWalk : World → Prefix → List ℕ → Type 0
-IsMixedWalk w p [] = ⊤
-IsMixedWalk w p (i ∷ []) = ⊤
 IsMixedWalk w p (i ∷ k ∷ ks) = MayGo w p i k × IsMixedWalk w p (k ∷ ks)
+IsMixedWalk w p _ = ⊤
 
 -- ---- the longest match is the row of its prefix
 
@@ -83,8 +82,6 @@ module _ (n : Network) (N : IsWired n) (p : Prefix) (w : World) (rs : List Route
 
   -- an entry that leads to router k is such an entry
   leads : (i : ℕ) (entry : Entry) (k : ℕ) → entry_leads w i entry ≡ Some k → Leads i entry k
-  leads i Local k h = absurd (None_not_Some h)
-  leads i Unreachable k h = absurd (None_not_Some h)
   leads i (Via q session) k h = by_place (lay n (at_port i q)) refl
       (subst (λ (o : Option Place). (if option_map_or (λ (j : Link). j.up && (j.session == session)) (option_and_then (λ (x : Place). slice_get w.links x.link) o) false then option_map (λ (y : Side). y.router) (option_and_then (λ (x : Place). option_map (side (other x.end)) (slice_get w.links x.link)) o) else None) ≡ Some k) (place_is n p w R.kept i q) h)
     where
@@ -115,6 +112,7 @@ module _ (n : Network) (N : IsWired n) (p : Prefix) (w : World) (rs : List Route
           → (if option_map_or (λ (j : Link). j.up && (j.session == session)) (option_and_then (λ (x : Place). slice_get w.links x.link) o) false then option_map (λ (y : Side). y.router) (option_and_then (λ (x : Place). option_map (side (other x.end)) (slice_get w.links x.link)) o) else None) ≡ Some k → Leads i (Via q session) k
       by_place None is g = absurd (None_not_Some g)
       by_place (Some x) is g = by_link x is (slice_get w.links x.link) refl g
+  leads i _ k h = absurd (None_not_Some h)
 
   -- an entry leads to a router of the network
   pub leads_known : (i : ℕ) (entry : Entry) (k : ℕ) → entry_leads w i entry ≡ Some k → k < n.routers
@@ -241,9 +239,8 @@ module _ (n : Network) (N : IsWired n) (p : Prefix) (w : World) (rs : List Route
 
   -- a way of a packet in a mixture is a way by published or chosen rows
   mixture_walk : (by_control : ℕ → Bool) (addr : ℕ) (walk : List ℕ) → IsMixtureWalk by_control w addr p walk → IsMixedWalk w p walk
-  mixture_walk by_control addr [] h = tt
-  mixture_walk by_control addr (i ∷ []) h = tt
   mixture_walk by_control addr (i ∷ k ∷ ks) h = (forwarded_by by_control addr i k h.0, mixture_walk by_control addr (k ∷ ks) h.1)
+  mixture_walk by_control addr _ h = tt
 
   -- no way of a packet in a mixture meets a router twice
   pub no_mixture_loops : (by_control : ℕ → Bool) (addr : ℕ) (walk : List ℕ) → IsMixtureWalk by_control w addr p walk → meets_twice walk ≡ false
@@ -251,9 +248,8 @@ module _ (n : Network) (N : IsWired n) (p : Prefix) (w : World) (rs : List Route
 
   -- a way of a packet is a way by published or chosen rows
   packet_walk : (addr : ℕ) (walk : List ℕ) → IsPacketWalk w addr p walk → IsMixedWalk w p walk
-  packet_walk addr [] h = tt
-  packet_walk addr (i ∷ []) h = tt
   packet_walk addr (i ∷ k ∷ ks) h = (forwarded addr i k h.0, packet_walk addr (k ∷ ks) h.1)
+  packet_walk addr _ h = tt
 
   -- no way of a packet meets a router twice
   pub no_packet_loops : (addr : ℕ) (walk : List ℕ) → IsPacketWalk w addr p walk → meets_twice walk ≡ false

@@ -19,15 +19,13 @@ pub record IsWired (n : Network) : Type 0 where
 
 -- where none of three tests passes, the first two do not
 neither : (a b c : Bool) → (a || b || c) ≡ false → (a ≡ false) × (b ≡ false)
-neither true b c e = absurd (true≢false e)
-neither false true c e = absurd (true≢false e)
 neither false false c e = (refl, refl)
+neither _ _ c e = absurd (true≢false e)
 
 -- two tests that do not fail together both pass
 both : (a b : Bool) → not (a && b) ≡ false → (a ≡ true) × (b ≡ true)
 both true true e = (refl, refl)
-both true false e = absurd (true≢false e)
-both false b e = absurd (true≢false e)
+both _ _ e = absurd (true≢false e)
 
 -- ---- links
 

@@ -35,15 +35,13 @@ module _ {A : Type 0} (P : ℕ → A → Type 0) (xs : List A) where
 module _ {A : Type 0} where
   -- an element of a list of which one was set is that one, or was there
   pub at_set : (xs : List A) (i k : ℕ) (y x : A) → slice_get (set xs i y) k ≡ Some x → ((k ≡ i) × (x ≡ y)) ⊎ (slice_get xs k ≡ Some x)
-  at_set [] i k y x at = inr at
   at_set (z ∷ zs) zero zero y x at = inl (refl, sym (Some_injective at))
-  at_set (z ∷ zs) zero (suc k) y x at = inr at
-  at_set (z ∷ zs) (suc i) zero y x at = inr at
   at_set (z ∷ zs) (suc i) (suc k) y x at = behind (at_set zs i k y x at)
     where
       behind : ((k ≡ i) × (x ≡ y)) ⊎ (slice_get zs k ≡ Some x) → ((suc k ≡ suc i) × (x ≡ y)) ⊎ (slice_get zs k ≡ Some x)
       behind (inl here) = inl (ap suc here.0, here.1)
       behind (inr there) = inr there
+  at_set _ _ _ y x at = inr at
 
 module _ {A : Type 0} (P : ℕ → A → Type 0) (xs : List A) (i : ℕ) (y : A) where
   -- a fact of each element, of which one is set to one of which it holds

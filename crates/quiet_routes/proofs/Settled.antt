@@ -25,9 +25,8 @@ done_from_idle : (r : Router) → is_idle r ≡ true → IsDone r
 done_from_idle r h = by_tests (is_due r) refl (nat_lt 0 (r.gate).ripe) refl h
   where
     by_tests : (a : Bool) → is_due r ≡ a → (b : Bool) → nat_lt 0 (r.gate).ripe ≡ b → (not a && not b) ≡ true → IsDone r
-    by_tests true due b ripe e = absurd (false≢true e)
-    by_tests false due true ripe e = absurd (false≢true e)
     by_tests false due false ripe e = done_of r due (ap (λ b. if b then slice_get (r.gate).held 0 else None) ripe)
+    by_tests _ due _ ripe e = absurd (false≢true e)
 
 -- a router that is done is idle
 idle_from_done : (r : Router) → (r.gate).ripe ≤ length (r.gate).held → IsDone r → is_idle r ≡ true

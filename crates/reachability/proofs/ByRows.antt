@@ -7,7 +7,7 @@ use Rattle.std.proofs.lemmas.Option.{slice_get_within}
 use Rattle.ipv4_prefix.specs.Prefix.{Prefix, prefix_cmp}
 use Rattle.network_model.specs.declared.network.Place.{Place}
 use Rattle.network_model.specs.declared.route.Entry.{Entry}
-use Rattle.network_model.specs.declared.route.Entry.TheVariants.{Local, Via, Unreachable}
+use Rattle.network_model.specs.declared.route.Entry.TheVariants.{Local, Via}
 use Rattle.network_model.specs.Step.{is_up_in}
 use Rattle.network_model.specs.World.{Link, Router, World, other, side, place_at, attachment_at}
 use Rattle.network_model.specs.Forwarding.{entry_leads}
@@ -93,10 +93,9 @@ module _ (w : World) (p : Prefix) (marks : List Bool) where
       by_far q session row (Some k) far h = over_link q session k row (crosses w i q session k far) (only k h)
 
       by_row : (o : Option Entry) → published_entry w i p ≡ o → row_leads w p marks i o ≡ true → HasWay w p i
-      by_row None row h = absurd (false≢true h)
       by_row (Some Local) row h = at_home row (attachment_at w i p) refl h
       by_row (Some (Via q session)) row h = by_far q session row (entry_leads w i (Via q session)) refl h
-      by_row (Some Unreachable) row h = absurd (false≢true h)
+      by_row _ row h = absurd (false≢true h)
 
   pub only_more : (i : ℕ) → leads_home w p marks i ≡ true → OnlyRouted w p marks → OnlyRouted w p (set marks i true)
   only_more i leads only = holds_more (HasWay w p) marks i (way_from_row i leads only) only

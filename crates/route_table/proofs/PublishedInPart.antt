@@ -28,13 +28,10 @@ marked_first (suc n) (r ∷ rs) = cond (differs r.1) ((r.0, row_in_force (r.1).c
 
 -- a key before all rows is before the first of them
 below-take : (p : Prefix) (n : ℕ) (es : List (Prefix × Entry)) → below_all prefix_cmp p es ≡ true → below_all prefix_cmp p (take n es) ≡ true
-below-take p zero es b = refl
-below-take p (suc n) [] b = refl
 below-take p (suc n) (e ∷ es) b = let parts = and_parts _ _ b in and_from _ _ parts.0 (below-take p n es parts.1)
+below-take p _ _ b = refl
 
 pub with_in_force-first : (n : ℕ) (rows : List (Prefix × Row)) → is_sorted prefix_cmp rows ≡ true → with_in_force (take n (differing_rows rows)) rows ≡ marked_first n rows
-with_in_force-first zero rows s = refl
-with_in_force-first (suc n) [] s = refl
 with_in_force-first (suc n) (r ∷ rs) s =
     let parts = and_parts _ _ s in
     let below = below-differing r.0 rs parts.0 in
@@ -47,19 +44,19 @@ with_in_force-first (suc n) (r ∷ rs) s =
       | false ↦ with_in_force-past r (take (suc n) (differing_rows rs)) rs (below-take r.0 (suc n) (differing_rows rs) below)
           ∙ ap (λ xs. r ∷ xs) (with_in_force-first (suc n) rs parts.1)
     ]
+with_in_force-first _ _ s = refl
 
 -- ---- what the rows are then
 
 -- the control rows stay
 pub control-first : (n : ℕ) (rows : List (Prefix × Row)) → control_rows (marked_first n rows) ≡ control_rows rows
-control-first zero rows = refl
-control-first (suc n) [] = refl
 control-first (suc n) (r ∷ rs) =
     let row : Prefix × Row = (r.0, row_in_force (r.1).control) in
     elim (differs r.1) as (λ t. control_rows (cond t (row ∷ marked_first n rs) (r ∷ marked_first (suc n) rs)) ≡ control_rows (r ∷ rs)) [
       | true ↦ ap (λ es. (r.0, (r.1).control) ∷ es) (control-first n rs)
       | false ↦ ap (λ es. (r.0, (r.1).control) ∷ es) (control-first (suc n) rs)
     ]
+control-first _ _ = refl
 
 pub length-first : (n : ℕ) (rows : List (Prefix × Row)) → length (marked_first n rows) ≡ length rows
 length-first n rows =
@@ -68,8 +65,6 @@ length-first n rows =
 
 -- the other changed rows are changed still
 pub differing-first : (n : ℕ) (rows : List (Prefix × Row)) → differing_rows (marked_first n rows) ≡ drop n (differing_rows rows)
-differing-first zero rows = refl
-differing-first (suc n) [] = refl
 differing-first (suc n) (r ∷ rs) =
     let row : Prefix × Row = (r.0, row_in_force (r.1).control) in
     let others = filter (λ (r : Prefix × Row). differs r.1) rs in
@@ -79,6 +74,7 @@ differing-first (suc n) (r ∷ rs) =
       | true ↦ λ _. ap (λ b. control_rows (cond (not b) (row ∷ left) left)) (entry_eq-refl (r.1).control) ∙ differing-first n rs
       | false ↦ λ same. ap (λ b. control_rows (cond b (r ∷ left_more) left_more)) same ∙ differing-first (suc n) rs
     ] refl
+differing-first _ _ = refl
 
 -- the published row of one prefix before those of others
 abbrev with_row : Prefix → Option Entry → List (Prefix × Entry) → List (Prefix × Entry)
@@ -96,8 +92,6 @@ rows_past p (Some e) cs es below = with_rows-past (p, e) cs es below
 
 -- and the published rows have the first of the changed ones set
 pub published-first : (n : ℕ) (rows : List (Prefix × Row)) → is_sorted prefix_cmp rows ≡ true → published_rows (marked_first n rows) ≡ with_rows (take n (differing_rows rows)) (published_rows rows)
-published-first zero rows s = refl
-published-first (suc n) [] s = refl
 published-first (suc n) (r ∷ rs) s =
     let parts = and_parts _ _ s in
     let below = below-differing r.0 rs parts.0 in
@@ -112,6 +106,7 @@ published-first (suc n) (r ∷ rs) s =
       | false ↦ ap (with_row r.0 (r.1).published) (published-first (suc n) rs parts.1)
           ∙ sym (rows_past r.0 (r.1).published (take (suc n) (differing_rows rs)) (published_rows rs) (below-take r.0 (suc n) (differing_rows rs) below))
     ]
+published-first _ _ s = refl
 
 pub table-first : (n : ℕ) (rows : List (Prefix × Row)) → is_sorted prefix_cmp rows ≡ true
     → table_of (marked_first n rows) ≡ record { control = control_rows rows; published = with_rows (take n (differing_rows rows)) (published_rows rows) }

@@ -23,8 +23,7 @@ timely_over ns ports (Event.Message q kind value) same up = up_at-ups ns ports q
 timely_over ns ports (Event.Up q cost) same down = up_at-ups ns ports q same ∙ down
 timely_over ns ports (Event.Down q) same up = up_at-ups ns ports q same ∙ up
 timely_over ns ports (Event.Cost q cost) same up = up_at-ups ns ports q same ∙ up
-timely_over ns ports (Event.Attached cost) same tt = tt
-timely_over ns ports Event.Detached same tt = tt
+timely_over ns ports _ same tt = tt
 
 pub known_over : (ns : List Neighbour) (ports : List Port) (e : Event) → ups ns ≡ port_ups ports → IsKnown (length ports) e → IsKnown (length ns) e
 known_over ns ports e same known = subst (λ (n : ℕ). IsKnown n e) (sym (length-ups ns ports same)) known

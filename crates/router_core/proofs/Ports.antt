@@ -1,6 +1,6 @@
 -- The machines of a router have its ports, up and down as the notices said.
 use Rattle.std.proofs.Common.{refl, sym, ap, ◌∙◌, arith, ◌≡◌, ℕ, ◌+◌, ◌<◌, Bool, true, false, List, [], ◌∷◌, length, drop, Option, Some, None, slice_get, option_map}
-use Rattle.network_model.proofs.Common.{option_map_or, length-map, slice_get-map, Machine, records_after, reaction, neighbours, map-changed_at, changed_at-map, reaction-keeps, drop_more, slice_get_within, get_or_from_slice_get, slice_get-get_or, Event, Message, Up, Down, Cost, Attached, Detached, Neighbour, Port}
+use Rattle.network_model.proofs.Common.{option_map_or, length-map, slice_get-map, Machine, records_after, reaction, neighbours, map-changed_at, changed_at-map, reaction-keeps, drop_more, slice_get_within, get_or_from_slice_get, slice_get-get_or, Event, Message, Up, Down, Cost, Neighbour, Port}
 use Rattle.router_core.specs.Parts.{ups, port_ups, ups_after}
 
 pub ups-records_after : (e : Event) (ns : List Neighbour) → ups (records_after e ns) ≡ ups_after e (ups ns)
@@ -8,8 +8,7 @@ ups-records_after (Message q kind value) ns = map-changed_at _ (λ n. n.up) q ns
 ups-records_after (Up q cost) ns = sym (changed_at-map (λ (n : Neighbour). n.up) (λ n. record { up = true; cost = cost; reported = 4294967295 }) (λ _. true) (λ n. refl) q ns)
 ups-records_after (Down q) ns = sym (changed_at-map (λ (n : Neighbour). n.up) (λ n. record { up = false; cost = n.cost; reported = n.reported }) (λ _. false) (λ n. refl) q ns)
 ups-records_after (Cost q cost) ns = map-changed_at _ (λ n. n.up) q ns (λ n _. refl)
-ups-records_after (Attached cost) ns = refl
-ups-records_after Detached ns = refl
+ups-records_after _ ns = refl
 
 pub ups-reaction : (m : Machine) (e : Event) → ups (reaction m e).machine.ports ≡ ups_after e (ups m.ports)
 ups-reaction m e = ap ups (reaction-keeps m e).ports ∙ ups-records_after e m.ports

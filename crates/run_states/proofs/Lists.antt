@@ -13,11 +13,9 @@ module _ {A : Type 0} where
 
   -- another place keeps what it had
   pub slice_get-set_other : (xs : List A) (i j : ℕ) (x : A) → j ≢ i → slice_get (set xs i x) j ≡ slice_get xs j
-  slice_get-set_other [] i j x apart = refl
   slice_get-set_other (y ∷ ys) zero zero x apart = absurd (apart refl)
-  slice_get-set_other (y ∷ ys) zero (suc j) x apart = refl
-  slice_get-set_other (y ∷ ys) (suc i) zero x apart = refl
   slice_get-set_other (y ∷ ys) (suc i) (suc j) x apart = slice_get-set_other ys i j x (λ e. apart (ap suc e))
+  slice_get-set_other _ _ _ x apart = refl
 
   -- what holds of each element holds of the one at a place
   pub all_at : (P : A → Type 0) (xs : List A) (i : ℕ) (x : A) → All P xs → slice_get xs i ≡ Some x → P x

@@ -30,15 +30,13 @@ not_false false e = absurd (cc)
 
 pub option_same : {X : Type 0} (E : X → X → Bool) → ((a b : X) → E a b ≡ true → a ≡ b) → (a b : Option X) → option_eq E a b ≡ true → a ≡ b
 option_same E same None None e = refl
-option_same E same None (Some b) e = absurd (cc)
-option_same E same (Some a) None e = absurd (cc)
 option_same E same (Some a) (Some b) e = ap Some (same a b e)
+option_same E same _ _ e = absurd (cc)
 
 pub list_same : {X : Type 0} (E : X → X → Bool) → ((a b : X) → E a b ≡ true → a ≡ b) → (xs ys : List X) → pointwise E xs ys ≡ true → xs ≡ ys
 list_same E same [] [] e = refl
-list_same E same [] (y ∷ ys) e = absurd (cc)
-list_same E same (x ∷ xs) [] e = absurd (cc)
 list_same E same (x ∷ xs) (y ∷ ys) e = let parts = and_parts _ _ e in λ i. same x y parts.0 i ∷ list_same E same xs ys parts.1 i
+list_same E same _ _ e = absurd (cc)
 
 -- a list that starts with another is that and the rest
 pub starts_same : {X : Type 0} (E : X → X → Bool) → ((a b : X) → E a b ≡ true → a ≡ b) → (xs front : List X) (n : ℕ) → n ≡ length front → true ≡ starts_with E xs front

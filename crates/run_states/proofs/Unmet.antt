@@ -1,6 +1,6 @@
 -- What a step leaves a router of a prefix that it does not touch: its machine and its rows.
 use Rattle.std.proofs.Common.{refl, ap, sym, subst, ◌∙◌, ◌≡◌, ℕ, Bool, true, false, cond, not, List, [], ◌∷◌, Option, Some, None, option_map, slice_get, filter, is_some}
-use Rattle.no_packet_loops.proofs.Common.{find-map, find-put, prefix_cmp_total, option_map_or, false≢true, Prefix, prefix_cmp, prefix_eq, prefix_eq-Decides, Held, Item, Notice, Event, Port, Entry, Machine, Reaction, event_at_home, reaction, Router, World, machine_of, changed_attachments, changed_link, changed_router, changed_rows, chosen_rows, entry_eq, entry_of, front_at, has_row, next, notice_at, reactions, release_at, router_accepting, router_at_home, router_meeting, router_noticing, router_publishing, router_releasing, with_cost, with_delivered, with_front_taken, with_message, with_notice_taken, with_noticed, with_released, entry_from_eq, slice_get-changed_at, routers-changed_link, find as row_of, put, none-some, same_Some, Step, LinkUp, LinkDown, SetCost, Deliver, Publish, Release, Attach, Detach}
+use Rattle.no_packet_loops.proofs.Common.{find-map, find-put, prefix_cmp_total, option_map_or, false≢true, Prefix, prefix_cmp, prefix_eq, prefix_eq-Decides, Held, Item, Notice, Event, Port, Entry, Machine, Reaction, event_at_home, reaction, Router, World, machine_of, changed_attachments, changed_link, changed_router, changed_rows, chosen_rows, entry_eq, entry_of, front_at, has_row, next, notice_at, reactions, release_at, router_accepting, router_at_home, router_meeting, router_noticing, router_publishing, router_releasing, with_cost, with_delivered, with_front_taken, with_message, with_notice_taken, with_noticed, with_released, entry_from_eq, slice_get-changed_at, routers-changed_link, find as row_of, put, none-some, same_Some, Step, SetCost, Deliver, Publish, Release}
 use Rattle.run_states.specs.Books.{matches_prefix}
 use Rattle.run_states.specs.Marks.{message_prefix, touched_router, may_touch}
 
@@ -107,10 +107,7 @@ module _ (w : World) (i : ℕ) (x y : Router) (p : Prefix) (at : slice_get w.rou
   delivered q (Some (Item.Message m)) there apart =
       subst (SameMachine p x) (changed_is (router_accepting q (Item.Message m)) (changed_link i q with_front_taken w) (routers-changed_link i q with_front_taken w) there)
       (met_other x p m.prefix (Event.Message q m.kind m.value) chosen apart)
-  delivered q (Some (Item.Up session cost)) there apart = absurd (false≢true (sym apart))
-  delivered q (Some (Item.Down session)) there apart = absurd (false≢true (sym apart))
-  delivered q (Some (Item.Cost session cost)) there apart = absurd (false≢true (sym apart))
-  delivered q None there apart = absurd (false≢true (sym apart))
+  delivered q _ there apart = absurd (false≢true (sym apart))
 
   released : (o : Option Held) → slice_get (option_map_or (with_released i w) o w).routers i ≡ Some y → SameMachine p x y
   released None there = stays p x y (same_is w refl there)
@@ -142,8 +139,6 @@ module _ (w : World) (i : ℕ) (x y : Router) (p : Prefix) (at : slice_get w.rou
 
   -- the router that a step touches has for each prefix that it does not touch what it had
   pub machine_untouched : (s : Step) → touched_router w s ≡ Some i → slice_get (next w s).routers i ≡ Some y → may_touch w s p ≡ false → SameMachine p x y
-  machine_untouched (LinkUp l) is there apart = stays p x y (same_is w refl there)
-  machine_untouched (LinkDown l) is there apart = stays p x y (same_is w refl there)
   machine_untouched (SetCost j q cost) is there apart = stays p x y (same_is (changed_link j q (with_cost cost) w) (routers-changed_link j q (with_cost cost) w) there)
   machine_untouched (Deliver j q) is there apart =
       let here = same_Some j i is in
@@ -156,5 +151,4 @@ module _ (w : World) (i : ℕ) (x y : Router) (p : Prefix) (at : slice_get w.rou
   machine_untouched (Release j) is there apart =
       let here = same_Some j i is in
       released (release_at w i) (subst (λ k. slice_get (next w (Release k)).routers i ≡ Some y) here there)
-  machine_untouched (Attach j k cost) is there apart = stays p x y (same_is w refl there)
-  machine_untouched (Detach j k) is there apart = stays p x y (same_is w refl there)
+  machine_untouched _ is there apart = stays p x y (same_is w refl there)

@@ -1,7 +1,7 @@
 -- What a line asks for, by its first word.
 use Rattle.std.proofs.Common.{◌≡◌, ◌≢◌, ℕ, false, inl, inr, List, [], ◌∷◌, All, Contains, bytes_eq, codes, refl, sym, subst, ◌∙◌, arith}
 use Rattle.script.proofs.Common.{list_any, false≢true, bytes_eq-Decides, All-nil, All-cons, All-contains, list_any_at, Prefix, LinkSpec, Text, NamesRouter, NamesText, AsksDelivery, NamesNoAddress, NamesNoPrefix, NamesThrough, AsksNoStep, AsksNoTrace, AsksTrace, AsksBadQuestion, Asks, address_verbs, HasBadValue, AsksNothing, AsksDrawn, Command, LineFault}
-use Rattle.script.specs.declared.fault.LineFault.TheVariants.{BadName, BadLine, BadCost, BadCommand, TooLarge, NoMemory, Prefix as OfPrefix}
+use Rattle.script.specs.declared.fault.LineFault.TheVariants.{BadCommand, Prefix as OfPrefix}
 use Rattle.script.proofs.StepTexts.{clash, first_same, rest_same, no_prefix, no_verb, other_prefix}
 
 -- the words name no router and text after a verb that takes an address
@@ -124,15 +124,11 @@ module _ (names : List Text) (links : List LinkSpec) (attachments : List (Prefix
   module _ (rest : List Text) (some : rest ≢ []) where
     -- why words after `state` ask for nothing
     pub state_fault : (fault : LineFault) → NamesNoPrefix names attachments (codes "state") (codes "state" ∷ rest) fault → AsksNothing names links attachments (codes "state" ∷ rest) fault
-    state_fault BadName h = absurd h
-    state_fault BadLine h = absurd h
-    state_fault BadCost h = absurd h
     state_fault (OfPrefix fault) h = inr (inr (inl h))
     state_fault BadCommand h =
         no_command _ rest some (no_verb names links attachments _ rest refl refl refl refl refl refl refl refl) (λ after e. absurd (clash _ _ _ _ refl e)) h
         (other_router_verb names _ rest (apart_from _ router_verbs refl)) (no_queue names links _ rest refl) (other_verb names _ rest (apart_from _ address_verbs refl)) (λ router text n. clash _ _ _ _ refl n.spelled) (no_seed _ rest refl)
-    state_fault TooLarge h = absurd h
-    state_fault NoMemory h = absurd h
+    state_fault _ h = absurd h
 
     pub no_table : ((router : ℕ) → ¬ (NamesRouter names (codes "table") (codes "table" ∷ rest) router)) → AsksNothing names links attachments (codes "table" ∷ rest) BadCommand
     no_table none =
@@ -200,15 +196,10 @@ module _ (names : List Text) (links : List LinkSpec) (attachments : List (Prefix
     links_fault : (verb : Text) → bytes_eq verb (codes "try") ≡ false → bytes_eq verb (codes "state") ≡ false → bytes_eq verb (codes "queue") ≡ false → bytes_eq verb (codes "trace") ≡ false
         → bytes_eq verb (codes "settle") ≡ false → list_any (bytes_eq verb) address_verbs ≡ false → ((router : ℕ) → ¬ (NamesRouter names verb (verb ∷ rest) router))
         → (fault : LineFault) → AsksNoStep names links attachments (verb ∷ rest) fault → AsksNothing names links attachments (verb ∷ rest) fault
-    links_fault verb tried state queue trace settle address none BadName h = inl h
-    links_fault verb tried state queue trace settle address none BadLine h = inl h
-    links_fault verb tried state queue trace settle address none BadCost h = inl h
-    links_fault verb tried state queue trace settle address none (OfPrefix fault) h = inl h
     links_fault verb tried state queue trace settle address none BadCommand h =
         no_command verb rest some h (λ after e. absurd (clash _ _ _ _ tried e)) (other_prefix names links attachments _ _ _ state)
         (own_router_verb names verb rest none) (no_queue names links verb rest queue) (other_verb names verb rest (apart_from verb address_verbs address)) (λ router text n. clash _ _ _ _ trace n.spelled) (no_seed verb rest settle)
-    links_fault verb tried state queue trace settle address none TooLarge h = inl h
-    links_fault verb tried state queue trace settle address none NoMemory h = inl h
+    links_fault verb tried state queue trace settle address none _ h = inl h
 
     pub up_fault : ((router : ℕ) → ¬ (NamesRouter names (codes "up") (codes "up" ∷ rest) router))
         → (fault : LineFault) → AsksNoStep names links attachments (codes "up" ∷ rest) fault → AsksNothing names links attachments (codes "up" ∷ rest) fault

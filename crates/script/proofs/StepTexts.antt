@@ -1,7 +1,7 @@
 -- What the words of a line ask for, by the first of them.
 use Rattle.std.proofs.Common.{◌≡◌, ◌≢◌, ℕ, inl, inr, subst, ◌<◌, ◌≤◌, false, List, [], ◌∷◌, Some, None, bytes_eq, codes, decimal, refl, sym, ap, ◌∙◌, arith, true≢false}
 use Rattle.script.proofs.Common.{Spells, LinkSpec, Step, LinkUp, LinkDown, SetCost, Deliver, Publish, Release, Attach, Detach, Prefix, SpellsPrefix, IsFirstFault, PrefixFault, IsCost, degree, join_with_byte, decimal_injective, bytes_eq-Decides, join_with_byte-slice_split, Text, words_of, IsName, router_number, NamesRouter, NamesText, NamesTextAndNumber, NamesTwice, NamesWay, NamesLink, NamesNumber, IsKnownPrefix, NamesNoPrefix, AsksCost, AsksNoCost, AsksDelivery, AsksBadAttachment, AsksNoAttachment, AsksStep, AsksBadStep, AsksNoStep, IsPortOn, port_on, link_between, LineFault}
-use Rattle.script.specs.declared.fault.LineFault.TheVariants.{BadName, BadLine, BadCost, BadCommand, TooLarge, NoMemory, Prefix as OfPrefix}
+use Rattle.script.specs.declared.fault.LineFault.TheVariants.{BadCost, BadCommand, Prefix as OfPrefix}
 use Rattle.script.proofs.NameTexts.{words-name}
 use Rattle.script.proofs.Ports.{is_port, port_is}
 
@@ -137,13 +137,9 @@ module _ (names : List Text) (attachments : List (Prefix × ℕ × ℕ)) where
   no_attachment words none = (λ router prefix cost h. (none router cost h.0 h.1).0.0 prefix h.2 h.4, faults)
     where
       faults : (fault : LineFault) → ¬ (AsksBadAttachment names words fault)
-      faults BadName h = h
-      faults BadLine h = h
       faults BadCost h = h.6 (none h.0 h.1 h.2 h.4).1
       faults (OfPrefix fault) h = (none h.0 h.1 h.2 h.3).0.1 fault h.4
-      faults BadCommand h = h
-      faults TooLarge h = h
-      faults NoMemory h = h
+      faults _ h = h
 
 -- three words after a verb: a router, a text that is not empty, and a number
 abbrev pub names_parts : (names : List Text) (verb name text digits : Text) (ops : List Text) (router number : ℕ)

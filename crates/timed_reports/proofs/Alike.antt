@@ -1,6 +1,6 @@
 -- Steps that move no way to a prefix: links stay up or down in their sessions, and the rows that were published for it and the attachments to it stay.
 use Rattle.std.proofs.Common.{refl, sym, ap, subst, ◌∙◌, inl, inr, ◌≡◌, ℕ, ◌+◌, Bool, true, false, not, cond, List, [], ◌∷◌, map, Option, Some, None, option_map, option_and_then, slice_get}
-use Rattle.no_packet_loops.proofs.Common.{find-where_key, option_map_or, option_map_or-ind, map-changed_at, slice_get-map, false≢true, None_not_Some, Some_injective, prefix_cmp, prefix_eq, Prefix, Item, Held, End, A, B, Link, Router, Attachments, World, Place, side, other, changed_at, changed_side, changed_router, changed_link, changed_attachments, with_cost, with_item, with_front_taken, with_message, with_notice_taken, with_attachment, without_attachment, with_delivered, with_noticed, with_released, router_accepting, router_at_home, router_publishing, router_releasing, front_at, notice_at, release_at, place_at, next, Entry, attachment_at, IsWalk, walk_cost, Equal, is_eq, find as row_of, Step, LinkUp, LinkDown, SetCost, Deliver, Publish, Release, Attach, Detach}
+use Rattle.no_packet_loops.proofs.Common.{find-where_key, option_map_or, option_map_or-ind, map-changed_at, slice_get-map, false≢true, None_not_Some, Some_injective, prefix_cmp, prefix_eq, Prefix, Item, Held, End, A, B, Link, Router, Attachments, World, Place, side, other, changed_at, changed_side, changed_router, changed_link, changed_attachments, with_cost, with_item, with_front_taken, with_message, with_notice_taken, with_attachment, without_attachment, with_delivered, with_noticed, with_released, router_accepting, router_at_home, router_publishing, router_releasing, front_at, notice_at, release_at, place_at, next, Entry, attachment_at, IsWalk, walk_cost, Equal, is_eq, find as row_of, Step, SetCost, Deliver, Publish, Release, Attach, Detach}
 use Rattle.no_packet_loops.specs.Packets.{control_entry, published_entry}
 use Rattle.no_packet_loops.proofs.Machines.{prefix_same}
 use Rattle.no_packet_loops.proofs.Releasing.{by_message}
@@ -170,8 +170,6 @@ module _ (p : Prefix) where
 
   -- a step that moves no way to it
   pub alike_after : (w : World) (s : Step) → MovesNoWay w s p → IsAlike p w (next w s)
-  alike_after w (LinkUp l) still = absurd still
-  alike_after w (LinkDown l) still = absurd still
   alike_after w (SetCost i q cost) still = alike_link w i q (with_cost cost) (shape_cost cost)
   alike_after w (Deliver i q) still = option_map_or-ind (IsAlike p w) (with_delivered i q w) (front_at w i q) (option_map_or (with_noticed i w) (notice_at w i q) w)
       (option_map_or-ind (IsAlike p w) (with_noticed i w) (notice_at w i q) w (alike_itself p w)
@@ -182,17 +180,14 @@ module _ (p : Prefix) where
       (λ h is. alike_router w (changed_link i h.port (with_message h) w) i router_releasing (λ r. refl) (alike_link w i h.port (with_message h) (shape_message h)))
   alike_after w (Attach i q cost) still = alike_attached w i (with_attachment q cost) (cost_attaching q cost still)
   alike_after w (Detach i q) still = alike_attached w i (without_attachment q) (cost_detaching q still)
+  alike_after w _ still = absurd still
 
 -- a step that moves no ways moves none to a prefix
 pub still_moves_none : (w : World) (s : Step) (p : Prefix) → moves_ways s ≡ false → MovesNoWay w s p
-still_moves_none w (LinkUp l) p none = absurd (false≢true (sym none))
-still_moves_none w (LinkDown l) p none = absurd (false≢true (sym none))
 still_moves_none w (SetCost i q cost) p none = tt
 still_moves_none w (Deliver i q) p none = tt
-still_moves_none w (Publish i) p none = absurd (false≢true (sym none))
 still_moves_none w (Release i) p none = tt
-still_moves_none w (Attach i q cost) p none = absurd (false≢true (sym none))
-still_moves_none w (Detach i q) p none = absurd (false≢true (sym none))
+still_moves_none w _ p none = absurd (false≢true (sym none))
 
 -- so where nothing says that ways to a prefix moved, none did
 pub none_moved : (w : World) (s : Step) (marks : List Bool) → (moves_ways s ≡ true → MarksMoved w s marks) → (c : Watched) → IsStill s w.prefixes marks c → MovesNoWay w s c.prefix

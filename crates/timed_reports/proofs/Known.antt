@@ -1,6 +1,6 @@
 -- What goes on, goes on at a router of the network and for a prefix of it.
 use Rattle.std.proofs.Common.{refl, sym, ap, subst, ◌∙◌, arith, ◌≡◌, ℕ, zero, suc, ◌<◌, Bool, true, false, cond, not, if◌then◌else◌, List, [], ◌∷◌, map, length, Option, Some, None, option_and_then, option_map, slice_get, unwrap_or}
-use Rattle.no_packet_loops.proofs.Common.{false≢true, None_not_Some, slice_get_within, slice_get-map, length-map-range_with_len, prefix_cmp, prefix_eq, Prefix, Machine, Router, Attachments, World, Network, opening, opening_router_of, costs_of, prefixes_of, option_map_or, option_map_or-ind, changed_at, changed_link, with_attachment, without_attachment, with_cost, with_front_taken, with_message, with_notice_taken, with_delivered, with_noticed, with_released, front_at, notice_at, release_at, place_at, End, Link, Place, Lawful, next, Runs, list_any, range_with_len, by_order, where_key, opening_machine, neighbours, is_active, Ordering, Less, Equal, Greater, find as row_of, put, Step, LinkUp, LinkDown, SetCost, Deliver, Publish, Release, Attach, Detach}
+use Rattle.no_packet_loops.proofs.Common.{false≢true, None_not_Some, slice_get_within, slice_get-map, length-map-range_with_len, prefix_cmp, prefix_eq, Prefix, Machine, Router, Attachments, World, Network, opening, opening_router_of, costs_of, prefixes_of, option_map_or, option_map_or-ind, changed_at, changed_link, with_attachment, without_attachment, with_cost, with_front_taken, with_message, with_notice_taken, with_delivered, with_noticed, with_released, front_at, notice_at, release_at, place_at, End, Link, Place, Lawful, next, Runs, list_any, range_with_len, by_order, where_key, opening_machine, neighbours, is_active, Ordering, Less, Equal, Greater, find as row_of, put, Step, SetCost, Deliver, Release, Attach, Detach}
 use Rattle.no_packet_loops.proofs.Machines.{prefix_same}
 use Rattle.no_packet_loops.proofs.WorldLaws.{Runs-shape}
 use Rattle.coming_to_rest.proofs.Known.{Each, IsOf, Known, RouterKnown, each_at, known_run, known_next, opening_known}
@@ -57,16 +57,14 @@ link_known : (ps : List Prefix) (w : World) (i q : ℕ) (f : End → Link → Li
 link_known ps w i q f each = option_map_or-ind (λ (v : World). AreKnown ps (map costs v.attachments)) (λ (x : Place). record w { links = changed_at x.link (f x.end) w.links }) (place_at w i q) w each (λ x is. each)
 
 attached_next : (ps : List Prefix) (w : World) (s : Step) → Known ps w → Lawful w s → AreKnown ps (map costs w.attachments) → AreKnown ps (map costs (next w s).attachments)
-attached_next ps w (LinkUp l) K L each = each
-attached_next ps w (LinkDown l) K L each = each
 attached_next ps w (SetCost i q cost) K L each = link_known ps w i q (with_cost cost) each
 attached_next ps w (Deliver i q) K L each = option_map_or-ind (λ (v : World). AreKnown ps (map costs v.attachments)) (with_delivered i q w) (front_at w i q) (option_map_or (with_noticed i w) (notice_at w i q) w)
     (option_map_or-ind (λ (v : World). AreKnown ps (map costs v.attachments)) (with_noticed i w) (notice_at w i q) w each (λ n is. changed_known ps i with_notice_taken w.attachments (λ a of. of) each))
     (λ item is. link_known ps w i q with_front_taken each)
-attached_next ps w (Publish i) K L each = each
 attached_next ps w (Release i) K L each = option_map_or-ind (λ (v : World). AreKnown ps (map costs v.attachments)) (with_released i w) (release_at w i) w each (λ h is. link_known ps w i h.port (with_message h) each)
 attached_next ps w (Attach i p cost) K L each = changed_known ps i (with_attachment p cost) w.attachments (λ a of. put_of ps p cost a.costs (subst (λ xs. list_any (prefix_eq p) xs ≡ true) K.prefixes L.2) of) each
 attached_next ps w (Detach i p) K L each = changed_known ps i (without_attachment p) w.attachments (λ a of. kept_of ps (λ x. not (prefix_eq x p)) a.costs of) each
+attached_next ps w _ K L each = each
 
 attached_run : (ps : List Prefix) (w : World) (ss : List Step) (v : World) → Known ps w → Runs w ss v → AreKnown ps (map costs w.attachments) → AreKnown ps (map costs v.attachments)
 attached_run ps w [] v K same each = subst (λ (u : World). AreKnown ps (map costs u.attachments)) same each

@@ -40,9 +40,8 @@ module _ {A : Type 0} where
   -- and nothing else
   pub get_pushed : (xs : List A) (y : A) (k : ℕ) (x : A) → slice_get (xs ++ y ∷ []) k ≡ Some x → (slice_get xs k ≡ Some x) ⊎ (y ≡ x)
   get_pushed [] y zero x at = inr (Some_injective at)
-  get_pushed [] y (suc k) x at = inl at
-  get_pushed (z ∷ xs) y zero x at = inl at
   get_pushed (z ∷ xs) y (suc k) x at = get_pushed xs y k x at
+  get_pushed _ y _ x at = inl at
 
   -- what holds of each element holds after a push
   pub each_pushed : (P : A → Type 0) (xs : List A) (y : A) → ((k : ℕ) (x : A) → slice_get xs k ≡ Some x → P x) → P y → (k : ℕ) (x : A) → slice_get (xs ++ y ∷ []) k ≡ Some x → P x
@@ -66,11 +65,9 @@ module _ {A : Type 0} where
 
   -- another place keeps what it had
   pub set_other : (xs : List A) (k j : ℕ) (y : A) → j ≢ k → slice_get (set xs k y) j ≡ slice_get xs j
-  set_other [] k j y apart = refl
   set_other (z ∷ xs) zero zero y apart = absurd (apart refl)
-  set_other (z ∷ xs) zero (suc j) y apart = refl
-  set_other (z ∷ xs) (suc k) zero y apart = refl
   set_other (z ∷ xs) (suc k) (suc j) y apart = set_other xs k j y (λ e. apart (ap suc e))
+  set_other _ _ _ y apart = refl
 
   -- ---- lists that grow
 

@@ -1,6 +1,6 @@
 -- Steps that move no machine of a router, or none of those for a prefix.
 use Rattle.std.proofs.Common.{refl, sym, ap, subst, ◌∙◌, inl, inr, ◌≡◌, ◌≢◌, ℕ, false, List, map, Option, Some, None, Result, Ok, Err, IfSome, option_and_then, option_map, slice_get, unwrap_or}
-use Rattle.no_packet_loops.proofs.Common.{option_map_or, option_map_or-ind, map-changed_at, routers-changed_link, slice_get-map, slice_get-changed_at_other, false≢true, prefix_eq, Prefix, Machine, Item, Place, Side, Link, Router, World, changed_at, changed_link, changed_router, side, with_cost, with_front_taken, with_message, with_delivered, with_noticed, with_released, router_accepting, router_at_home, router_publishing, router_releasing, front_at, notice_at, release_at, place_at, next, None_not_Some, Some_injective, Message, Event, opening_machine, reaction, machine_of, neighbours, is_active, Step, LinkUp, LinkDown, SetCost, Deliver, Publish, Release, Attach, Detach}
+use Rattle.no_packet_loops.proofs.Common.{option_map_or, option_map_or-ind, map-changed_at, routers-changed_link, slice_get-map, slice_get-changed_at_other, false≢true, prefix_eq, Prefix, Machine, Item, Place, Side, Link, Router, World, changed_at, changed_link, changed_router, side, with_cost, with_front_taken, with_message, with_delivered, with_noticed, with_released, router_accepting, router_at_home, router_publishing, router_releasing, front_at, notice_at, release_at, place_at, next, None_not_Some, Some_injective, Message, Event, opening_machine, reaction, machine_of, neighbours, is_active, Step, SetCost, Deliver, Publish, Release}
 use Rattle.no_packet_loops.proofs.WorldLaws.{row_of-put_other}
 use Rattle.link_fifo.specs.declared.refusal.LinkRefusal.{LinkRefusal}
 use Rattle.link_fifo.specs.declared.refusal.LinkRefusal.TheVariants.{UnknownLink}
@@ -52,8 +52,6 @@ module _ (w : World) (i : ℕ) (p : Prefix) where
 
   -- a step of which the router's machine is left aside
   pub same_machine : (s : Step) (since : Option ℕ) → IsElsewhere w s (record { router = i; prefix = p; since = since }) → HasSame p i w (next w s)
-  same_machine (LinkUp l) since aside = refl
-  same_machine (LinkDown l) since aside = refl
   same_machine (SetCost j q cost) since aside = same_in (changed_link j q (with_cost cost) w) (routers-changed_link j q (with_cost cost) w)
   same_machine (Deliver j q) since (inl other) = option_map_or-ind (HasSame p i w) (with_delivered j q w) (front_at w j q) (option_map_or (with_noticed j w) (notice_at w j q) w)
       (option_map_or-ind (HasSame p i w) (with_noticed j w) (notice_at w j q) w refl
@@ -66,8 +64,7 @@ module _ (w : World) (i : ℕ) (p : Prefix) where
   same_machine (Publish j) since aside = kept_in j router_publishing (changed_router j router_publishing w) refl (λ r. refl)
   same_machine (Release j) since aside = option_map_or-ind (HasSame p i w) (with_released j w) (release_at w j) w refl
       (λ h is. kept_in j router_releasing (with_released j w h) (ap (changed_at j router_releasing) (routers-changed_link j h.port (with_message h) w)) (λ r. refl))
-  same_machine (Attach j q cost) since aside = refl
-  same_machine (Detach j q) since aside = refl
+  same_machine _ since aside = refl
 
 -- ---- which message is taken
 

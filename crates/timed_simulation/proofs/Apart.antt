@@ -1,6 +1,6 @@
 -- A router that an event's step does not touch, nor a link of it, keeps what it has to do next, and when.
 use Rattle.std.proofs.Common.{refl, sym, ap, ◌∙◌, arith, inl, inr, ◌≡◌, ◌≢◌, ℕ, zero, suc, ◌≤◌, max, Bool, true, false, ◌==◌, if◌then◌else◌, List, length, Option, Some, None, option_map, option_and_then, slice_get}
-use Rattle.no_packet_loops.proofs.Common.{option_map_or, other, Held, Item, Notice, Place, Link, Router, Attachments, Side, World, side, is_due, ripe_front, front_at, notice_at, release_at, is_at_home, degree_of, place_at, next, slice_get-changed_at_other, Step, LinkUp, LinkDown, SetCost, Deliver, Publish, Release, Attach, Detach}
+use Rattle.no_packet_loops.proofs.Common.{option_map_or, other, Held, Item, Notice, Place, Link, Router, Attachments, Side, World, side, is_due, ripe_front, front_at, notice_at, release_at, is_at_home, degree_of, place_at, next, slice_get-changed_at_other, Step, LinkUp, LinkDown, SetCost, Deliver, Publish, Release}
 use Rattle.no_packet_loops.proofs.WorldLaws.{next-shape}
 use Rattle.world.specs.Steps.{is_stale}
 use Rattle.world.specs.Touched.{LeavesOthers, touched_by}
@@ -45,7 +45,6 @@ link_time_untouched now w (LinkUp k) ks l apart = slice_get-changed_at_other (li
 link_time_untouched now w (LinkDown k) ks l apart = slice_get-changed_at_other (link_moved now Cut) k l ks (λ e. apart (ap Some (sym e)))
 link_time_untouched now w (SetCost i q cost) ks l apart = moved_other now (λ p. Put p.end true) (place_at w i q) ks l apart
 link_time_untouched now w (Deliver i q) ks l apart = moved_other now (λ p. Taken p.end) (place_at w i q) ks l apart
-link_time_untouched now w (Publish i) ks l apart = refl
 link_time_untouched now w (Release i) ks l apart = by_release (release_at w i) apart
   where
     by_stale : (h : Held) (b : Bool) → option_map (λ (p : Place). p.link) (place_at w i h.port) ≢ Some l
@@ -57,8 +56,7 @@ link_time_untouched now w (Release i) ks l apart = by_release (release_at w i) a
         → slice_get (links_after now (option_and_then (λ (h : Held). if is_stale w i h then None else option_map (λ (p : Place). (p.link, Put (other p.end) false)) (place_at w i h.port)) o) ks) l ≡ slice_get ks l
     by_release None apart = refl
     by_release (Some h) apart = by_stale h (is_stale w i h) apart
-link_time_untouched now w (Attach i p cost) ks l apart = refl
-link_time_untouched now w (Detach i p) ks l apart = refl
+link_time_untouched now w _ ks l apart = refl
 
 -- ---- what a router has to do
 

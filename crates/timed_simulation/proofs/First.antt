@@ -134,11 +134,7 @@ module _ (t : Timed) (m : ℕ) (from : t.clock ≤ m) where
   own_before (Publish i) D = published i D
   own_before (Deliver i q) (inl D) = arrived i q D
   own_before (Deliver i q) (inr D) = told i q D
-  own_before (LinkUp l) D = absurd D
-  own_before (LinkDown l) D = absurd D
-  own_before (SetCost i q cost) D = absurd D
-  own_before (Attach i p cost) D = absurd D
-  own_before (Detach i p) D = absurd D
+  own_before _ D = absurd D
 
   pub first_change_before : (c : Change) → slice_get t.changes 0 ≡ Some c → c.moment ≤ m → Before m (next_event t)
   first_change_before c at le = of_first m (change_event t) (soonest (router_event t) (length (world_of t).routers))
@@ -172,11 +168,7 @@ module _ (t : Timed) (K : IsOnTime (world_of t) t.clock t.links t.routers t.chan
       let arrives = D.arrives in
       omega (arith, after, arrives)
   own_later m (Deliver i q) (inr D) = (let now = D.now in omega (arith, now))
-  own_later m (LinkUp l) D = absurd D
-  own_later m (LinkDown l) D = absurd D
-  own_later m (SetCost i q cost) D = absurd D
-  own_later m (Attach i p cost) D = absurd D
-  own_later m (Detach i p) D = absurd D
+  own_later m _ D = absurd D
 
   change_later : (m : ℕ) (s : Step) → IsChange t m s → t.clock ≤ m
   change_later m s D = rises_at (λ (c : Change). c.moment) t.clock t.changes D.place (record { moment = m; step = s }) K.of_changes D.at

@@ -172,11 +172,9 @@ module _ (u : Timed) where
   stays_right i j moments many below right = by_place (cases_eq i j)
     where
       unwritten : (xs : List (Option ℕ)) (k l : ℕ) (x : Option ℕ) → l ≢ k → slice_get (set xs k x) l ≡ slice_get xs l
-      unwritten [] k l x other = refl
       unwritten (y ∷ ys) zero zero x other = absurd (other refl)
-      unwritten (y ∷ ys) zero (suc l) x other = refl
-      unwritten (y ∷ ys) (suc k) zero x other = refl
       unwritten (y ∷ ys) (suc k) (suc l) x other = unwritten ys k l x (λ e. other (ap suc e))
+      unwritten _ _ _ x other = refl
 
       by_test : i ≢ j → (b : Bool) → slice_get (if b then set moments j (next_moment u j) else moments) i ≡ slice_get moments i
       by_test other true = unwritten moments j i (next_moment u j) other

@@ -1,6 +1,6 @@
 -- Nothing is left to do exactly if no change is left and the network is settled.
 use Rattle.std.proofs.Common.{refl, sym, ap, ◌∙◌, inl, inr, ◌≡◌, ℕ, Bool, true, false, MatchBool, List, [], ◌∷◌, slice_get}
-use Rattle.no_packet_loops.proofs.Common.{None_not_Some, Lawful, Step, LinkUp, LinkDown, SetCost, Deliver, Publish, Release, Attach, Detach}
+use Rattle.no_packet_loops.proofs.Common.{None_not_Some, Lawful, Step, Deliver, Publish, Release}
 use Rattle.coming_to_rest.specs.Worlds.{is_own}
 use Rattle.convergence.proofs.AtRest.{rest_settled, settled_rests}
 use Rattle.timed_simulation.specs.declared.events.Change.{Change}
@@ -15,11 +15,7 @@ own_step t m (Release i) D = (refl, (D.held, D.ripe))
 own_step t m (Publish i) D = (refl, (D.router, D.at, D.due))
 own_step t m (Deliver i q) (inl D) = (refl, (D.router, D.at, inl (D.item, D.front)))
 own_step t m (Deliver i q) (inr D) = (refl, (D.router, D.at, inr (D.notice, D.waits)))
-own_step t m (LinkUp l) D = absurd D
-own_step t m (LinkDown l) D = absurd D
-own_step t m (SetCost i q cost) D = absurd D
-own_step t m (Attach i p cost) D = absurd D
-own_step t m (Detach i p) D = absurd D
+own_step t m _ D = absurd D
 
 pub rest_nothing : (t : Timed) → IsAtRest t → NothingIsDue t
 rest_nothing t rest d due = by_kind d.given due

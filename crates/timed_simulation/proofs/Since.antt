@@ -1,6 +1,6 @@
 -- Since when a router has something to publish is written down right.
 use Rattle.std.proofs.Common.{refl, sym, ap, subst, ◌∙◌, inl, inr, eq-eqb, ◌≡◌, ◌≢◌, ◌⊎◌, ℕ, Bool, true, false, if◌then◌else◌, List, [], ◌∷◌, ◌++◌, Option, Some, None, option_map, slice_get}
-use Rattle.no_packet_loops.proofs.Common.{option_map_or, cases_eq, false≢true, None_not_Some, Some_injective, slice_get-changed_at, slice_get-changed_at_other, routers-changed_link, changed_at, with_cost, with_delivered, with_front_taken, with_message, with_noticed, with_released, router_accepting, router_at_home, router_publishing, router_releasing, front_at, notice_at, release_at, is_due, is_settled, next, opening, IsNetwork, Lawful, Runs, Held, Item, Notice, Network, Router, World, Step, LinkUp, LinkDown, SetCost, Deliver, Publish, Release, Attach, Detach}
+use Rattle.no_packet_loops.proofs.Common.{option_map_or, cases_eq, false≢true, None_not_Some, Some_injective, slice_get-changed_at, slice_get-changed_at_other, routers-changed_link, changed_at, with_cost, with_delivered, with_front_taken, with_message, with_noticed, with_released, router_accepting, router_at_home, router_publishing, router_releasing, front_at, notice_at, release_at, is_due, is_settled, next, opening, IsNetwork, Lawful, Runs, Held, Item, Notice, Network, Router, World, Step, SetCost, Deliver, Publish, Release}
 use Rattle.no_packet_loops.proofs.Wiring.{few_routers}
 use Rattle.convergence.proofs.AtRest.{settled_rests}
 use Rattle.world.specs.Rest.{unrest}
@@ -62,8 +62,6 @@ module _ (w : World) (i : ℕ) where
       by_place (inr other) more = sym (other_due j router_releasing other) ∙ more
 
   begun : (s : Step) → Lawful w s → is_due_at w i ≡ false → is_due_at (next w s) i ≡ true → begins_at w s ≡ Some i
-  begun (LinkUp l) L none due = absurd (false≢true (sym none ∙ due))
-  begun (LinkDown l) L none due = absurd (false≢true (sym none ∙ due))
   begun (SetCost j q cost) L none due = absurd (false≢true (sym none ∙ sym (ap due_in (routers-changed_link j q (with_cost cost) w)) ∙ due))
   begun (Deliver j q) L none due = by_place (cases_eq i j)
     where
@@ -76,8 +74,7 @@ module _ (w : World) (i : ℕ) where
       by_place (inl same) = absurd (false≢true (sym none ∙ ap (λ (o : Option Router). option_map_or is_due o false) (ap (slice_get w.routers) same ∙ L.1) ∙ L.2))
       by_place (inr other) = absurd (false≢true (sym none ∙ sym (other_due j router_publishing other) ∙ due))
   begun (Release j) L none due = absurd (false≢true (sym none ∙ released_due j (release_at w j) due))
-  begun (Attach j p cost) L none due = absurd (false≢true (sym none ∙ due))
-  begun (Detach j p) L none due = absurd (false≢true (sym none ∙ due))
+  begun _ L none due = absurd (false≢true (sym none ∙ due))
 
   had_nothing : (s : Step) → begins_at w s ≡ Some i → is_due_at w i ≡ false
   had_nothing (Deliver j q) is = by_due (is_due_at w j) refl is

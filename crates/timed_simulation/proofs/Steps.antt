@@ -1,6 +1,6 @@
 -- A step that is done at a moment leaves the moments of items and of publications on time.
 use Rattle.std.proofs.Common.{refl, sym, ap, subst, ◌∙◌, arith, inl, inr, ltb-true, lt-ltb, ◌≡◌, ◌≢◌, ◌⊎◌, ℕ, ◌+◌, ◌-◌, ◌<◌, ◌≤◌, Bool, true, false, not, ◌||◌, nat_lt, if◌then◌else◌, List, [], ◌∷◌, drop, filter, length, Option, Some, None, option_map, option_and_then, slice_get}
-use Rattle.no_packet_loops.proofs.Common.{option_map_or, or_cases, false≢true, length-changed_at, None_not_Some, Some_injective, routers-changed_link, changed_at, changed_rows, with_cost, with_delivered, with_front_taken, with_item, with_message, with_noticed, with_released, link_come_up, link_gone_down, router_accepting, router_at_home, router_publishing, router_releasing, other, place_at, front_at, notice_at, release_at, is_due, is_notice, is_up_in, next, Lawful, Held, Item, Notice, Place, End, A, B, Link, Router, World, Step, LinkUp, LinkDown, SetCost, Deliver, Publish, Release, Attach, Detach}
+use Rattle.no_packet_loops.proofs.Common.{option_map_or, or_cases, false≢true, length-changed_at, None_not_Some, Some_injective, routers-changed_link, changed_at, changed_rows, with_cost, with_delivered, with_front_taken, with_item, with_message, with_noticed, with_released, link_come_up, link_gone_down, router_accepting, router_at_home, router_publishing, router_releasing, other, place_at, front_at, notice_at, release_at, is_due, is_notice, is_up_in, next, Lawful, Held, Item, Notice, Place, End, A, B, Link, Router, World, Step, LinkUp, LinkDown, SetCost, Deliver, Publish, Release}
 use Rattle.world.specs.Steps.{is_stale}
 use Rattle.timed_simulation.specs.declared.links.Motion.TheVariants.{Told, Cut, Put, Taken}
 use Rattle.timed_simulation.specs.declared.events.RouterTime.{RouterTime}
@@ -92,14 +92,12 @@ module _ (w : World) (m : ℕ) (fits : m ≤ last_moment) (xs : List TimedLink) 
           by_kind : ((item : Item) × (front_at w i q ≡ Some item)) ⊎ ((n : Notice) × (notice_at w i q ≡ Some n)) → AreTimelyLinks m (option_map_or (with_noticed i w) (notice_at w i q) w).links (links_after m (option_map (λ (p : Place). (p.link, Taken p.end)) (place_at w i q)) xs)
           by_kind (inl item) = absurd (None_not_Some (sym front ∙ item.1))
           by_kind (inr n) = told_home i q n.0 n.1 (notice_at w i q)
-  links_next (Publish i) L = T
   links_next (Release i) L = by_held (release_at w i)
     where
       by_held : (o : Option Held) → AreTimelyLinks m (option_map_or (with_released i w) o w).links (links_after m (option_and_then (λ (h : Held). if is_stale w i h then None else option_map (λ (p : Place). (p.link, Put (other p.end) false)) (place_at w i h.port)) o) xs)
       by_held None = T
       by_held (Some h) = released i h (place_at w i h.port)
-  links_next (Attach i p cost) L = T
-  links_next (Detach i p) L = T
+  links_next _ L = T
 
 -- ---- routers
 
@@ -157,8 +155,6 @@ module _ (w : World) (m : ℕ) (fits : m ≤ last_moment) (xs : List RouterTime)
       by_due false _ = changed_now i f
 
   pub routers_next : (s : Step) → Lawful w s → AreTimelyRouters m (next w s).routers (routers_after m (begins_at w s) xs)
-  routers_next (LinkUp l) L = T
-  routers_next (LinkDown l) L = T
   routers_next (SetCost i q cost) L = subst (λ (rs : List Router). AreTimelyRouters m rs xs) (sym (routers-changed_link i q (with_cost cost) w)) T
   routers_next (Deliver i q) L = by_front (front_at w i q) refl
     where
@@ -175,5 +171,4 @@ module _ (w : World) (m : ℕ) (fits : m ≤ last_moment) (xs : List RouterTime)
       by_held : (o : Option Held) → AreTimelyRouters m (option_map_or (with_released i w) o w).routers xs
       by_held None = T
       by_held (Some h) = subst (λ (rs : List Router). AreTimelyRouters m (changed_at i router_releasing rs) xs) (sym (routers-changed_link i h.port (with_message h) w)) (changed_due i router_releasing (λ r _ due. still_due r due))
-  routers_next (Attach i p cost) L = T
-  routers_next (Detach i p) L = T
+  routers_next _ L = T

@@ -10,10 +10,9 @@ all_read Says lines items i reads count past =
 -- what holds of each item that a line says holds of all items
 pub all_said : {X : Type 0} (Says : Text → X → Type 0) (P : X → Type 0) (lines : List Text) (items : List X) → ((line : Text) (x : X) → Says line x → P x) → AllZip Says lines items → All P items
 all_said Says P [] [] each says i d within = absurd (omega (arith, within))
-all_said Says P [] (x ∷ xs) each says i d within = absurd says
-all_said Says P (line ∷ lines) [] each says i d within = absurd says
 all_said Says P (line ∷ lines) (x ∷ xs) each says zero d within = each line x says.0
 all_said Says P (line ∷ lines) (x ∷ xs) each says (suc i) d within = all_said Says P lines xs each says.1 i d (omega (arith, within))
+all_said Says P _ _ each says i d within = absurd says
 
 pub not_so : (b : Bool) → true ≡ not b → b ≡ false
 not_so false is = refl
@@ -22,6 +21,5 @@ not_so true is = absurd (true≢false is)
 -- as many are read as there are lines
 pub zip_length : {X Y : Type 0} (R : X → Y → Type 0) (xs : List X) (ys : List Y) → AllZip R xs ys → length ys ≡ length xs
 zip_length R [] [] all = refl
-zip_length R [] (y ∷ ys) all = absurd all
-zip_length R (x ∷ xs) [] all = absurd all
 zip_length R (x ∷ xs) (y ∷ ys) all = ap suc (zip_length R xs ys all.1)
+zip_length R _ _ all = absurd all

@@ -102,9 +102,8 @@ module _ (f : Fabric) (forwards : ForwardsAsPublished f) (addr : ℕ) where
 
   -- so where a packet of one prefix goes on, it does along the images in force
   pub walk_in_force : (p : Prefix) (walk : List ℕ) → IsPacketWalk f.world addr p walk → IsImageWalk f none_published addr p walk
-  walk_in_force p [] w = tt
-  walk_in_force p (i ∷ []) w = tt
   walk_in_force p (i ∷ k ∷ ks) w = (((w.0).0, row_in_force i (p, (w.0).0) (w.0).1, (w.0).2), walk_in_force p (k ∷ ks) w.1)
+  walk_in_force p _ w = tt
 
   -- and a packet of any prefixes
   hop_in_force : (i k : ℕ) → hop f.world addr i ≡ Some k → image_hop f none_published addr i ≡ Some k

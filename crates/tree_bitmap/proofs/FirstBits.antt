@@ -60,24 +60,21 @@ nibbles_from_top p q (suc depth) h e k l =
 -- two internal bits are the same only for the same length and the same last bits
 pub internal_bit_same : (f g l m : ℕ) → f < 16 → g < 16 → l < 4 → m < 4 → internal_bit f l ≡ internal_bit g m
     → (l ≡ m) × (f / 2 ^ (4 - l) ≡ g / 2 ^ (4 - m))
-internal_bit_same f g zero zero a b h k e = (omega arith, omega arith)
 internal_bit_same f g zero (suc zero) a b h k e = absurd (omega arith)
 internal_bit_same f g zero (suc (suc zero)) a b h k e = absurd (omega arith)
 internal_bit_same f g zero (suc (suc (suc zero))) a b h k e = absurd (omega arith)
 internal_bit_same f g (suc zero) zero a b h k e = absurd (omega arith)
-internal_bit_same f g (suc zero) (suc zero) a b h k e = (omega arith, omega arith)
 internal_bit_same f g (suc zero) (suc (suc zero)) a b h k e = absurd (omega arith)
 internal_bit_same f g (suc zero) (suc (suc (suc zero))) a b h k e = absurd (omega arith)
 internal_bit_same f g (suc (suc zero)) zero a b h k e = absurd (omega arith)
 internal_bit_same f g (suc (suc zero)) (suc zero) a b h k e = absurd (omega arith)
-internal_bit_same f g (suc (suc zero)) (suc (suc zero)) a b h k e = (omega arith, omega arith)
 internal_bit_same f g (suc (suc zero)) (suc (suc (suc zero))) a b h k e = absurd (omega arith)
 internal_bit_same f g (suc (suc (suc zero))) zero a b h k e = absurd (omega arith)
 internal_bit_same f g (suc (suc (suc zero))) (suc zero) a b h k e = absurd (omega arith)
 internal_bit_same f g (suc (suc (suc zero))) (suc (suc zero)) a b h k e = absurd (omega arith)
-internal_bit_same f g (suc (suc (suc zero))) (suc (suc (suc zero))) a b h k e = (omega arith, omega arith)
 internal_bit_same f g (suc (suc (suc (suc n)))) m a b h k e = absurd (omega arith)
 internal_bit_same f g l (suc (suc (suc (suc n)))) a b h k e = absurd (omega arith)
+internal_bit_same f g _ _ a b h k e = (omega arith, omega arith)
 
 -- the first bits of four are few
 last_small : (f len : ℕ) → f < 16 → len < 4 → f / 2 ^ (4 - len) < 2 ^ len

@@ -95,9 +95,7 @@ can_be limits routers before a good =
     by_tests : (x : Bool) → nat_lt a.1 routers ≡ x → (y z : Bool) → list_any (λ b. has_same_prefix a b && (b.1 == a.1)) before ≡ z
         → (not (x && y) || z || not (list_any (has_same_prefix a) before || nat_lt (length (prefixes_of before)) limits.prefixes)) ≡ false → CanBe routers before a
     by_tests true x true false z h = record { known = ltb-true a.1 routers x; new_there = z }
-    by_tests true x true true z h = absurd (true≢false h)
-    by_tests true x false z e h = absurd (true≢false h)
-    by_tests false x y z e h = absurd (true≢false h)
+    by_tests _ x _ _ _ h = absurd (true≢false h)
 
 -- two attachments clash: one router has one prefix by both
 clash : (a b : Prefix × ℕ × ℕ) → a.0 ≡ b.0 → a.1 ≡ b.1 → (has_same_prefix a b && (b.1 == a.1)) ≡ true

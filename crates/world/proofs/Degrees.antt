@@ -12,9 +12,8 @@ length-places_from l i (s ∷ ss) = by_ends (s.a == i) (s.b == i) (length-places
   where
     by_ends : (a b : Bool) → length (places_from (l + 1) i ss) ≡ length (filter (touches i) ss)
         → length (cons_option (option_map (place_of l) (if a then Some A else (if b then Some B else None))) (places_from (l + 1) i ss)) ≡ length (cond (a || b) (s ∷ filter (touches i) ss) (filter (touches i) ss))
-    by_ends true b rest = ap suc rest
-    by_ends false true rest = ap suc rest
     by_ends false false rest = rest
+    by_ends _ _ rest = ap suc rest
 
 pub ports-degree : (i : ℕ) (ss : List LinkSpec) → length (places_from 0 i ss) ≡ degree i ss
 ports-degree i ss = length-places_from 0 i ss ∙ length-filter (touches i) ss
@@ -30,9 +29,7 @@ degree-more i before s =
 
 all_three : (a b c : Bool) → not (a && b && c) ≡ false → (a ≡ true) × (b ≡ true) × (c ≡ true)
 all_three true true true e = (refl, refl, refl)
-all_three true true false e = absurd (true≢false e)
-all_three true false c e = absurd (true≢false e)
-all_three false b c e = absurd (true≢false e)
+all_three _ _ _ e = absurd (true≢false e)
 
 module _ (limits : Limits) where
   within_one : (i : ℕ) (before : List LinkSpec) (s : LinkSpec) → is_link_too_many limits before s ≡ false → degree i before ≤ limits.ports → degree i (before ++ s ∷ []) ≤ limits.ports
@@ -118,10 +115,7 @@ module _ (limits : Limits) where
           let count = counted false is in
           let one = ltb-true (length (prefixes_of before)) limits.prefixes n in
           (omega (arith, room, longer), omega (arith, count, one))
-      by_tests true true r false false is false n h = absurd (true≢false h)
-      by_tests true true r true given is new n h = absurd (true≢false h)
-      by_tests true false r twice given is new n h = absurd (true≢false h)
-      by_tests false room r twice given is new n h = absurd (true≢false h)
+      by_tests _ _ r _ _ is _ n h = absurd (true≢false h)
 
   attachments_within : (routers : ℕ) (before rest : List (Prefix × ℕ × ℕ)) → first_cause (attachment_causes limits routers before rest) ≡ None → IsFew before → IsFew (before ++ rest)
   attachments_within routers before [] none few = subst IsFew (sym (append-nil before)) few
@@ -157,8 +151,7 @@ module _ (limits : Limits) where
     where
       second : (a b : Bool) → not (a && b) ≡ false → b ≡ true
       second true true e = refl
-      second true false e = absurd (true≢false e)
-      second false b e = absurd (true≢false e)
+      second _ _ e = absurd (true≢false e)
 
 -- so no router has more than 32 ports
 pub few_ports : (n : Network) (i : ℕ) → network_fault widest_limits n ≡ None → length (places_from 0 i n.links) ≤ 32

@@ -310,9 +310,8 @@ known_there w i p none = by_tests (slice_get w.routers i) refl (is_known w p) re
   where
     by_tests : (o : Option Router) → slice_get w.routers i ≡ o → (b : Bool) → is_known w p ≡ b → first_cause ((is_none o, Refusal.UnknownRouter) ∷ (not b, Refusal.UnknownPrefix) ∷ []) ≡ None
         → ((r : Router) × (slice_get w.routers i ≡ Some r)) × (is_known w p ≡ true)
-    by_tests None there b known e = absurd (None_not_Some (sym e))
     by_tests (Some r) there true known e = ((r, there), known)
-    by_tests (Some r) there false known e = absurd (None_not_Some (sym e))
+    by_tests _ there _ known e = absurd (None_not_Some (sym e))
 
 -- the router has its attachments
 pub known_within : (w : World) (i : ℕ) (p : Prefix) → IsWorld w → prefix_refusal w i p ≡ None → i < length w.attachments

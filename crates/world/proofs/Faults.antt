@@ -16,14 +16,12 @@ no_test a b x y cs fails fails_too = ap (λ t. if t then Some x else first_cause
 
 -- two tests alone, of which one may hold, and the same two before others
 pub first_of_two : {X : Type 0} (a b : Bool) (x y : X) (cs : List (Bool × X)) (o : Option X) → o ≡ first_cause ((a, x) ∷ (b, y) ∷ []) → is_some o ≡ true → first_cause ((a, x) ∷ (b, y) ∷ cs) ≡ o
-first_of_two true b x y cs o is some = sym is
-first_of_two false true x y cs o is some = sym is
 first_of_two false false x y cs o is some = absurd (true≢false (sym some ∙ ap is_some is))
+first_of_two _ _ x y cs o is some = sym is
 
 pub none_of_two : {X : Type 0} (a b : Bool) (x y : X) (cs : List (Bool × X)) (o : Option X) → o ≡ first_cause ((a, x) ∷ (b, y) ∷ []) → is_some o ≡ false → first_cause ((a, x) ∷ (b, y) ∷ cs) ≡ first_cause cs
-none_of_two true b x y cs o is none = absurd (true≢false (sym (ap is_some is) ∙ none))
-none_of_two false true x y cs o is none = absurd (true≢false (sym (ap is_some is) ∙ none))
 none_of_two false false x y cs o is none = refl
+none_of_two _ _ x y cs o is none = absurd (true≢false (sym (ap is_some is) ∙ none))
 
 -- ---- links
 

@@ -2,7 +2,7 @@
 use Rattle.std.proofs.Common.{refl, sym, ap, ◌∙◌, arith, ◌≡◌, ℕ, ◌+◌, Bool, true, false, cond, not, ◌&&◌, ◌||◌, ◌==◌, if◌then◌else◌, List, [], ◌∷◌, ◌++◌, length}
 use Rattle.std.specs.BTreeMap.{is_at}
 use Rattle.std.specs.BTreeSet.{contains}
-use Rattle.no_packet_loops.proofs.Common.{list_any, list_any-append, Prefix, prefix_cmp, prefix_eq, Ordering, Less, Equal, Greater, is_eq, nat_cmp, ordering_then, nat_tests}
+use Rattle.no_packet_loops.proofs.Common.{list_any, list_any-append, Prefix, prefix_cmp, prefix_eq, Ordering, Less, is_eq, nat_cmp, ordering_then, nat_tests}
 use Rattle.world.specs.Given.{pair_cmp, IsGiven}
 use Rattle.world.specs.declared.attachment_faults.Given.{Given}
 use Rattle.world.proofs.Prefixes.{one_unless, one_more_prefix}
@@ -10,8 +10,7 @@ use Rattle.world.proofs.Prefixes.{one_unless, one_more_prefix}
 -- pairs tie where both parts do
 pairs_tie : (o u : Ordering) → is_eq (ordering_then o u) ≡ (is_eq o && is_eq u)
 pairs_tie Less u = refl
-pairs_tie Equal u = refl
-pairs_tie Greater u = refl
+pairs_tie _ u = refl
 
 numbers_tie : (m n : ℕ) → is_eq (nat_cmp m n) ≡ (m == n)
 numbers_tie m n = grind (arith, nat_tests)

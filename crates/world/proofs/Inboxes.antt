@@ -52,16 +52,14 @@ gone_down-keeps k up End.B port h = leads_down port k.session (k.b).inbox (leads
 
 pub with_cost-keeps : (cost : ℕ) (e : End) (k : Link) → k.up ≡ true → KeepsLeading (with_cost cost e) k
 with_cost-keeps c End.A k up End.A port h = subst (λ b. ItemsLead port b ((k.a).inbox ++ Item.Cost k.session c ∷ [])) (sym up) (leads_cost port k.session c (k.a).inbox (leads_along port k.up (k.a).inbox up h))
-with_cost-keeps c End.A k up End.B port h = h
-with_cost-keeps c End.B k up End.A port h = h
 with_cost-keeps c End.B k up End.B port h = subst (λ b. ItemsLead port b ((k.b).inbox ++ Item.Cost k.session c ∷ [])) (sym up) (leads_cost port k.session c (k.b).inbox (leads_along port k.up (k.b).inbox up h))
+with_cost-keeps c _ k up _ port h = h
 
 -- a message that is put on a link that is up
 put-keeps : (m : Message) (e : End) (k : Link) → k.up ≡ true → KeepsLeading (changed_side (other e) (with_item (Item.Message m))) k
-put-keeps m End.A k up End.A port h = h
 put-keeps m End.A k up End.B port h = subst (λ b. ItemsLead port b ((k.b).inbox ++ Item.Message m ∷ [])) (sym up) (leads_message port m (k.b).inbox (leads_along port k.up (k.b).inbox up h))
 put-keeps m End.B k up End.A port h = subst (λ b. ItemsLead port b ((k.a).inbox ++ Item.Message m ∷ [])) (sym up) (leads_message port m (k.a).inbox (leads_along port k.up (k.a).inbox up h))
-put-keeps m End.B k up End.B port h = h
+put-keeps m _ k up _ port h = h
 
 -- or is discarded
 pub with_message-keeps : (h : Held) (e : End) (k : Link) → KeepsLeading (with_message h e) k

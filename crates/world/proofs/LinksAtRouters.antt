@@ -78,9 +78,7 @@ good_ends routers s good = by_tests (nat_lt s.a routers) refl (nat_lt s.b router
   where
     by_tests : (x : Bool) → nat_lt s.a routers ≡ x → (y : Bool) → nat_lt s.b routers ≡ y → (z : Bool) → (s.a == s.b) ≡ z → (not (x && y) || z) ≡ false → HasEnds routers s
     by_tests true a true b false e h = record { a_known = ltb-true s.a routers a; b_known = ltb-true s.b routers b; differ = λ same. true≢false (sym (eq-eqb s.a s.b same) ∙ e) }
-    by_tests true a true b true e h = absurd (true≢false h)
-    by_tests true a false b z e h = absurd (true≢false h)
-    by_tests false a y b z e h = absurd (true≢false h)
+    by_tests _ a _ b _ e h = absurd (true≢false h)
 
 -- of what touches a router there is one more where it is an end
 touching_here : (i : ℕ) (before : List LinkSpec) (s : LinkSpec) → touches i s ≡ true → filter (touches i) (before ++ s ∷ []) ≡ filter (touches i) before ++ s ∷ []

@@ -1,6 +1,6 @@
 -- How many prefixes attachments are of, one attachment after another, and which.
 use Rattle.std.proofs.Common.{refl, sym, ap, ◌∙◌, arith, ◌≡◌, ℕ, suc, ◌+◌, ◌-◌, ◌<◌, ◌≤◌, Bool, true, false, cond, ◌||◌, List, [], ◌∷◌, ◌++◌, map, length, drop, get_or, if◌then◌else◌, length-drop, reverse}
-use Rattle.no_packet_loops.proofs.Common.{list_any, length-map, map-append, list_any-append, Prefix, prefix_cmp, prefix_eq, prefix_cmp_total, prefix_eq-Decides, distinct, prefixes_of, rows_of, has_same_prefix, sorted-rows_of, reverse-append, is_eq, ordering_reverse, Ordering, Less, Equal, Greater, drop-cons}
+use Rattle.no_packet_loops.proofs.Common.{list_any, length-map, map-append, list_any-append, Prefix, prefix_cmp, prefix_eq, prefix_cmp_total, prefix_eq-Decides, distinct, prefixes_of, rows_of, has_same_prefix, sorted-rows_of, reverse-append, is_eq, ordering_reverse, Ordering, Less, drop-cons}
 use Rattle.route_table.proofs.Kept.{length-put_at_most}
 
 -- the test does not ask which prefix comes first
@@ -9,8 +9,7 @@ prefix_eq-turned p q = ap is_eq (prefix_cmp_total.antisymm p q) ∙ by_order (pr
   where
     by_order : (o : Ordering) → is_eq (ordering_reverse o) ≡ is_eq o
     by_order Less = refl
-    by_order Equal = refl
-    by_order Greater = refl
+    by_order _ = refl
 
 -- one of the changed elements passes the test where one passes it changed
 any-map : {X Y : Type 0} (test : Y → Bool) (f : X → Y) (xs : List X) → list_any test (map f xs) ≡ list_any (λ x. test (f x)) xs

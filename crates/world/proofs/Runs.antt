@@ -1,6 +1,6 @@
 -- Runs by more steps, and the room that a run leaves for generations.
 use Rattle.std.proofs.Common.{refl, sym, subst, arith, ◌≡◌, ℕ, zero, suc, ◌+◌, ◌<◌, ◌^◌, List, [], ◌∷◌, ◌++◌, map, length, get_or, All}
-use Rattle.no_packet_loops.proofs.Common.{range_with_len, Item, End, changed_at, Link, Router, Network, World, opening, opening_router_of, Lawful, next, changed_router, changed_link, with_cost, with_front_taken, with_message, with_delivered, with_noticed, with_released, front_at, notice_at, release_at, changed_attachments, with_notice_taken, router_accepting, router_at_home, router_publishing, router_releasing, Runs, option_map_or-ind, routers-changed_link, Step, LinkUp, LinkDown, SetCost, Deliver, Publish, Release, Attach, Detach}
+use Rattle.no_packet_loops.proofs.Common.{range_with_len, Item, End, changed_at, Link, Router, Network, World, opening, opening_router_of, Lawful, next, changed_router, changed_link, with_cost, with_front_taken, with_message, with_delivered, with_noticed, with_released, front_at, notice_at, release_at, changed_attachments, with_notice_taken, router_accepting, router_at_home, router_publishing, router_releasing, Runs, option_map_or-ind, routers-changed_link, Step, SetCost, Deliver, Publish, Release}
 use Rattle.convergence.proofs.Converging.{runs_append}
 use Rattle.world.specs.Steps.{HasRoomForSteps}
 
@@ -47,8 +47,6 @@ next-room n w s room = by_step s
     less = less_room n (suc n) w (omega arith) room
 
     by_step : (s : Step) → HasRoomForSteps n (next w s)
-    by_step (LinkUp l) = less
-    by_step (LinkDown l) = less
     by_step (SetCost i q cost) = room-changed_link n i q (with_cost cost) w less
     by_step (Deliver i q) = option_map_or-ind (HasRoomForSteps n) (with_delivered i q w) (front_at w i q) _
         (option_map_or-ind (HasRoomForSteps n) (with_noticed i w) (notice_at w i q) w less
@@ -58,8 +56,7 @@ next-room n w s room = by_step s
         all-changed_at (λ r. r.generation + suc n < 2 ^ 64) (λ r. r.generation + n < 2 ^ 64) router_publishing i w.routers (λ r h. omega (arith, h)) (λ r h. omega (arith, h)) room
     by_step (Release i) = option_map_or-ind (HasRoomForSteps n) (with_released i w) (release_at w i) w less
         (λ h _. room-changed_router n i router_releasing (changed_link i h.port (with_message h) w) (λ _. refl) (room-changed_link n i h.port (with_message h) w less))
-    by_step (Attach i p cost) = less
-    by_step (Detach i p) = less
+    by_step _ = less
 
 -- so a run takes room for as many as it has steps
 pub run-room : (ss : List Step) (n : ℕ) (w v : World) → Runs w ss v → HasRoomForSteps (length ss + n) w → HasRoomForSteps n v

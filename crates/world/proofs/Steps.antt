@@ -136,10 +136,9 @@ front_taken-up End.B k = refl
 
 -- the other end stays
 front_taken-across : (e d : End) (k : Link) → (d ≡ e → ⊥) → side d (with_front_taken e k) ≡ side d k
-front_taken-across End.A End.A k apart = absurd (apart refl)
 front_taken-across End.A End.B k apart = refl
 front_taken-across End.B End.A k apart = refl
-front_taken-across End.B End.B k apart = absurd (apart refl)
+front_taken-across _ _ k apart = absurd (apart refl)
 
 -- router i takes this item, which is the front one, from its port q at place p
 module _ (i q : ℕ) (p : Place) (item : Item) (w : World) (h : IsWorld w) (at : place_at w i q ≡ Some p) (front : (k : Link) → slice_get w.links p.link ≡ Some k → slice_get (side p.end k).inbox 0 ≡ Some item) where

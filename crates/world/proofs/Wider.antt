@@ -18,9 +18,7 @@ module _ (l m : Limits) (within : AreWithin l m) where
           let of_a = below_wider (degree s.a before) l.ports m.ports within.ports y in
           let of_b = below_wider (degree s.b before) l.ports m.ports within.ports z in
           λ i. not (links i && of_a i && of_b i)
-      by_tests true x true y false z h = absurd (true≢false h)
-      by_tests true x false y z e h = absurd (true≢false h)
-      by_tests false x y e z f h = absurd (true≢false h)
+      by_tests _ x _ _ _ _ h = absurd (true≢false h)
 
   links_wider : (routers : ℕ) (before ss : List LinkSpec) → first_cause (link_causes l routers before ss) ≡ None → first_cause (link_causes m routers before ss) ≡ None
   links_wider routers before [] none = refl
@@ -42,10 +40,7 @@ module _ (l m : Limits) (within : AreWithin l m) where
           → (not (known && room) || twice || not (given || new)) ≡ false → (not (known && wider) || twice || not (given || newer)) ≡ false
       by_tests true true wider w false true new newer n h = ap (λ x. not (true && x) || false || not (true || newer)) (w refl)
       by_tests true true wider w false false true newer n h = let e = w refl in let f = n refl in λ i. not (true && e i) || false || not (false || f i)
-      by_tests true true wider w false false false newer n h = absurd (true≢false h)
-      by_tests true true wider w true given new newer n h = absurd (true≢false h)
-      by_tests true false wider w twice given new newer n h = absurd (true≢false h)
-      by_tests false room wider w twice given new newer n h = absurd (true≢false h)
+      by_tests _ _ wider w _ _ _ newer n h = absurd (true≢false h)
 
   attachments_wider : (routers : ℕ) (before rest : List (Prefix × ℕ × ℕ)) → first_cause (attachment_causes l routers before rest) ≡ None → first_cause (attachment_causes m routers before rest) ≡ None
   attachments_wider routers before [] none = refl

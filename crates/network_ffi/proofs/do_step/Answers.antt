@@ -10,10 +10,9 @@ use Rattle.network_ffi.proofs.do_step.Goals as goal
 
 -- what a network refuses is told by its number
 status_of : (Needs : Type 0) (o : Option Failure) (r : Result (Unit {0}) Failure) → IsDoneOrFails o Needs r → IfErr r (λ f. IsStatusOnlyByFailure o Needs (failure_number f))
-status_of Needs None (Ok x) h = tt
 status_of Needs None (Err f) h = inr (ap failure_number h.0, h.1)
-status_of Needs (Some e) (Ok x) h = tt
 status_of Needs (Some e) (Err f) h = let inner : ◌≡◌ {A = Result (Unit {0}) Failure} (Err f) (Err e) = h in (let same : f ≡ e = cc in ap failure_number same)
+status_of Needs _ _ h = tt
 
 -- the network that did the step is the one that the handle held
 pub returns-clause-err : goal.returns-clause-err
