@@ -282,7 +282,6 @@ impl<A: Allocator> Tree<A> {
         Found::NoneBefore(prefix_at(addr, level, next))
     }
 
-    /// What the tree has at a prefix.
     fn find_at(&self, at: Prefix) -> Found
         requires { IsSoundTree self.now }
         ensures valid { IsPrefix at }

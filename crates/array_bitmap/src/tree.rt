@@ -177,7 +177,6 @@ impl<A: Allocator> Tree<A> {
         best
     }
 
-    /// Writes the place of a block at its name.
     fn rename(&mut self, holder: u32, index: u32, place: u32)
         requires within { holder ≡ 0 → index < vec_len self.old.tops }
         requires is_block { IsBlock (words_in_block (blocks self.old.pool holder)) }
@@ -427,7 +426,6 @@ impl<A: Allocator> Tree<A> {
         Some((Prefix::covering(addr, len_of(word) as u8), entry_of(word)))
     }
 
-    /// Where the block of a path at a level stands, if there is one.
     fn stand_on(&self, path: u64, level: u32) -> Option<Stand>
         requires sound { IsSoundTree self.now }
         requires fits { path < 2 ^ 34 }

@@ -73,7 +73,6 @@ impl<A: Allocator + Copy> Tree<A> {
     }
 }
 
-/// An image with the rows of a tree.
 fn image_of<A: Allocator>(tree: Tree<A>, alloc: A, generation: u64) -> Image<A>
     requires { IsSoundTree tree }
     ensures { result ≡ record { generation = generation; rows = rows_in tree } }

@@ -113,7 +113,6 @@ fn read_matches<'a>(matches: &ArgMatches<'a>) -> Option<Words<'a>>
     command_words(name, inner)
 }
 
-// What the matches of the command of this name ask for.
 fn command_words<'a>(name: &str, matches: &ArgMatches<'a>) -> Option<Words<'a>>
     ensures some { IfSome result (AsksAs name.now (rows_of (found_of matches.now))) }
     ensures none { IfNone result ((w : Words) → AsksAs name.now (rows_of (found_of matches.now)) w
@@ -261,7 +260,6 @@ fn go_together(no_journal: bool, journal: Option<&str>, threads: u8, workers: u8
     !no_journal || (journal.is_none() && threads == 1 && workers == 1)
 }
 
-// The format that is named.
 fn named_format(matches: &ArgMatches<'_>) -> Option<Format>
     ensures some { IfSome result (HasFormat (rows_of (found_of matches.now))) }
     ensures none { IfNone result ((f : Format) → HasFormat (rows_of (found_of matches.now)) f → ⊥) }

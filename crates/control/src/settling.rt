@@ -75,7 +75,6 @@ where
     done
 }
 
-// The fabric, settled by such a crew.
 fn settle_moved<B, P, G, R>(
     fabric: Fabric<B>,
     by: (&R, Global, Crew, &G, &mut P),

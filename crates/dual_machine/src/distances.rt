@@ -38,7 +38,6 @@ fn at_home(cost: Cost) -> Neighbour
     }
 }
 
-// The way of this number.
 fn way(ports: &[Neighbour], attachment: &Option<Cost>, number: u8) -> Option<Neighbour>
     ensures { result ≡ slice_get (ports.now ++ dual.home_ways attachment.now) number }
 {

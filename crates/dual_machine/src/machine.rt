@@ -287,7 +287,6 @@ impl<A: SmallAllocator> Machine<A> {
         }
     }
 
-    // What an event other than Up does.
     fn react(&mut self, event: &Event, sends: &mut Sends<A>)
         requires known { IsKnown (dual.port_count (self.old).machine) event.now }
         requires room { HasRoom sends.old

@@ -394,7 +394,6 @@ impl<B: FabricName, A: SmallAllocator> Fabric<B, A> {
         Ok(self.desks[usize::from(router)].lend(patch, copy))
     }
 
-    // Why a router does not publish.
     fn why_not_due(&self, router: u16) -> Refusal
         requires { due_at (self.now).world router ≡ None }
         ensures { steps.refusal (self.now).world (Step.Publish router) ≡ Some result }

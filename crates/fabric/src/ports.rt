@@ -7,7 +7,6 @@ ghost use Rattle.fabric.specs.Writers.{HaveReaders, IsReaderPort};
 use network_model::{NoMemory, SmallAllocator};
 use publication::{FabricName, ImageReader};
 
-// One reader of each router, of so many that each has.
 fn take_port<B: FabricName, A: SmallAllocator>(
     alloc: A,
     lists: &mut Vec<Vec<ImageReader<B, A>, A>, A>,

@@ -86,7 +86,6 @@ module _ (w : World) (addr : ℕ) where
           let rest = cut f (through_from n w addr k).path (through_from n w addr k).end in
           ap (λ b. if b then record { path = i ∷ []; end = Some Ending.Crossed } else record { path = i ∷ rest.path; end = rest.end }) other
 
-      -- it does not
       goes_on : (e : Entry) (o : Onward) → by_entry w i p e ≡ o → f i ≡ false → Rest → cut_on o ≡ onwards_by n i o
       goes_on e (Ends end) is same after = ap (λ b. if b then record { path = i ∷ []; end = Some Ending.Crossed } else record { path = i ∷ []; end = Some end }) same
       goes_on e (Goes q k) is same after =

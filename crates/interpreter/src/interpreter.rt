@@ -200,7 +200,6 @@ where
     }
 }
 
-// Of which kind a refusal is.
 fn into_kind(done: Result<(), Refusal>) -> Result<(), FaultKind>
     ensures { MatchResult done (λ _. IsOk result) (λ e. result ≡ Err (refusal_kind e)) }
 {

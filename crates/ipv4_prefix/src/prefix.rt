@@ -119,7 +119,6 @@ impl fmt::Display for Prefix {
     }
 }
 
-// The length that the text spells.
 fn parse_len(text: &str) -> Result<u8, PrefixFault>
     ensures read { IfOk result (SpellsLength text.now) }
     ensures bad_length { IsOkUnless result PrefixFault.BadLength }

@@ -114,7 +114,6 @@ fn after_heading(text: &str) -> Option<(Version, &str)>
     Some((version, rest))
 }
 
-// The version whose heading the line is.
 fn headed_version(line: &str) -> Option<Version>
     ensures some { IfSome result (λ v. line.now ≡ heading v) }
     ensures none { IfNone result ((v : Versions) → line.now ≢ heading v) }

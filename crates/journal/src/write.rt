@@ -27,7 +27,6 @@ pub fn write_steps<W: Write>(
     writeln!(out, "{ENDING}")
 }
 
-// Writes the steps, a line each.
 fn write_lines<W: Write>(
     directory: &Directory,
     links: &[LinkSpec],

@@ -36,7 +36,6 @@ pub fn show_next<W: Write>(
     Ok(())
 }
 
-// Prints what a router has to do next.
 fn print_next<W: Write>(
     world: &World,
     links: &[LinkSpec],

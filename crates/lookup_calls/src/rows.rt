@@ -46,7 +46,6 @@ pub fn check_words(rows: &[Row], words: &[u32]) -> Result<(), CallFault>
     Ok(())
 }
 
-/// The prefixes and entries of rows.
 fn read_rows(alloc: Global, rows: &[Row]) -> Result<Vec<(Prefix, Entry)>, CallFault>
     requires { first_row_fault rows.now ≡ None }
     ensures ok { IfOk result (λ v. v.items ≡ map row_entry rows.now) }
@@ -136,7 +135,6 @@ pub fn answer_burst(image: &Image, addrs: &[u32], answers: &mut [Row])
     }
 }
 
-/// The row of an answer with a word.
 fn row_without_word(found: Option<(Prefix, Marked)>) -> Row
     ensures { result ≡ answer_row (option_map (λ r. (r.0, r.1.entry)) found) }
 {

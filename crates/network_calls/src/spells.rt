@@ -20,7 +20,6 @@ pub struct SpellParts {
 }
 
 impl SpellParts {
-    // A spell that ended.
     fn ended(spell: Spell) -> SpellParts
         ensures { result ≡ ended_shown spell }
     {

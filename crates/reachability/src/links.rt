@@ -20,7 +20,6 @@ pub fn mark_reached<A: SmallAllocator>(world: &World<A>, prefix: Prefix, marks: 
     while spread(world, marks) {}
 }
 
-// Marks the routers that are attached to the prefix.
 fn mark_attached<A: SmallAllocator>(world: &World<A>, prefix: Prefix, marks: &mut [bool])
     requires size { length marks.old ≡ length (world.now).routers }
     requires joined { IsJoined world.now }

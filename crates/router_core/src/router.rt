@@ -113,7 +113,6 @@ fn put_machine<A: SmallAllocator>(
     Ok(())
 }
 
-// Removes the machine of a prefix, where there is one.
 fn remove_machine<A: SmallAllocator>(machines: &mut Vec<(Prefix, Machine<A>), A>, prefix: Prefix)
     requires { is_sorted prefix_cmp machines.old.items ≡ true }
     ensures { machines.new.items ≡ without prefix machines.old.items }

@@ -90,7 +90,6 @@ pub extern "C" fn tuhvondi_router_new(
     status(make(alloc, costs, attachments, most_prefixes, router))
 }
 
-// Tells the router of a handle what was read.
 fn tell(
     alloc: Global,
     router: &mut RouterHandle,

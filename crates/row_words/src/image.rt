@@ -103,7 +103,6 @@ impl<A: Allocator + Copy> WordImage<A> {
     }
 }
 
-// The image of its parts.
 fn whole<A: Allocator>(parts: Parts<A>) -> WordImage<A>
     requires { AreKept parts.image.rows parts.cells.items }
     ensures { result ≡ record {

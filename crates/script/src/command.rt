@@ -195,7 +195,6 @@ fn read_words(
     }
 }
 
-// The step that a verb and its operands ask for, as a command.
 fn read_step_command(
     names: &Names,
     links: &[LinkSpec],

@@ -78,7 +78,6 @@ pub(crate) fn read_attachments(
 impl Attachment {
     ghost use Rattle.single_router.specs.Openings.{attachment_fault};
 
-    // The prefix and the cost.
     fn read(&self) -> Result<(Prefix, Cost), CallFault>
         ensures ok { IfOk result (λ r. (attachment_fault self.now ≡ None)
             × (r ≡ attachment_row self.now)) }

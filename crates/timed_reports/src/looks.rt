@@ -55,7 +55,6 @@ pub fn mark_moved<A: SmallAllocator>(world: &World<A>, step: &Step, marks: &mut 
     }
 }
 
-// Sets one mark.
 fn set_mark<A: SmallAllocator>(marks: &mut Vec<bool, A>, place: usize, mark: bool)
     requires { place < length marks.old.items }
     ensures { marks.new.items ≡ slice_set marks.old.items place mark }
@@ -310,7 +309,6 @@ fn is_marked(marks: &[bool], place: usize) -> bool
     }
 }
 
-// Looks at the routers of one prefix, if it is marked.
 fn look_at_prefix<A: SmallAllocator>(
     world: &World<A>,
     prefixes: &[Prefix],

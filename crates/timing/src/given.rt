@@ -33,7 +33,6 @@ pub fn values<T: Copy + Drop>(
     Ok(values)
 }
 
-// Sets the values that are given.
 fn set_given<T: Copy + Drop>(values: &mut Vec<T>, given: &[Given<T>])
     ensures values { values.new.items ≡ with_given given.now values.old.items }
     ensures count { length values.new.items ≡ length values.old.items }
@@ -43,7 +42,6 @@ fn set_given<T: Copy + Drop>(values: &mut Vec<T>, given: &[Given<T>])
     }
 }
 
-// Sets one value, if there is one of that number.
 fn set_one<T: Copy + Drop>(values: &mut Vec<T>, one: &Given<T>)
     ensures { values.new.items ≡ changed_at (one.now).number (λ _. (one.now).value) values.old.items }
 {

@@ -80,7 +80,6 @@ pub fn read_changes(
     Ok(())
 }
 
-// The fault of a line.
 fn at_line(fault: LineFault, key: TimesKey, position: usize) -> Fault
     ensures { result ≡ of_times_line (line_kind fault) key position }
 {

@@ -111,7 +111,6 @@ fn document_fault(fault: scenario::Fault) -> Fault
     }
 }
 
-// The delays of all links.
 fn link_delays(
     alloc: Global,
     names: &Names,
@@ -134,7 +133,6 @@ fn link_delays(
     Ok(delays)
 }
 
-// The delays of all routers.
 fn router_delays(
     alloc: Global,
     names: &Names,

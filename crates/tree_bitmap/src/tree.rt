@@ -95,7 +95,6 @@ impl<A: Allocator> Tree<A> {
         Ok(self.pool.nodes.place(base, below))
     }
 
-    /// Sets the entry at a bit of a node.
     fn set_at(
         &mut self,
         index: u32,

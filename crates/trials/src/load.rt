@@ -111,7 +111,6 @@ fn port_of<B: FabricName>(
     Ok(ForwardPort::new(readers))
 }
 
-// A lane for each reader.
 fn lanes_of<B: FabricName>(
     alloc: Global,
     readers: Vec<ImageReader<B>>,
