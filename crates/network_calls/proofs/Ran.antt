@@ -1,11 +1,6 @@
 -- Steps of C that are read and done, one after another.
 use Rattle.std.proofs.Common.{refl, sym, ap, subst, ◌∙◌, arith, ◌≡◌, ℕ, ◌+◌, ◌<◌, List, [], ◌∷◌, ◌++◌, map, length, take, get_or, Option, Some, None, option_map, Result, Err, MatchOption}
-use Rattle.std.specs.Option.{option_map_or}
-use Rattle.std.proofs.lemmas.List.{map-append, take_more}
-use Rattle.std.proofs.lemmas.Option.{slice_get-get_or}
-use Rattle.network_model.specs.declared.step.Refusal.{Refusal}
-use Rattle.network_model.specs.Step.{Lawful}
-use Rattle.network_model.specs.Run.{Runs}
+use Rattle.network_model.proofs.Common.{option_map_or, map-append, take_more, slice_get-get_or, Refusal, Lawful, Runs}
 use Rattle.world.specs.Steps.{IsDoneOr}
 use Rattle.world.proofs.Runs.{with_last_step}
 use Rattle.simulation.specs.Simulation.{Simulation, after_step, after_steps, simulation_refusal}

@@ -26,7 +26,7 @@ pub use Rattle.std.proofs.lemmas.List.Sorted.{Contains-permutation, IsPermutatio
 pub use Rattle.std.proofs.lemmas.List.Sums.{length-filter, sum_by_push}
 pub use Rattle.std.proofs.lemmas.Map.Steps.{length-le_from_distinct_below}
 pub use Rattle.std.proofs.lemmas.Option.{get_or_from_slice_get, none-some, same_Some, slice_get-get_or, slice_get-map, slice_get_past, slice_get_read, slice_get_within, some_pair_parts}
-pub use Rattle.std.proofs.lemmas.Result.{IfOk-weaker, err_from_is_err_and}
+pub use Rattle.std.proofs.lemmas.Result.{IfOk-weaker, err_from_is_err_and, on_ok_weaker}
 pub use Rattle.ipv4_prefix.specs.LongestMatch.{longer_row, longest_match}
 pub use Rattle.ipv4_prefix.specs.Prefix.{IsPrefix, Prefix, covers, prefix_cmp, prefix_eq}
 pub use Rattle.ipv4_prefix.proofs.LongestMatches.{Contains-cases, Contains-first, Contains-later, longest_match-found}

@@ -1,16 +1,7 @@
 -- MarksTouched, one after another, and that what is current stays so by a step whose link, router and machines are marked.
 use Rattle.std.proofs.Common.{refl, sym, ap, subst, ◌∙◌, ◌≡◌, ◌≢◌, ◌⊎◌, inl, inr, ℕ, ◌<◌, ◌≤◌, ◌||◌, Bool, false, true, List, All, length, get_or, set, Option, Some, None, slice_get, vec_len, Ok, Err, Result, arith, OnErr, OnOk, map}
-use Rattle.std.specs.FinMap.{find as row_of}
+use Rattle.network_model.proofs.Common.{find as row_of, cases_eq, false≢true, none-some, same_Some, slice_get_read, slice_get_within, Prefix, prefix_cmp, Step, Publish, Release, Machine, Attachments, Network, Router, World, chosen_rows, next, element_there}
 use Rattle.std.specs.Vec.{with_item}
-use Rattle.std.proofs.lemmas.Bool.{cases_eq, false≢true}
-use Rattle.std.proofs.lemmas.Option.{none-some, same_Some, slice_get_read, slice_get_within}
-use Rattle.ipv4_prefix.specs.Prefix.{Prefix, prefix_cmp}
-use Rattle.network_model.specs.declared.step.Step.{Step}
-use Rattle.network_model.specs.declared.step.Step.TheVariants.{Publish, Release}
-use Rattle.network_model.specs.Machine.{Machine}
-use Rattle.network_model.specs.World.{Attachments, Network, Router, World}
-use Rattle.network_model.specs.Step.{chosen_rows, next}
-use Rattle.network_model.proofs.ListLaws.{element_there}
 use Rattle.no_packet_loops.proofs.Runs.{reached}
 use Rattle.no_packet_loops.proofs.Wiring.{wired}
 use Rattle.no_packet_loops.proofs.WorldLaws.{next-shape}

@@ -1,13 +1,7 @@
 -- Lines that tell of a run, one after another.
 use Rattle.std.proofs.Common.{◌≡◌, ℕ, suc, ◌+◌, ◌-◌, ◌%◌, ◌<◌, refl, ap, sym, subst, ◌∙◌, Bool, true, false, List, [], ◌∷◌, ◌++◌, Option, Some, length, take, slice_get, option_map, add-one, append_assoc, append-nil, arith, ◌||◌, ◌==◌, if◌then◌else◌, filter}
-use Rattle.std.specs.List.{range_with_len}
-use Rattle.std.specs.Io.KnownBytes.{Appends}
+use Rattle.no_packet_loops.proofs.Common.{range_with_len, Appends, LinkSpec, Step, Network, World, opening, Runs, Lawful, next}
 use Rattle.std.proofs.KnownBytes.{Appends-nil}
-use Rattle.network_model.specs.declared.network.LinkSpec.{LinkSpec}
-use Rattle.network_model.specs.declared.step.Step.{Step}
-use Rattle.network_model.specs.World.{Network, World, opening}
-use Rattle.network_model.specs.Run.{Runs}
-use Rattle.network_model.specs.Step.{Lawful, next}
 use Rattle.world.proofs.Runs.{with_last_step}
 use Rattle.texts.specs.Words.{Text}
 use Rattle.texts.specs.Lines.{lines_text}

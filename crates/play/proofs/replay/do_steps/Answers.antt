@@ -1,6 +1,5 @@
 use Rattle.std.proofs.Common.{◌≡◌, ◌+◌, ◌++◌, [], ◌∷◌, take, sym, ap, ◌∙◌, arith, add-one}
-use Rattle.std.proofs.Math.Seq.{take-suc}
-use Rattle.network_model.specs.declared.step.Step.{Step}
+use Rattle.no_packet_loops.proofs.Common.{take-suc, Step}
 use Rattle.world.proofs.Runs.{with_last_step}
 use Rattle.interpreter.specs.Nets.{Counted}
 use Rattle.play.proofs.replay.do_steps.Goals as goal

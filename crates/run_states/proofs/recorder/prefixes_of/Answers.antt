@@ -1,7 +1,5 @@
 use Rattle.std.proofs.Common.{◌+◌, ◌≤◌, length, map, take_all, sym, subst, ap, ◌∙◌, arith, is_some}
-use Rattle.std.specs.FinMap.{find as row_of, put}
-use Rattle.std.specs.List.{list_any}
-use Rattle.ipv4_prefix.specs.Prefix.{prefix_cmp, prefix_eq}
+use Rattle.network_model.proofs.Common.{find as row_of, put, list_any, prefix_cmp, prefix_eq}
 use Rattle.route_table.specs.PrefixMap.{map_rows, map_capacity}
 use Rattle.route_table.proofs.Kept.{length-put_at_most}
 use Rattle.run_states.proofs.Prefixes.{given_next, keys_next}

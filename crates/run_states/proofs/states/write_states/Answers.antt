@@ -1,6 +1,5 @@
 use Rattle.std.proofs.Common.{◌≡◌, ◌∙◌, ◌++◌, [], ◌∷◌, None, OnOk, ap, length, refl, subst, sym}
-use Rattle.std.specs.Io.KnownBytes.{Appends}
-use Rattle.std.proofs.lemmas.Result.{on_ok_weaker}
+use Rattle.no_packet_loops.proofs.Common.{Appends, on_ok_weaker}
 use Rattle.serde_json.specs.View.{view}
 use Rattle.serde_json.specs.Written.{compact_text, has_float}
 use Rattle.texts.specs.Lines.{lines_text}

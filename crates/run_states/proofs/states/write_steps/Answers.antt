@@ -1,6 +1,5 @@
 use Rattle.std.proofs.Common.{◌-◌, ◌+◌, ◌∙◌, ◌≡◌, Some, ap, length, option_map, refl, slice_get, string_bytes, subst, sym, arith}
-use Rattle.std.specs.Io.KnownBytes.{Appends}
-use Rattle.std.proofs.lemmas.Option.{slice_get_read}
+use Rattle.no_packet_loops.proofs.Common.{Appends, slice_get_read}
 use Rattle.serde_json.specs.Written.{compact_text}
 use Rattle.journal.specs.Steps.{step_text}
 use Rattle.run_states.specs.Recorders.{IsCurrent, IsRecorderOf}

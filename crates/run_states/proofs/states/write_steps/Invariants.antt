@@ -1,6 +1,5 @@
 use Rattle.std.proofs.Common.{◌-◌, length, take}
-use Rattle.network_model.specs.Run.{Runs}
-use Rattle.network_model.specs.World.{opening}
+use Rattle.network_model.proofs.Common.{Runs, opening}
 use Rattle.world.specs.Steps.{HasRoomForSteps}
 use Rattle.run_states.specs.Recorders.{IsCurrent, IsRecorderOf}
 use Rattle.run_states.proofs.Telling.{Telling}

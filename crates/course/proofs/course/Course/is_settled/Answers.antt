@@ -1,6 +1,5 @@
 use Rattle.std.proofs.Common.{◌≡◌, ◌<◌, None, sym, subst, ap, ◌∙◌}
-use Rattle.network_model.specs.Turns.{is_settled, next_step}
-use Rattle.network_model.specs.Forwarding.{is_quiet}
+use Rattle.network_model.proofs.Common.{is_settled, next_step, is_quiet}
 use Rattle.quiet_routes.proofs.Settled.{settled_is_quiet}
 use Rattle.course.specs.Course.{Course}
 use Rattle.course.proofs.Idle.{idle-settled, settled-idle}

@@ -1,9 +1,5 @@
 use Rattle.std.proofs.Common.{◌≡◌, false, cond, Some, ap, sym, ◌∙◌, is_some}
-use Rattle.std.specs.FinMap.{find as row_of}
-use Rattle.std.specs.Option.{option_map_or}
-use Rattle.ipv4_prefix.specs.Prefix.{Prefix, prefix_cmp, prefix_eq}
-use Rattle.network_model.specs.declared.step.Step.TheVariants.{Publish}
-use Rattle.network_model.specs.Step.{changed_rows}
+use Rattle.network_model.proofs.Common.{find as row_of, option_map_or, Prefix, prefix_cmp, prefix_eq, Publish, changed_rows}
 use Rattle.run_states.specs.Marks.{may_touch}
 use Rattle.run_states.proofs.Lists.{none_there, read_there}
 use Rattle.run_states.proofs.Marked.{marked_twice, spares_also}
