@@ -16,7 +16,7 @@ use std::alloc::Allocator;
 
 /// How many of the first bits of an address an image's array goes by. More make look-ups of many rows
 /// faster. An image takes 16 bytes for each number of so many bits, beside those of its rows.
-#[derive(Clone, Copy, Debug, PartialEq, Eq)]
+#[derive(Clone, Copy)]
 pub enum FirstBits {
     Four,
     Nine,

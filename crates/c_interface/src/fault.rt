@@ -10,7 +10,7 @@ use network_model::{BadCost, NoMemory};
 use std::alloc::{AllocError, AllocFailed};
 
 /// Why a call is refused, by the numbers by which C knows the faults.
-#[derive(Clone, Copy, Debug, PartialEq, Eq)]
+#[derive(Clone, Copy)]
 pub enum CallFault {
     /// A prefix's length is above 32.
     BadLength,

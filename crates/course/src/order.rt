@@ -1,7 +1,7 @@
 //! In which order routers take turns.
 
 /// In which order routers take turns.
-#[derive(Clone, Copy, Debug, PartialEq, Eq)]
+#[derive(Clone, Copy)]
 pub enum Order {
     /// In ascending cyclic order, from router 0 on.
     Cyclic,

@@ -10,7 +10,7 @@ use world::World;
 
 /// How many messages of each kind were put on links. A message that is discarded as it is released, because
 /// the session of its link is over, is none of them.
-#[derive(Clone, Copy, Debug, PartialEq, Eq)]
+#[derive(Clone, Copy, Debug)]
 pub struct Sent {
     pub updates: u64,
     pub queries: u64,

@@ -11,7 +11,7 @@ pub(crate) struct Active {
 }
 
 /// Whether a computation is under way, and which.
-#[derive(Clone, Copy, Debug, PartialEq, Eq)]
+#[derive(Clone, Copy)]
 pub enum Mode {
     /// None is.
     Passive,

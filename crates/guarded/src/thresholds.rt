@@ -2,7 +2,7 @@
 
 /// With how many rows to publish threads that settle are started and called. A publication counts as one row
 /// at least.
-#[derive(Clone, Copy, Debug, PartialEq, Eq)]
+#[derive(Clone, Copy)]
 pub struct Thresholds {
     /// With so many rows to publish in all, threads are started.
     pub start: usize,

@@ -10,7 +10,7 @@ use std::net::Ipv4Addr;
 
 /// An IPv4 address as a number, its first octet the highest. It is displayed as four decimal
 /// numbers joined by points.
-#[derive(Clone, Copy, Debug, PartialEq, Eq, PartialOrd, Ord, Hash)]
+#[derive(Clone, Copy)]
 pub struct Addr(pub u32);
 
 impl fmt::Display for Addr {

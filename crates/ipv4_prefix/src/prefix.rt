@@ -15,7 +15,7 @@ use texts::read_number;
 /// A block of IPv4 addresses: those that agree with `addr` in their first `len` bits (RFC 4632,
 /// section 3.1). No bit after the first `len` is set, so each block has one `Prefix`. Prefixes are
 /// ordered by address, then by length.
-#[derive(Clone, Copy, Debug, PartialEq, Eq, PartialOrd, Ord, Hash)]
+#[derive(Clone, Copy, Debug, PartialEq, Eq, PartialOrd, Ord)]
 pub struct Prefix {
     addr: u32,
     len: u8,

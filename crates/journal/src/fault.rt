@@ -9,7 +9,7 @@ use thiserror::Error;
 
 /// Why the text of a journal cannot be read. Its text is its number and name, and the line if it has
 /// one.
-#[derive(Clone, Copy, Debug, PartialEq, Eq, Drop, Error)]
+#[derive(Clone, Copy, Debug, Drop, Error)]
 #[error("{}", FaultKind::from(*self))]
 pub enum JournalFault {
     /// The text is not UTF-8.

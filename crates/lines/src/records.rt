@@ -14,7 +14,7 @@ use network_model::End;
 use router_core::Router;
 
 /// What a link is at.
-#[derive(Clone, Copy, Debug, PartialEq, Eq)]
+#[derive(Clone, Copy, PartialEq, Eq)]
 pub struct LinkState {
     /// Whether it is up.
     pub up: bool,
@@ -42,7 +42,7 @@ impl LinkState {
 }
 
 /// What a router is at.
-#[derive(Clone, Copy, Debug, PartialEq, Eq)]
+#[derive(Clone, Copy, PartialEq, Eq)]
 pub struct RouterState {
     /// How often it published.
     pub generation: u64,
@@ -69,7 +69,7 @@ impl RouterState {
 }
 
 /// What a machine is at.
-#[derive(Clone, Copy, Debug, PartialEq, Eq)]
+#[derive(Clone, Copy, PartialEq, Eq)]
 pub struct MachineState {
     /// The number of the origin state, 0..=3; none where the machine is passive.
     pub origin: Option<u8>,

@@ -16,7 +16,7 @@ const NO_MORE: u8 = 33;
 
 /// A prefix: the first `len` bits of an address, with no bit set after them.
 #[repr(C)]
-#[derive(Clone, Copy, Debug, PartialEq, Eq)]
+#[derive(Clone, Copy)]
 pub struct Block {
     pub addr: u32,
     pub len: u8,

@@ -10,7 +10,7 @@ use thiserror::Error;
 
 /// The cost of a link from one of its ends, 1..=65535. A cost of zero would let a loop of links
 /// cost nothing, so there is none.
-#[derive(Clone, Copy, Debug, PartialEq, Eq, PartialOrd, Ord, Hash)]
+#[derive(Clone, Copy, Debug, PartialEq, Eq)]
 pub struct Cost {
     value: u16,
 }
@@ -28,7 +28,7 @@ impl Model for Cost {
 }
 
 /// A number that is no cost: 0, or above 65535.
-#[derive(Clone, Copy, Debug, PartialEq, Eq, Drop, Error)]
+#[derive(Clone, Copy, Debug, Drop, Error)]
 #[error("{}", FaultKind::from(*self))]
 pub struct BadCost;
 

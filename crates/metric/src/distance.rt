@@ -9,7 +9,7 @@ use std::marker::Model;
 
 /// How far a destination is: the sum of the costs on the way, or `Distance::INF` where no way is
 /// known.
-#[derive(Clone, Copy, Debug, PartialEq, Eq, PartialOrd, Ord, Hash)]
+#[derive(Clone, Copy, Debug, PartialEq, Eq, PartialOrd, Ord)]
 pub struct Distance {
     value: u32,
 }

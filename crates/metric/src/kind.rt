@@ -1,7 +1,7 @@
 //! The kinds of routing message.
 
 /// What a routing message is. Each kind carries the sender's reported distance.
-#[derive(Clone, Copy, Debug, PartialEq, Eq, Hash)]
+#[derive(Clone, Copy, Debug, PartialEq, Eq)]
 pub enum Kind {
     /// News that wants no answer.
     Update,

@@ -7,7 +7,7 @@ use simulation::Simulation;
 
 /// How many steps were done since the opening, and how many updates, queries and replies they put on links.
 #[repr(C)]
-#[derive(Clone, Copy, Debug, PartialEq, Eq)]
+#[derive(Clone, Copy)]
 pub struct Counts {
     pub steps: u64,
     pub updates: u64,

@@ -14,7 +14,7 @@ use timed_simulation::{Event, LinkDelays, is_change};
 /// How long an item is on its way over a link, towards the first of its routers and towards the second, in
 /// microseconds.
 #[repr(C)]
-#[derive(Clone, Copy, Debug, PartialEq, Eq)]
+#[derive(Clone, Copy)]
 pub struct DelayParts {
     pub to_a: u64,
     pub to_b: u64,

@@ -9,7 +9,7 @@ use network_model::{NetworkFault, Refusal};
 use timed_simulation::TimeFault;
 
 /// Why a call on a network is refused.
-#[derive(Clone, Copy, Debug, PartialEq, Eq)]
+#[derive(Clone, Copy)]
 pub enum Failure {
     /// What was given has a fault, or the handle holds nothing.
     Given(CallFault),

@@ -11,7 +11,7 @@ use std::alloc::Global;
 
 /// How large a network may be: the most routers, links, links of one router, prefixes, and attachments.
 #[repr(C)]
-#[derive(Clone, Copy, Debug, PartialEq, Eq)]
+#[derive(Clone, Copy)]
 pub struct LimitsParts {
     pub routers: usize,
     pub links: usize,
@@ -22,7 +22,7 @@ pub struct LimitsParts {
 
 /// A link to be: the costs from its two routers, and their numbers.
 #[repr(C)]
-#[derive(Clone, Copy, Debug, PartialEq, Eq)]
+#[derive(Clone, Copy)]
 pub struct LinkParts {
     pub from_a: u32,
     pub from_b: u32,
@@ -32,7 +32,7 @@ pub struct LinkParts {
 
 /// A router that is attached to a prefix, at a cost.
 #[repr(C)]
-#[derive(Clone, Copy, Debug, PartialEq, Eq)]
+#[derive(Clone, Copy)]
 pub struct AttachmentParts {
     pub addr: u32,
     pub cost: u32,

@@ -27,7 +27,7 @@ pub enum Item {
 
 /// What a router is told of its own attachment to a prefix: its cost, new or changed, or that it is
 /// gone.
-#[derive(Clone, Copy, Debug, PartialEq, Eq)]
+#[derive(Clone, Copy)]
 pub struct Notice {
     pub prefix: Prefix,
     pub cost: Option<Cost>,

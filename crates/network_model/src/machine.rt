@@ -6,7 +6,7 @@ ghost use Rattle.metric.specs.Distance.{infinity};
 use metric::{Cost, Distance, Kind};
 
 /// What a machine is told. Ports are the router's, numbered from 0.
-#[derive(Clone, Copy, Debug)]
+#[derive(Clone, Copy)]
 pub enum Event {
     /// The neighbour at the port sent a message of this kind with its reported distance.
     Message {
@@ -37,7 +37,7 @@ pub enum Event {
 }
 
 /// What a machine keeps of the neighbour at one port.
-#[derive(Clone, Copy, Debug, PartialEq, Eq)]
+#[derive(Clone, Copy, Debug)]
 pub struct Neighbour {
     /// Whether the link is up. What a neighbour reported counts only while it is.
     pub up: bool,
@@ -61,14 +61,14 @@ impl Default for Neighbour {
 }
 
 /// A port as a machine meets it first: nothing is reported there yet.
-#[derive(Clone, Copy, Debug, PartialEq, Eq)]
+#[derive(Clone, Copy)]
 pub struct PortInfo {
     pub up: bool,
     pub cost: Cost,
 }
 
 /// A message that a machine sends to the neighbour at a port.
-#[derive(Clone, Copy, Debug, PartialEq, Eq)]
+#[derive(Clone, Copy)]
 pub struct Outgoing {
     pub port: u8,
     pub kind: Kind,

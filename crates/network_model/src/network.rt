@@ -12,7 +12,7 @@ use thiserror::Error;
 pub const MOST_PORTS: usize = 32;
 
 /// How large a network may be.
-#[derive(Clone, Copy, Debug, PartialEq, Eq)]
+#[derive(Clone, Copy)]
 pub struct Limits {
     /// The most routers.
     pub routers: usize,
@@ -59,7 +59,7 @@ impl Limits {
 }
 
 /// One of the two ends of a link.
-#[derive(Clone, Copy, Debug, PartialEq, Eq)]
+#[derive(Clone, Copy)]
 pub enum End {
     A,
     B,
@@ -78,7 +78,7 @@ impl End {
 }
 
 /// A link to be: its two routers, and the cost from each.
-#[derive(Clone, Copy, Debug, PartialEq, Eq)]
+#[derive(Clone, Copy)]
 pub struct LinkSpec {
     pub a: u16,
     pub b: u16,
@@ -126,14 +126,14 @@ impl LinkSpec {
 }
 
 /// The end of a link at which a router's port lies.
-#[derive(Clone, Copy, Debug, PartialEq, Eq)]
+#[derive(Clone, Copy)]
 pub struct Place {
     pub link: u16,
     pub end: End,
 }
 
 /// What a router's notices said last of one of its ports.
-#[derive(Clone, Copy, Debug, PartialEq, Eq)]
+#[derive(Clone, Copy, Debug)]
 pub struct Port {
     pub up: bool,
     pub session: u16,

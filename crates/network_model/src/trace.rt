@@ -16,7 +16,7 @@ pub enum Ending {
 }
 
 /// The routers that a packet passes, from its first on, and why it ends at the last.
-#[derive(Debug, PartialEq, Eq, Drop)]
+#[derive(Drop)]
 pub struct Trace {
     pub path: Vec<u16>,
     pub end: Ending,

@@ -14,7 +14,7 @@ pub const MOST_RESULTS: usize = 15;
 
 /// Cells in use, side by side: the place of the first, and how many there are. Which cells were
 /// taken as one block, the caller knows.
-#[derive(Clone, Copy, Debug, PartialEq, Eq)]
+#[derive(Clone, Copy)]
 pub enum Block {
     Nodes { base: u32, size: usize },
     Results { base: u32, size: usize },

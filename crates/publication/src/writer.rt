@@ -26,7 +26,7 @@ use thiserror::Error;
 use tree_bitmap::Image;
 
 /// Why no writer was made. Its text is its number and name.
-#[derive(Clone, Copy, Debug, PartialEq, Eq, Drop, Error)]
+#[derive(Clone, Copy, Debug, Drop, Error)]
 #[error("{}", FaultKind::from(*self))]
 pub enum OpenFault {
     /// A growth was refused.

@@ -10,7 +10,7 @@ use std::alloc::Allocator;
 pub const NO_WORD: u32 = 0xffff_ffff;
 
 /// An entry, and a word of the caller's own.
-#[derive(Clone, Copy, Debug, PartialEq, Eq)]
+#[derive(Clone, Copy)]
 pub struct Marked {
     pub entry: Entry,
     pub word: u32,

@@ -10,7 +10,7 @@ use std::alloc::{AllocError, AllocFailed};
 use thiserror::Error;
 
 /// Why the lines of a scenario cannot be read. Its text is its number and name.
-#[derive(Clone, Copy, Debug, PartialEq, Eq, Drop, Error)]
+#[derive(Clone, Copy, Debug, Drop, Error)]
 #[error("{}", FaultKind::from(*self))]
 pub enum LineFault {
     /// A router's name is no name, or was given before.

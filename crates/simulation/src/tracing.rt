@@ -9,7 +9,7 @@ use world::World;
 
 /// How far a packet was followed: the routers that it passes, as many as there was room for, and why it ends at
 /// the last; None where the room was used up before.
-#[derive(Clone, Copy, Debug, PartialEq, Eq)]
+#[derive(Clone, Copy)]
 pub struct Traced {
     pub count: usize,
     pub end: Option<Ending>,

@@ -8,7 +8,7 @@ use c_interface::{CallFault, read_prefix};
 use network_model::{Cost, Distance, Kind, Message, Prefix};
 
 /// What a router is told: of a link, by its port, or of its own attachment to a prefix.
-#[derive(Clone, Copy, Debug, PartialEq, Eq)]
+#[derive(Clone, Copy)]
 pub enum Input {
     /// The link of the port came up, in a later session than the last; `cost` is that from here.
     Up {

@@ -10,7 +10,7 @@ use std::alloc::Global;
 
 /// A prefix to which a router is attached, at this cost.
 #[repr(C)]
-#[derive(Clone, Copy, Debug, PartialEq, Eq)]
+#[derive(Clone, Copy)]
 pub struct Attachment {
     pub addr: u32,
     pub cost: u32,

@@ -39,7 +39,7 @@ impl Model for SingleRouter {
 }
 
 /// What a publication gave: how many rows, and whether there are more, for which there was no room.
-#[derive(Clone, Copy, Debug, PartialEq, Eq)]
+#[derive(Clone, Copy)]
 pub struct Published {
     pub count: usize,
     pub more: bool,

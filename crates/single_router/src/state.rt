@@ -13,7 +13,7 @@ use route_table::RouteTable;
 /// how many messages it holds and how many of these may leave, how often it published, and whether a
 /// publication is due (1, else 0).
 #[repr(C)]
-#[derive(Clone, Copy, Debug, PartialEq, Eq)]
+#[derive(Clone, Copy)]
 pub struct Counts {
     pub prefixes: usize,
     pub changed: usize,

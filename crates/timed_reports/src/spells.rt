@@ -8,7 +8,7 @@ use network_model::{NoMemory, Prefix, SmallAllocator};
 
 /// A spell that has ended: at which router and for which prefix it was so, and from when until when, in
 /// microseconds since the opening. It may have ended at the moment at which it began.
-#[derive(Clone, Copy, Debug, PartialEq, Eq)]
+#[derive(Clone, Copy, PartialEq, Eq)]
 pub struct Spell {
     pub router: u16,
     pub prefix: Prefix,
@@ -18,7 +18,7 @@ pub struct Spell {
 
 /// A router and a prefix, and the moment since which it is so, in microseconds since the opening; none if it
 /// is not so.
-#[derive(Clone, Copy, Debug, PartialEq, Eq)]
+#[derive(Clone, Copy)]
 pub struct Watched {
     pub router: u16,
     pub prefix: Prefix,

@@ -28,7 +28,7 @@ pub struct Event {
 
 /// How long a router takes to publish, and since when it has something to publish, if it has; both in
 /// microseconds.
-#[derive(Clone, Copy, Debug, PartialEq, Eq)]
+#[derive(Clone, Copy)]
 pub struct RouterTime {
     pub delay: u64,
     pub since: u64,

@@ -13,21 +13,21 @@ use std::collections::VecDeque;
 use world::World;
 
 /// How long an item is on its way along each direction of a link, in microseconds.
-#[derive(Clone, Copy, Debug, PartialEq, Eq)]
+#[derive(Clone, Copy)]
 pub struct LinkDelays {
     pub to_a: u64,
     pub to_b: u64,
 }
 
 /// An item on its way: when it arrives, in microseconds, and whether it is a notice of the link.
-#[derive(Clone, Copy, Debug, PartialEq, Eq)]
+#[derive(Clone, Copy)]
 pub struct Arrival {
     pub moment: u64,
     pub notice: bool,
 }
 
 // What happens to the items on a link.
-#[derive(Clone, Copy, Debug, PartialEq, Eq)]
+#[derive(Clone, Copy)]
 pub enum Motion {
     // The link comes up, and both ends are told.
     Told,

@@ -23,7 +23,7 @@ use std::marker::Model;
 use world::{Network, Touched};
 
 /// How far a run came: how many events were done, and why the next was not done, if it was due.
-#[derive(Clone, Copy, Debug, PartialEq, Eq)]
+#[derive(Clone, Copy, PartialEq, Eq)]
 pub struct TimedRan {
     pub done: usize,
     pub fault: Option<TimeFault>,

@@ -6,7 +6,7 @@ ghost use Rattle.bitmaps.specs.Bits.{rank, IsHighest};
 ghost use Rattle.tree_bitmap.specs.Bits.{nibble, internal_bit, length_of, lengths_within};
 
 /// A node of the tree: which prefixes end in it, which children it has, and where both stand.
-#[derive(Clone, Copy, Debug, PartialEq, Eq)]
+#[derive(Clone, Copy)]
 pub struct Node {
     /// The prefixes that end in the node: bit `2^len - 1 + x` is that of the `len` bits with value
     /// `x`, for lengths 0 to 3.

@@ -27,7 +27,7 @@ use std::alloc::Global;
 use std::marker::Model;
 
 /// How far a list of steps came.
-#[derive(Clone, Copy, Debug, PartialEq, Eq)]
+#[derive(Clone, Copy)]
 pub struct Ran {
     /// How many steps were done.
     pub done: usize,
