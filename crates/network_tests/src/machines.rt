@@ -94,10 +94,8 @@ fn sent(rt: &impl Abort, sends: &Sends, row: &Row) {
     assert_eq!(rt; sent.len(), wanted.len());
     for i in 0..sent.len() {
         let message = sent[i];
-        assert_eq!(rt;
-            (message.kind, message.value.value(), message.port),
-            wanted[i]
-        );
+        let found = (message.kind, message.value.value(), message.port);
+        equal(rt, found, wanted[i]);
     }
 }
 

@@ -1,3 +1,4 @@
+use crate::values::equal;
 use node_pool::{Block, NodePool};
 
 #[test]
@@ -10,6 +11,7 @@ fn nodes_and_results_lie_apart(rt: HostRuntime) {
     let results = pool.take_results(15, 7u8).expect(&rt, "memory");
     assert_eq!(rt; (root, base, results), (0, 1, 0));
     pool.give(Block::Nodes { base, size });
-    assert_eq!(rt; (pool.nodes.spare(16), pool.results.spare(15)), (1, 0));
-    assert_eq!(rt; pool.nodes.get(root), 'r');
+    let spare = (pool.nodes.spare(16), pool.results.spare(15));
+    equal(&rt, spare, (1, 0));
+    equal(&rt, pool.nodes.get(root), 'r');
 }

@@ -154,13 +154,13 @@ fn hear(rt: &impl Abort, heap: &LocalHeap, left: usize) -> bool {
     let first = machine.event(UPDATE, &mut sends);
     drop(weight);
     if first == Err(NoMemory) {
-        assert_eq!(rt; (shown(&machine), sends.as_slice().len()), (before, 0));
+        equal(rt, (shown(&machine), sends.as_slice().len()), (before, 0));
         assert!(rt; machine.is_timely(UPDATE));
         machine.event(UPDATE, &mut sends).expect(rt, "room");
     }
     let one = Distance::new(1);
     equal(rt, shown(&machine), (one, one, Some(0), true));
-    assert_eq!(rt; sends.as_slice().len(), 2);
+    equal(rt, sends.as_slice().len(), 2);
     first.is_err()
 }
 
@@ -170,11 +170,11 @@ fn set(rt: &impl Abort, heap: &LocalHeap, left: usize) -> bool {
     let first = table.set(ten(), Entry::Local);
     drop(weight);
     if first == Err(NoMemory) {
-        assert_eq!(rt; (table.len(), table.get(ten())), (0, None));
+        equal(rt, (table.len(), table.get(ten())), (0, None));
         assert!(rt; !table.is_changed());
         table.set(ten(), Entry::Local).expect(rt, "room");
     }
-    assert_eq!(rt; (table.len(), table.get(ten())), (1, Some(Entry::Local)));
+    equal(rt, (table.len(), table.get(ten())), (1, Some(Entry::Local)));
     equal(rt, table.published(ten()), None);
     first.is_err()
 }

@@ -40,7 +40,7 @@ fn a_router_learns_a_prefix(rt: HostRuntime) {
     take(&rt, &mut router, Item::Message(update()));
     equal(&rt, router.table().get(ten()), Some(via(0)));
     let rows = router.patch_rows(rt.alloc()).expect(&rt, "memory");
-    assert_eq!(rt; (rows.len(), router.held(), router.ripe()), (1, 1, 0));
+    equal(&rt, (rows.len(), router.held(), router.ripe()), (1, 1, 0));
     assert!(rt; router.due() && router.is_passive());
 }
 

@@ -106,5 +106,5 @@ fn the_widest_line_opens(rt: HostRuntime) {
         (65_536, 65_535)
     );
     let last = world.router(65_535).table().published(ten());
-    assert_eq!(rt; last, Some(network_model::Entry::Local));
+    equal(&rt, last, Some(network_model::Entry::Local));
 }

@@ -222,7 +222,7 @@ fn learns_all(rt: &impl Abort, world: &mut World) {
     does(rt, world, Step::Publish { router: 1 }, Ok(()));
     assert_eq!(rt; world.routers().len(), 256);
     let found = second(rt, world);
-    assert_eq!(rt; (found.table().len(), found.held()), (4096, 8192));
+    equal(rt, (found.table().len(), found.held()), (4096, 8192));
 }
 
 const DOWN: Step = Step::LinkDown { link: 0 };
