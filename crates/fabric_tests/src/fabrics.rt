@@ -134,7 +134,7 @@ const STOPS: [Step; 3] = [
 
 fn stops<B: FabricName, H: Wait + Abort>(rt: &H, fabric: &mut Fabric<B>) {
     runs(rt, fabric, &STOPS, (1, Some(Refusal::NothingRipe)));
-    assert_eq!(rt; fabric.journal().len(), 1);
+    equal(rt, fabric.journal().len(), 1);
     for (step, refusal) in [
         (Step::LinkUp { link: 0 }, Refusal::AlreadyUp),
         (Step::Publish { router: 7 }, Refusal::UnknownRouter),
@@ -156,7 +156,7 @@ fn tells<B: FabricName, H: Wait + Abort>(
     port: Option<Vec<ImageReader<B>>>,
 ) {
     let mut port = port.expect(rt, "port");
-    assert_eq!(rt; port.len(), 2);
+    equal(rt, port.len(), 2);
     has_job(rt, fabric, 0);
     runs(rt, fabric, &LEARNS, (7, None));
     has_job(rt, fabric, 1);

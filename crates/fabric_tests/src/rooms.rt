@@ -65,7 +65,7 @@ fn is_queue_refused<'h, B: FabricName>(
             PacketQueue::new::<B, &'h LocalHeap>(heap, 2).expect(rt, "room")
         }
     };
-    assert_eq!(rt; takers.len(), 2);
+    equal(rt, takers.len(), 2);
     is_refused
 }
 
@@ -76,7 +76,7 @@ fn a_queue_needs_room_for_its_places(rt: HostRuntime) {
     for units in 0..1024usize {
         let heap = LocalHeap::new(alloc, HEAP).expect(&rt, "memory");
         if is_queue_refused::<Brand>(&rt, alloc, &heap, units * 32) {
-            assert_eq!(&rt; refused, units);
+            equal(&rt, refused, units);
             refused = units + 1;
         }
     }
@@ -128,7 +128,7 @@ fn an_opening_needs_room(rt: HostRuntime) {
     for units in 0..1024usize {
         assert!(&rt; is_opening_refused(&rt, rt.alloc(), units * 16));
         if is_opening_refused(&rt, rt.alloc(), JOURNAL + units * 64) {
-            assert_eq!(&rt; refused, units);
+            equal(&rt, refused, units);
             refused = units + 1;
         }
     }

@@ -56,7 +56,7 @@ fn steps<B: FabricName, H: Wait + Abort>(
 
 // So many steps are in the journal.
 fn has_steps<B: FabricName>(rt: &impl Abort, fabric: &Fabric<B>, steps: usize) {
-    assert_eq!(rt; fabric.journal().len(), steps);
+    equal(rt, fabric.journal().len(), steps);
 }
 
 // What waits for the writer of router 1 while it is out, and what does not.
