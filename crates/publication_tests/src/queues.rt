@@ -309,8 +309,8 @@ where
     }
     assert!(rt; injector.stop(&rt));
     let (jobs, left) = finish::<B, R>(&rt, alloc, injector, running).expect(&rt, "memory");
-    assert_eq!(rt; left, 0);
-    assert_eq!(rt; bits_of(&jobs), Some((1 << 100) - 1));
+    equal(&rt, left, 0);
+    equal(&rt, bits_of(&jobs), Some((1 << 100) - 1));
 }
 
 // What is done with a queue.

@@ -352,7 +352,7 @@ fn is_queue_refused<B: FabricName>(rt: &impl Abort, alloc: Global, refused: Refu
     let has_failed = PacketQueue::new::<B, _>(&memory, 2).is_err();
     let was_met = memory.was_met(has_failed).expect(rt, "refusal");
     let (_injector, takers) = PacketQueue::new::<B, _>(&memory, 2).expect(rt, "memory");
-    assert_eq!(rt; takers.len(), 2);
+    equal(rt, takers.len(), 2);
     was_met
 }
 

@@ -99,7 +99,7 @@ fn ask<B: FabricName, R: Wait + Abort>(rt: &R, pool: &mut WorkerPool<B>, tolds: 
 
 // There is one reply to each of so many jobs, in order of their numbers, from the router of each.
 fn are_right<B: FabricName, R: Abort>(rt: &R, replies: &[Reply<B>], jobs: u8) {
-    assert_eq!(rt; replies.len(), usize::from(jobs));
+    equal(rt, replies.len(), usize::from(jobs));
     for number in 0..jobs {
         let reply = replies.get(usize::from(number)).expect(rt, "reply");
         let router = number % 2;
@@ -195,8 +195,8 @@ where
         panic!(rt; "replies");
     };
     are_right(&rt, &replies, 2);
-    assert_eq!(rt; gate.jobs.taken.load(Ordering::SeqCst), 2);
-    assert_eq!(rt; gate.jobs.missed.load(Ordering::SeqCst), 0);
+    equal(&rt, gate.jobs.taken.load(Ordering::SeqCst), 2);
+    equal(&rt, gate.jobs.missed.load(Ordering::SeqCst), 0);
 }
 
 // Workers that are ended give their ports back, by which others answer.
@@ -230,7 +230,7 @@ where
     ask(&rt, &mut pool, tolds, 2);
     pool.inject(&rt, tolds.job(1)).expect(&rt, "job");
     let (_ports, replies) = pool.drain(&rt, alloc);
-    assert_eq!(rt; replies.err(), Some(fault));
+    equal(&rt, replies.err(), Some(fault));
 }
 
 // A gate whose second copy is refused.
@@ -274,7 +274,7 @@ where
         }
         Err(refused) => refused,
     };
-    assert_eq!(rt; refused.fault, PoolFault::Memory(NoMemory));
+    equal(&rt, refused.fault, PoolFault::Memory(NoMemory));
     assert_eq!(rt; refused.ports.len(), many);
     drop(answers(rt, alloc, refused.ports, tolds, 3));
 }
@@ -286,7 +286,8 @@ where
     R: Threads + Wait + Abort + Copy + Send + 'static,
 {
     let mut pool = WorkerPool::new(rt, alloc, Vec::new(alloc)).expect(&rt, "workers");
-    assert_eq!(rt; pool.inject(&rt, tolds.job(0)), Err(PoolFault::Closed));
+    let early = pool.inject(&rt, tolds.job(0));
+    equal(&rt, early, Err(PoolFault::Closed));
     let (ports, replies) = pool.drain(&rt, alloc);
     assert!(rt; ports.is_empty());
     let Ok(replies) = replies else {

@@ -272,7 +272,7 @@ fn are_one_each<B: FabricName>(
     let (Ok(mut replies), Ok(mut others)) = (first, second) else {
         panic!(rt; "replies");
     };
-    assert_eq!(rt; (replies.len(), others.len()), (1, 1));
+    equal(rt, (replies.len(), others.len()), (1, 1));
     replies.append(&mut others).expect(rt, "memory");
     let jobs = [asked(1, ADDR, told), asked(2, ADDR, told)];
     assert!(rt; gather(&jobs, replies).is_ok());
