@@ -1,7 +1,9 @@
 -- Worked examples: two routers and the link between them, of which the first is attached to all addresses.
 use Rattle.std.proofs.Common.{refl, ◌≡◌, List, [], ◌∷◌, Some}
 use Rattle.no_packet_loops.proofs.Example.{pair}
-use Rattle.network_model.proofs.Common.{Step, LinkUp, LinkDown, Deliver, Publish, Release, next_step}
+use Rattle.network_model.proofs.Common.{next_step}
+use Rattle.network_model.specs.declared.step.Step.{Step}
+use Rattle.network_model.specs.declared.step.Step.TheVariants.{LinkUp, LinkDown, Deliver, Publish, Release}
 use Rattle.course.specs.Counts.{none_sent}
 use Rattle.course.specs.Course.{Course, course_after_all, opening_course}
 

@@ -1,6 +1,7 @@
 -- What one end was told last: once it has taken all that is on its way to it, the distance of the other.
 use Rattle.std.proofs.Common.{refl, sym, ◌∙◌, ap, inl, inr, ◌≡◌, ℕ, true, false, if◌then◌else◌, List, [], ◌∷◌, ◌++◌, Option, Some, None}
-use Rattle.network_model.proofs.Common.{cases_Bool, Report, infinity, Outgoing}
+use Rattle.network_model.proofs.Common.{cases_Bool, Report, infinity}
+use Rattle.network_model.specs.declared.machine.Outgoing.{Outgoing}
 use Rattle.loop_freedom.specs.Facts.{End, pipe}
 use Rattle.loop_freedom.proofs.Lists.{front}
 use Rattle.loop_freedom.proofs.Link.{Answered, heard, EndStep}

@@ -1,6 +1,9 @@
 -- How a network stops that is let settle.
 use Rattle.std.specs.Prelude.{⊤}
-use Rattle.network_model.proofs.Common.{false≢true, None_not_Some, Refusal, JournalFull, NoMemory, Step, is_settled}
+use Rattle.network_model.proofs.Common.{false≢true, None_not_Some, is_settled}
+use Rattle.network_model.specs.declared.step.Refusal.{Refusal}
+use Rattle.network_model.specs.declared.step.Refusal.TheVariants.{JournalFull, NoMemory}
+use Rattle.network_model.specs.declared.step.Step.{Step}
 use Rattle.std.proofs.Common.{◌≡◌, ◌⊎◌, inr, true, Option, Some, None, MatchOption, Result, Ok, Err, IfErr, ◌∙◌, ◌+◌, ℕ, inl, List, [], ◌∷◌, length, refl, ap, sym, false, arith}
 use Rattle.fabric.specs.Fabric.{Fabric}
 use Rattle.guarded.specs.Served.{IsServed, IsTurnRefused, none_asked, IsFabricStopped}

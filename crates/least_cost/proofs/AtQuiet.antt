@@ -1,6 +1,7 @@
 -- The law at rest: in a quiet network each router's successors lead along a cheapest way to an attached router.
 use Rattle.std.proofs.Common.{◌≡◌, ◌⊎◌, ℕ, zero, suc, ◌+◌, ◌*◌, ◌<◌, ◌≤◌, Bool, true, false, List, [], ◌∷◌, Option, Some, None, length, refl, ap, sym, inl, inr, arith, ◌∙◌, eq-eqb, lt-ltb, slice_get, is_some, nat_lt, if◌then◌else◌}
-use Rattle.network_model.proofs.Common.{both_ways, cases_lt, false≢true, Machine, distance, least, ways, port_count, at_home, home_ways, least-append, LinkEnd, State, NextHop, at_port, infinity, plus, Neighbour, most_routers}
+use Rattle.network_model.proofs.Common.{both_ways, cases_lt, false≢true, Machine, distance, least, ways, port_count, at_home, home_ways, least-append, LinkEnd, State, NextHop, at_port, infinity, plus, most_routers}
+use Rattle.network_model.specs.declared.machine.Neighbour.{Neighbour}
 use Rattle.machine_laws.specs.Laws.{is_up_at, reported_at}
 use Rattle.loop_freedom.specs.Network.{Topology, IsEdgeWalk, next_hop_of}
 use Rattle.loop_freedom.proofs.Walks.{walk_map}

@@ -1,6 +1,7 @@
 -- What every state of a run keeps of each link and of what its ends were told.
 use Rattle.std.proofs.Common.{◌≡◌, ℕ, zero, suc, ◌<◌, ◌≤◌, Bool, true, false, List, [], ◌∷◌, ◌++◌, length, refl, ap, sym, arith, ◌∙◌}
-use Rattle.network_model.proofs.Common.{LinkEnd, SeenItem, SeenHeld, State, infinity, Outgoing}
+use Rattle.network_model.proofs.Common.{LinkEnd, SeenItem, SeenHeld, State, infinity}
+use Rattle.network_model.specs.declared.machine.Outgoing.{Outgoing}
 use Rattle.machine_laws.specs.Laws.{is_up_at, IsSound}
 use Rattle.loop_freedom.specs.Network.{Topology, SameMachines, SameInboxes, SameLinks, SameCosts, SameHeld, held_for}
 use Rattle.machine_laws.proofs.Sends.{EachSend}

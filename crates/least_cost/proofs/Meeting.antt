@@ -1,6 +1,7 @@
 -- A step in which a router's machine meets an event keeps the state, whether it took an item or a notice of its attachment.
 use Rattle.std.proofs.Common.{◌≡◌, ◌⊎◌, ℕ, ◌<◌, ◌≤◌, true, List, ◌++◌, length, refl, ap, sym, inl, inr, arith, subst, ◌∙◌, append_assoc}
-use Rattle.network_model.proofs.Common.{cases_eq, Machine, reaction, LinkEnd, SeenHeld, State, infinity, Event}
+use Rattle.network_model.proofs.Common.{cases_eq, Machine, reaction, LinkEnd, SeenHeld, State, infinity}
+use Rattle.network_model.specs.declared.machine.Event.{Event}
 use Rattle.machine_laws.specs.Laws.{sent_to, is_up_at, Meets, IsSound}
 use Rattle.loop_freedom.specs.Network.{Topology, held_for}
 use Rattle.machine_laws.proofs.Sends.{EachSend}

@@ -1,6 +1,7 @@
 -- What a port will be once the items that wait there are taken.
 use Rattle.std.proofs.Common.{◌≡◌, ℕ, ◌<◌, ◌≤◌, Bool, true, false, List, [], ◌∷◌, ◌++◌, Option, Some, None, length, refl, sym, arith, ◌∙◌, slice_get}
-use Rattle.network_model.proofs.Common.{both_ways, Machine, records_after, infinity, slice_get-changed_at, slice_get-changed_at_other, element_there, SeenItem, UpNotice, DownNotice, CostNotice, Reported, Neighbour}
+use Rattle.network_model.proofs.Common.{both_ways, Machine, records_after, infinity, slice_get-changed_at, slice_get-changed_at_other, element_there, SeenItem, UpNotice, DownNotice, CostNotice, Reported}
+use Rattle.network_model.specs.declared.machine.Neighbour.{Neighbour}
 use Rattle.machine_laws.specs.Laws.{test_at, reported_by, Meets}
 use Rattle.loop_freedom.specs.Network.{event_of, seen_after, notices}
 

@@ -1,6 +1,7 @@
 -- Every state of a run from an opening is kept.
 use Rattle.std.proofs.Common.{◌≡◌, ◌⊎◌, inl, inr, ℕ, false, List, ◌++◌, Option, Some, None, refl, sym, arith, ◌∙◌, slice_get, append-nil}
-use Rattle.network_model.proofs.Common.{both_ways, cases_eq, LinkEnd, State, Neighbour}
+use Rattle.network_model.proofs.Common.{both_ways, cases_eq, LinkEnd, State}
+use Rattle.network_model.specs.declared.machine.Neighbour.{Neighbour}
 use Rattle.machine_laws.specs.Laws.{test_at, is_up_at}
 use Rattle.loop_freedom.specs.Network.{Topology, Publish, Skip, Step, Takes, TakesAtHome, Publishes, Releases, LinkComes, LinkGoes, CostChanges, Skips, Run, Start, Then, OpeningPorts, Opening}
 use Rattle.machine_laws.proofs.Distances.{AllSound}

@@ -1,6 +1,7 @@
 -- A step in which a router takes an item keeps the state.
 use Rattle.std.proofs.Common.{◌≡◌, ◌⊎◌, ℕ, ◌<◌, ◌≤◌, true, ◌∷◌, length, refl, ap, sym, inl, inr, arith, subst, ◌∙◌}
-use Rattle.network_model.proofs.Common.{cases_eq, Machine, records_after, reaction, LinkEnd, SeenItem, UpNotice, State, infinity, Event}
+use Rattle.network_model.proofs.Common.{cases_eq, Machine, records_after, reaction, LinkEnd, SeenItem, UpNotice, State, infinity}
+use Rattle.network_model.specs.declared.machine.Event.{Event}
 use Rattle.machine_laws.specs.Laws.{sent_to, is_up_at, Meets}
 use Rattle.loop_freedom.specs.Network.{Topology, Take, event_of, seen_after}
 use Rattle.machine_laws.proofs.Keeping.{keeps_records}

@@ -1,6 +1,7 @@
 -- Each kind of step can be done, and a run of two routers, with a link of cost 7 between them, at the end of which traffic goes out.
 use Rattle.std.proofs.Common.{refl, sym, ◌∙◌, ap, subst, arith, inl, inr, ◌≡◌, ℕ, zero, suc, ◌<◌, Bool, true, false, ◌&&◌, ◌||◌, ◌==◌, if◌then◌else◌, List, [], ◌∷◌, ◌++◌, Some, None, slice_get, Option, eqb-true, eq-eqb, ne_eqb}
-use Rattle.network_model.proofs.Common.{and_parts, and_from, false_from_ne_true, or_left, or_right, or_from, or_cases, Update, reaction, opening_machine, port_successor, Report, SeenHeld, SeenItem, UpNotice, DownNotice, CostNotice, Reported, LinkEnd, State, at_port, infinity, Neighbour}
+use Rattle.network_model.proofs.Common.{and_parts, and_from, false_from_ne_true, or_left, or_right, or_from, or_cases, Update, reaction, opening_machine, port_successor, Report, SeenHeld, SeenItem, UpNotice, DownNotice, CostNotice, Reported, LinkEnd, State, at_port, infinity}
+use Rattle.network_model.specs.declared.machine.Neighbour.{Neighbour}
 use Rattle.machine_laws.specs.Laws.{sent_to}
 use Rattle.loop_freedom.specs.Network.{Topology, Take, Publish, Release, LinkUp, LinkDown, SetCost, Takes, Publishes, Releases, LinkComes, Run, Start, Then, Opening, OpeningPorts, PublishedEdge, SomeRouteIsPublished, IsEnd, event_of, seen_after, held_for, next_hop_of, arriving, notices}
 

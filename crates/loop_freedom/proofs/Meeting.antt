@@ -1,6 +1,8 @@
 -- A router whose machine meets an event keeps the invariant, whether it took an item or a notice of its attachment.
 use Rattle.std.proofs.Common.{refl, sym, ◌∙◌, ap, subst, arith, append_assoc, inl, inr, ◌≡◌, ℕ, suc, ◌<◌, ◌≤◌, Bool, true, false, ◌==◌, if◌then◌else◌, List, [], ◌∷◌, ◌++◌, Option, Some, None, length, slice_get}
-use Rattle.network_model.proofs.Common.{cases_eq, Machine, reaction, event_at_home, Report, LinkEnd, State, infinity, Event, Outgoing}
+use Rattle.network_model.proofs.Common.{cases_eq, Machine, reaction, event_at_home, Report, LinkEnd, State, infinity}
+use Rattle.network_model.specs.declared.machine.Event.{Event}
+use Rattle.network_model.specs.declared.machine.Outgoing.{Outgoing}
 use Rattle.machine_laws.specs.Laws.{IsSound, Meets, MachineLaws, is_up_at, sent_to}
 use Rattle.loop_freedom.specs.Network.{Topology, SameLinks, SameCosts, SamePublished, Take, TakeAtHome, event_of, held_for}
 use Rattle.loop_freedom.proofs.Lists.{front}

@@ -1,6 +1,7 @@
 -- What an end has on its way, where items are queued, messages are held, and a machine sends.
 use Rattle.std.proofs.Common.{refl, ap, arith, ◌≡◌, ℕ, suc, ◌+◌, Bool, true, false, ◌==◌, if◌then◌else◌, List, [], ◌∷◌, ◌++◌, Some, slice_get, eq-eqb, ne_eqb}
-use Rattle.network_model.proofs.Common.{Kind, Report, SeenHeld, SeenItem, UpNotice, DownNotice, CostNotice, Reported, one_if, Outgoing}
+use Rattle.network_model.proofs.Common.{Kind, Report, SeenHeld, SeenItem, UpNotice, DownNotice, CostNotice, Reported, one_if}
+use Rattle.network_model.specs.declared.machine.Outgoing.{Outgoing}
 use Rattle.machine_laws.specs.Laws.{is_kind, sent_to, count_kind}
 use Rattle.loop_freedom.specs.Network.{held_for}
 use Rattle.loop_freedom.specs.Facts.{messages, live, count, AtLeast}

@@ -1,6 +1,7 @@
 -- The invariant holds at the opening.
 use Rattle.std.proofs.Common.{refl, sym, ◌∙◌, arith, ◌≡◌, ℕ, ◌≤◌, ◌<◌, false, List, Option, Some, None, slice_get}
-use Rattle.network_model.proofs.Common.{option_map_or, false≢true, both_ways, infinity, opening_machine, State, Neighbour}
+use Rattle.network_model.proofs.Common.{option_map_or, false≢true, both_ways, infinity, opening_machine, State}
+use Rattle.network_model.specs.declared.machine.Neighbour.{Neighbour}
 use Rattle.machine_laws.specs.Laws.{IsSound, test_at}
 use Rattle.machine_laws.proofs.Opened.{opened_sound}
 use Rattle.loop_freedom.specs.Network.{Topology, Opening, OpeningPorts}

@@ -1,6 +1,8 @@
 -- A router that takes an item keeps the invariant.
 use Rattle.std.proofs.Common.{refl, sym, ◌∙◌, ap, subst, inl, inr, ◌≡◌, ℕ, ◌<◌, true, ◌∷◌, ◌++◌, None, length, slice_get, List}
-use Rattle.network_model.proofs.Common.{cases_eq, Machine, SeenItem, UpNotice, LinkEnd, State, at_port, Event, Neighbour}
+use Rattle.network_model.proofs.Common.{cases_eq, Machine, SeenItem, UpNotice, LinkEnd, State, at_port}
+use Rattle.network_model.specs.declared.machine.Event.{Event}
+use Rattle.network_model.specs.declared.machine.Neighbour.{Neighbour}
 use Rattle.machine_laws.specs.Laws.{Meets, MachineLaws, is_up_at, test_at}
 use Rattle.loop_freedom.specs.Network.{Topology, Take, event_of}
 use Rattle.loop_freedom.proofs.Lists.{front}

@@ -1,6 +1,7 @@
 -- A router that takes a notice of its attachment keeps the invariant.
 use Rattle.std.proofs.Common.{refl, sym, ◌∙◌, ap, subst, inl, inr, ◌≡◌, ℕ, ◌<◌, true, Bool, ◌&&◌, ◌==◌, List, Option, Some, None, length, slice_get}
-use Rattle.network_model.proofs.Common.{cases_eq, both_ways, false≢true, Machine, reaction, event_at_home, LinkEnd, State, Neighbour}
+use Rattle.network_model.proofs.Common.{cases_eq, both_ways, false≢true, Machine, reaction, event_at_home, LinkEnd, State}
+use Rattle.network_model.specs.declared.machine.Neighbour.{Neighbour}
 use Rattle.machine_laws.specs.Laws.{Meets, MachineLaws, is_up_at, reported_by, test_at}
 use Rattle.loop_freedom.specs.Network.{Topology, TakeAtHome}
 use Rattle.loop_freedom.specs.Facts.{messages, is_current}

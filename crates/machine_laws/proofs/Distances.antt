@@ -1,6 +1,7 @@
 -- Distances by way of neighbours: the least of them, and who may be taken at it.
 use Rattle.std.proofs.Common.{◌≡◌, ◌≢◌, ◌⊎◌, ℕ, zero, suc, ◌+◌, ◌<◌, ◌≤◌, min, Bool, true, false, ◌&&◌, List, [], ◌∷◌, ◌++◌, length, is_some, Option, Some, None, refl, ap, sym, inl, inr, arith, subst, ◌∙◌, eqb-true, eq-eqb, ltb-true, lt-ltb, slice_get, ◌==◌, nat_lt, if◌then◌else◌}
-use Rattle.network_model.proofs.Common.{list_any, position_from, and_parts, eqb-false, cases_lt, and_from, both_ways, false≢true, same_Some, none-some, infinity, plus, distance, least, is_feasible, condition_holds, is_feasible_at, kept_or_first, chosen_successor, via_successor, changed_at, at_home, home_ways, least_bounded, Neighbour}
+use Rattle.network_model.proofs.Common.{list_any, position_from, and_parts, eqb-false, cases_lt, and_from, both_ways, false≢true, same_Some, none-some, infinity, plus, distance, least, is_feasible, condition_holds, is_feasible_at, kept_or_first, chosen_successor, via_successor, changed_at, at_home, home_ways, least_bounded}
+use Rattle.network_model.specs.declared.machine.Neighbour.{Neighbour}
 use Rattle.machine_laws.specs.Laws.{IsSoundPort, test_at}
 use Rattle.machine_laws.proofs.Lists.{list_any_nowhere, position_passes, position_found, append_each}
 

@@ -1,6 +1,7 @@
 -- A machine that leads nowhere is sound, and so is one that has heard nothing, so the laws speak of some machine.
 use Rattle.std.proofs.Common.{◌≡◌, ◌⊎◌, ℕ, zero, suc, ◌+◌, ◌<◌, min, Bool, true, false, List, [], ◌∷◌, ◌++◌, length, Option, Some, None, refl, ap, sym, inl, inr, arith, subst, ◌∙◌, lt-ltb, slice_get, nat_lt, if◌then◌else◌}
-use Rattle.network_model.proofs.Common.{false≢true, same_Some, none-some, infinity, distance, least, at_home, home_ways, least-append, distance-bounded, Neighbour}
+use Rattle.network_model.proofs.Common.{false≢true, same_Some, none-some, infinity, distance, least, at_home, home_ways, least-append, distance-bounded}
+use Rattle.network_model.specs.declared.machine.Neighbour.{Neighbour}
 use Rattle.machine_laws.specs.Laws.{IsSound, IsSoundPort, NothingHeard, OpensSound}
 use Rattle.machine_laws.proofs.Lists.{append_last, test_within}
 use Rattle.machine_laws.proofs.Distances.{distance_cases}

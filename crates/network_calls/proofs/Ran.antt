@@ -1,6 +1,7 @@
 -- Steps of C that are read and done, one after another.
 use Rattle.std.proofs.Common.{refl, sym, ap, subst, ◌∙◌, arith, ◌≡◌, ℕ, ◌+◌, ◌<◌, List, [], ◌∷◌, ◌++◌, map, length, take, get_or, Option, Some, None, option_map, Result, Err, MatchOption}
-use Rattle.network_model.proofs.Common.{option_map_or, map-append, take_more, slice_get-get_or, Refusal, Lawful, Runs}
+use Rattle.network_model.proofs.Common.{option_map_or, map-append, take_more, slice_get-get_or, Lawful, Runs}
+use Rattle.network_model.specs.declared.step.Refusal.{Refusal}
 use Rattle.world.specs.Steps.{IsDoneOr}
 use Rattle.world.proofs.Runs.{with_last_step}
 use Rattle.simulation.specs.Simulation.{Simulation, after_step, after_steps, simulation_refusal}

@@ -31,20 +31,6 @@ pub use Rattle.network_model.specs.Step.{Lawful, changed_link, changed_rows, cho
 pub use Rattle.network_model.specs.Turns.{is_lawful, is_settled, next_step}
 pub use Rattle.network_model.specs.View.{CostNotice, DownNotice, LinkEnd, NextHop, Report, Reported, SeenHeld, SeenItem, State, UpNotice, at_port}
 pub use Rattle.network_model.specs.World.{Attachments, Gate, Network, Router, Table, World, degree_of, machine_of, neighbours, opening, opening_router, rows_of}
-pub use Rattle.network_model.specs.declared.item.Held.{Held}
-pub use Rattle.network_model.specs.declared.machine.Event.{Event}
-pub use Rattle.network_model.specs.declared.machine.Event.TheVariants.{Attached, Cost, Detached, Down, Message, Up}
-pub use Rattle.network_model.specs.declared.machine.Neighbour.{Neighbour}
-pub use Rattle.network_model.specs.declared.machine.Outgoing.{Outgoing}
-pub use Rattle.network_model.specs.declared.network.Port.{Port}
-pub use Rattle.network_model.specs.declared.route.Entry.{Entry}
-pub use Rattle.network_model.specs.declared.route.Entry.TheVariants.{Local, Via}
-pub use Rattle.network_model.specs.declared.step.Refusal.{Refusal}
-pub use Rattle.network_model.specs.declared.step.Refusal.TheVariants.{JournalFull, NoMemory, NothingDue, NothingRipe, UnknownRouter}
-pub use Rattle.network_model.specs.declared.step.Step.{Step}
-pub use Rattle.network_model.specs.declared.step.Step.TheVariants.{Deliver, LinkDown, LinkUp, Publish, Release, SetCost}
-pub use Rattle.network_model.specs.declared.trace.Ending.TheVariants.{Crossed}
-pub use Rattle.network_model.specs.declared.trace.Trace.{Trace}
 pub use Rattle.network_model.proofs.Lawful.{Lawful_to_refusal}
 pub use Rattle.network_model.proofs.ListLaws.{None_not_Some, Some_injective, changed_at-map, changed_at_written, changed_keeps, element_there, length-changed_at, map-changed_at, option_map_or-ind, slice_get-changed_at, slice_get-changed_at_other}
 pub use Rattle.network_model.proofs.MachineLaws.{distance-bounded, least-append, least_bounded, least_ways-none_up}

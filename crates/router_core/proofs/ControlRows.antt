@@ -1,6 +1,7 @@
 -- The control rows that a notice makes: each machine's row set in turn is all of them set at once.
 use Rattle.std.proofs.Common.{refl, ap, ◌∙◌, ◌≡◌, true, List, [], ◌∷◌, map}
-use Rattle.network_model.proofs.Common.{is_sorted, below_all, and_parts, and_from, tied_itself, Prefix, prefix_cmp, with_rows, prefix_cmp_total, with_rows-past, Entry}
+use Rattle.network_model.proofs.Common.{is_sorted, below_all, and_parts, and_from, tied_itself, Prefix, prefix_cmp, with_rows, prefix_cmp_total, with_rows-past}
+use Rattle.network_model.specs.declared.route.Entry.{Entry}
 use Rattle.route_table.proofs.Places.{put_here}
 
 -- a row for each element, in the order of its prefix

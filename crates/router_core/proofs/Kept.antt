@@ -1,6 +1,9 @@
 -- What every router keeps, whatever it takes, publishes or releases.
 use Rattle.std.proofs.Common.{refl, sym, ap, ◌∙◌, ◌≡◌, ℕ, ◌≤◌, Bool, true, false, cond, if◌then◌else◌, List, [], ◌∷◌, map, length, Some, None, unwrap_or, eq-eqb}
-use Rattle.network_model.proofs.Common.{AllByRecursion, by_order, eq_by_cmp, Prefix, prefix_cmp, Machine, reaction, opening_machine, Router, machine_of, neighbours, opening_router, chosen_rows, entry_of, session_at, reactions, router_noticing, router_meeting, with_rows, map-put, sorted-map, sorted-put, find as row_of, put, is_sorted, filter, Ordering, Less, Equal, Greater, Event, Port, Local, Via}
+use Rattle.network_model.proofs.Common.{AllByRecursion, by_order, eq_by_cmp, Prefix, prefix_cmp, Machine, reaction, opening_machine, Router, machine_of, neighbours, opening_router, chosen_rows, entry_of, session_at, reactions, router_noticing, router_meeting, with_rows, map-put, sorted-map, sorted-put, find as row_of, put, is_sorted, filter, Ordering, Less, Equal, Greater}
+use Rattle.network_model.specs.declared.machine.Event.{Event}
+use Rattle.network_model.specs.declared.network.Port.{Port}
+use Rattle.network_model.specs.declared.route.Entry.TheVariants.{Local, Via}
 use Rattle.route_table.specs.Place.{without}
 use Rattle.route_table.proofs.PrefixPlaces.{sorted-without}
 use Rattle.route_table.proofs.Forgotten.{map-without}

@@ -1,6 +1,8 @@
 -- MarksTouched, one after another, and that what is current stays so by a step whose link, router and machines are marked.
 use Rattle.std.proofs.Common.{refl, sym, ap, subst, ◌∙◌, ◌≡◌, ◌≢◌, ◌⊎◌, inl, inr, ℕ, ◌<◌, ◌≤◌, ◌||◌, Bool, false, true, List, All, length, get_or, set, Option, Some, None, slice_get, vec_len, Ok, Err, Result, arith, OnErr, OnOk, map}
-use Rattle.network_model.proofs.Common.{find as row_of, cases_eq, false≢true, none-some, same_Some, slice_get_read, slice_get_within, Prefix, prefix_cmp, Step, Publish, Release, Machine, Attachments, Network, Router, World, chosen_rows, next, element_there}
+use Rattle.network_model.proofs.Common.{find as row_of, cases_eq, false≢true, none-some, same_Some, slice_get_read, slice_get_within, Prefix, prefix_cmp, Machine, Attachments, Network, Router, World, chosen_rows, next, element_there}
+use Rattle.network_model.specs.declared.step.Step.{Step}
+use Rattle.network_model.specs.declared.step.Step.TheVariants.{Publish, Release}
 use Rattle.std.specs.Vec.{with_item}
 use Rattle.no_packet_loops.proofs.Runs.{reached}
 use Rattle.no_packet_loops.proofs.Wiring.{wired}

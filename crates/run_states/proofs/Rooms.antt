@@ -1,6 +1,7 @@
 -- The room that a run from the opening leaves, and what shows a world.
 use Rattle.std.proofs.Common.{sym, subst, ◌≡◌, ℕ, suc, ◌+◌, ◌-◌, ◌<◌, ◌^◌, arith}
-use Rattle.network_model.proofs.Common.{Step, next, Network, World, opening}
+use Rattle.network_model.proofs.Common.{next, Network, World, opening}
+use Rattle.network_model.specs.declared.step.Step.{Step}
 use Rattle.world.specs.Steps.{HasRoomForSteps}
 use Rattle.world.proofs.Runs.{less_room, next-room, opening-room}
 use Rattle.run_states.specs.declared.recorder.Recorder.{Recorder}

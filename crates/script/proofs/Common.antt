@@ -38,12 +38,6 @@ pub use Rattle.script.specs.Directories.{Directory, directory_of, neighbours_of,
 pub use Rattle.script.specs.Links.{IsLink, IsLinkFault, LinkWords, router_named}
 pub use Rattle.script.specs.Reading.{IsWhole, ReadsFirst, StopsHere}
 pub use Rattle.script.specs.Routers.{AreNames, FindsNames, IsDigit, IsName, IsSmallLetter, no_router, router_number}
-pub use Rattle.script.specs.declared.command.Command.{Command}
-pub use Rattle.script.specs.declared.fault.LineFault.{LineFault}
-pub use Rattle.script.specs.declared.fault.LineFault.TheVariants.{BadCommand, BadCost}
-pub use Rattle.script.specs.declared.place.Key.{Key}
-pub use Rattle.script.specs.declared.place.Key.TheVariants.{Links, Prefixes, Script}
-pub use Rattle.script.specs.declared.place.Located.{Located}
 pub use Rattle.texts.specs.Lines.{lines_of}
 pub use Rattle.texts.specs.Number.{Spells}
 pub use Rattle.texts.specs.Words.{Text, is_space, texts, words_of}

@@ -1,7 +1,8 @@
 -- Worked examples: two routers and the link between them, of which the first is attached to all addresses.
 use Rattle.std.proofs.Common.{refl, ◌≡◌, List, [], ◌∷◌, Some, None}
 use Rattle.no_packet_loops.proofs.Example.{pair}
-use Rattle.network_model.proofs.Common.{Step, LinkUp, LinkDown, Deliver, Publish, Release}
+use Rattle.network_model.specs.declared.step.Step.{Step}
+use Rattle.network_model.specs.declared.step.Step.TheVariants.{LinkUp, LinkDown, Deliver, Publish, Release}
 use Rattle.simulation.specs.Headline.{hop_by_image}
 use Rattle.simulation.specs.Simulation.{Simulation, after_steps, opening_simulation}
 

@@ -1,7 +1,8 @@
 -- A worked example: two routers and the link between them, of which the first is attached to all addresses.
 use Rattle.std.proofs.Common.{refl, ◌≡◌, ℕ, true, false, List, [], ◌∷◌, Some, None}
 use Rattle.no_packet_loops.proofs.Example.{pair}
-use Rattle.network_model.proofs.Common.{Step, LinkUp, LinkDown, Deliver, Publish, Release}
+use Rattle.network_model.specs.declared.step.Step.{Step}
+use Rattle.network_model.specs.declared.step.Step.TheVariants.{LinkUp, LinkDown, Deliver, Publish, Release}
 use Rattle.timed_simulation.specs.declared.events.Event.{Event}
 use Rattle.timed_simulation.specs.Timed.{Timed, after_event, opening_timed, with_timed_change}
 use Rattle.timed_simulation.specs.Events.{next_event}

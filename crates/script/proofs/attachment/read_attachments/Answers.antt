@@ -1,5 +1,6 @@
 use Rattle.std.proofs.Common.{◌+◌, inr, length, ap, ◌∙◌}
-use Rattle.script.proofs.Common.{length_push, IsAttachment, IsAttachmentFault, Prefixes}
+use Rattle.script.proofs.Common.{length_push, IsAttachment, IsAttachmentFault}
+use Rattle.script.specs.declared.place.Key.TheVariants.{Prefixes}
 use Rattle.script.proofs.ReadLines.{reads_none, reads_line, stops_line}
 use Rattle.script.proofs.attachment.read_attachments.Goals as goal
 

@@ -1,5 +1,6 @@
 use Rattle.std.proofs.Common.{◌+◌, inr, length, ap, ◌∙◌}
-use Rattle.script.proofs.Common.{length_push, IsCommand, IsCommandFault, Script}
+use Rattle.script.proofs.Common.{length_push, IsCommand, IsCommandFault}
+use Rattle.script.specs.declared.place.Key.TheVariants.{Script}
 use Rattle.script.proofs.ReadLines.{reads_none, reads_line, stops_line}
 use Rattle.script.proofs.command.read_commands.Goals as goal
 

@@ -1,5 +1,6 @@
 use Rattle.std.proofs.Common.{◌∷◌, [], decimal, unwrap_or, refl, ap, ◌∙◌}
-use Rattle.script.proofs.Common.{false≢true, IsLinkFault, LinkWords, word-full, BadCost}
+use Rattle.script.proofs.Common.{false≢true, IsLinkFault, LinkWords, word-full}
+use Rattle.script.specs.declared.fault.LineFault.TheVariants.{BadCost}
 use Rattle.script.proofs.Exits.{at_err}
 use Rattle.script.proofs.link.read_link.Goals as goal
 use Rattle.script.proofs.link.read_link.Goals.{After-new}

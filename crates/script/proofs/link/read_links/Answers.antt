@@ -1,5 +1,6 @@
 use Rattle.std.proofs.Common.{◌+◌, inr, length, ap, ◌∙◌}
-use Rattle.script.proofs.Common.{length_push, IsLink, IsLinkFault, Links}
+use Rattle.script.proofs.Common.{length_push, IsLink, IsLinkFault}
+use Rattle.script.specs.declared.place.Key.TheVariants.{Links}
 use Rattle.script.proofs.ReadLines.{reads_none, reads_line, stops_line}
 use Rattle.script.proofs.link.read_links.Goals as goal
 

@@ -1,5 +1,7 @@
 use Rattle.std.proofs.Common.{◌≡◌, ◌<◌, ℕ, List, Option, length, refl, ap, subst, sym}
-use Rattle.network_model.proofs.Common.{Prefix, Step, Deliver, Router}
+use Rattle.network_model.proofs.Common.{Prefix, Router}
+use Rattle.network_model.specs.declared.step.Step.{Step}
+use Rattle.network_model.specs.declared.step.Step.TheVariants.{Deliver}
 use Rattle.timed_reports.specs.declared.spells.Watched.{Watched}
 use Rattle.timed_reports.specs.Going.{IsComputing}
 use Rattle.timed_reports.specs.Looks.{IsPassedBy}

@@ -1,5 +1,6 @@
 use Rattle.std.proofs.Common.{◌≡◌, ◌∙◌, ◌+◌, None, true, false, ap, refl, subst, sym, arith, MatchBool, rules}
-use Rattle.network_model.proofs.Common.{sum_by_push, Lawful, Publish, Fits, journal_sum, step_number}
+use Rattle.network_model.proofs.Common.{sum_by_push, Lawful, Fits, journal_sum, step_number}
+use Rattle.network_model.specs.declared.step.Step.TheVariants.{Publish}
 use Rattle.publication.specs.Outings.{Outing}
 use Rattle.fabric.specs.Fabric.{Fabric, after_step, count_lent, is_lent, with_lent}
 use Rattle.guarded.proofs.WritersOut.{count_in}

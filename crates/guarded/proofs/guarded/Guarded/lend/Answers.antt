@@ -1,5 +1,6 @@
 use Rattle.std.proofs.Common.{◌≡◌, ◌∙◌, Some, false, refl, ap, arith, subst, sym}
-use Rattle.network_model.proofs.Common.{journal_sum, Publish}
+use Rattle.network_model.proofs.Common.{journal_sum}
+use Rattle.network_model.specs.declared.step.Step.TheVariants.{Publish}
 use Rattle.fabric.specs.Fabric.{Fabric, count_lent, is_lent, next_fabric_step}
 use Rattle.guarded.proofs.WritersOut.{can_fail, count_out, was_in}
 use Rattle.guarded.proofs.Served.{done_free, done_none, is_next, served_lent, turn_next}

@@ -1,5 +1,6 @@
 use Rattle.std.proofs.Common.{◌≡◌, ◌∙◌, Err, None, Ok, Some, ap, subst, sym, inl, inr, arith}
-use Rattle.network_model.proofs.Common.{Publish, Lawful}
+use Rattle.network_model.proofs.Common.{Lawful}
+use Rattle.network_model.specs.declared.step.Step.TheVariants.{Publish}
 use Rattle.world.specs.Steps.{IsDoneOr}
 use Rattle.fabric.specs.Fabric.{Fabric, fabric_refusal, next_fabric_step}
 use Rattle.guarded.proofs.Served.{done_none, next_router, turn_next}

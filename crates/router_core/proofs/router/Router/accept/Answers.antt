@@ -1,5 +1,6 @@
 use Rattle.std.proofs.Common.{◌≡◌, true, false, get_or, sym, ap, subst, ◌∙◌, refl, OnOk}
-use Rattle.network_model.proofs.Common.{Router, router_accepting, Event}
+use Rattle.network_model.proofs.Common.{Router, router_accepting}
+use Rattle.network_model.specs.declared.machine.Event.{Event}
 use Rattle.router_core.proofs.Notices.{ups_written, ups_kept, noticing_written}
 use Rattle.router_core.proofs.router.Router.accept.Goals as goal
 

@@ -1,5 +1,6 @@
 use Rattle.std.proofs.Common.{◌≡◌, ℕ, inl, option_map, ◌+◌, ◌≤◌, ◌++◌, true, None, length, set, List, Ok, Err, Some, sym, ap, subst, ◌∙◌, arith, refl, false, Bool, ◌||◌, nat_lt, map, is_some}
-use Rattle.network_model.proofs.Common.{nat_tests, Prefix, prefix_cmp, reaction, opening_machine, Router, machine_of, neighbours, router_meeting, entry_of, held_of, sorted-map, find-map, insert, find as row_of, put, is_sorted, Port}
+use Rattle.network_model.proofs.Common.{nat_tests, Prefix, prefix_cmp, reaction, opening_machine, Router, machine_of, neighbours, router_meeting, entry_of, held_of, sorted-map, find-map, insert, find as row_of, put, is_sorted}
+use Rattle.network_model.specs.declared.network.Port.{Port}
 use Rattle.dual_machine.specs.State.{MachineState}
 use Rattle.dual_machine.specs.Event.{IsKnown, IsTimely}
 use Rattle.dual_machine.specs.Outbox.{most_sent}

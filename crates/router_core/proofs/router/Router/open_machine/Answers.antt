@@ -1,5 +1,6 @@
 use Rattle.std.proofs.Common.{◌≡◌, None, map, ap, ◌∙◌}
-use Rattle.network_model.proofs.Common.{IfOk-weaker, opening_machine, Router, neighbours, Port}
+use Rattle.network_model.proofs.Common.{IfOk-weaker, opening_machine, Router, neighbours}
+use Rattle.network_model.specs.declared.network.Port.{Port}
 use Rattle.dual_machine.specs.State.{MachineState, opening_neighbours}
 use Rattle.router_core.proofs.Opening.{neighbours-infos}
 use Rattle.router_core.proofs.router.Router.open_machine.Goals as goal

@@ -1,6 +1,7 @@
 use Rattle.std.proofs.Common.{◌≡◌, ℕ, ◌+◌, ◌*◌, ◌^◌, ◌<◌, ◌≤◌, min, ◌++◌, take, drop, length, get_or, set, List, sym, ap, subst, ◌∙◌, arith, Option, IfSome, IsSome}
 use Rattle.std.proofs.Math.ListN.{length-set}
-use Rattle.network_model.proofs.Common.{Prefix, prefix_cmp, Router, router_noticing, chosen_rows, with_rows, find as row_of, Port}
+use Rattle.network_model.proofs.Common.{Prefix, prefix_cmp, Router, router_noticing, chosen_rows, with_rows, find as row_of}
+use Rattle.network_model.specs.declared.network.Port.{Port}
 use Rattle.dual_machine.specs.State.{MachineState}
 use Rattle.dual_machine.specs.Event.{IsKnown, IsTimely, is_neighbour_up}
 use Rattle.dual_machine.specs.Outbox.{most_sent}

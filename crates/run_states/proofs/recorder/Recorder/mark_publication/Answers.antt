@@ -1,5 +1,6 @@
 use Rattle.std.proofs.Common.{◌≡◌, false, cond, Some, ap, sym, ◌∙◌, is_some}
-use Rattle.network_model.proofs.Common.{find as row_of, option_map_or, Prefix, prefix_cmp, prefix_eq, Publish, changed_rows}
+use Rattle.network_model.proofs.Common.{find as row_of, option_map_or, Prefix, prefix_cmp, prefix_eq, changed_rows}
+use Rattle.network_model.specs.declared.step.Step.TheVariants.{Publish}
 use Rattle.run_states.specs.Marks.{may_touch}
 use Rattle.run_states.proofs.Lists.{none_there, read_there}
 use Rattle.run_states.proofs.Marked.{marked_twice, spares_also}

@@ -1,5 +1,6 @@
 use Rattle.std.proofs.Common.{◌≡◌, refl, ap, ◌∙◌, sym, set, slice_get, rules}
-use Rattle.network_model.proofs.Common.{Publish, World}
+use Rattle.network_model.proofs.Common.{World}
+use Rattle.network_model.specs.declared.step.Step.TheVariants.{Publish}
 use Rattle.network_model.specs.Step as steps
 use Rattle.link_fifo.proofs.Changes.{written}
 use Rattle.world.proofs.Insides.{world_in}
