@@ -2,7 +2,7 @@
 pub use Rattle.std.specs.FinMap.{find, put}
 pub use Rattle.std.specs.FinMap.Entries.{below_all, by_order, find-put, find-where_key, is_sorted, length_without, same_entries, where_key}
 pub use Rattle.std.specs.Io.KnownBytes.{Appends}
-pub use Rattle.std.specs.List.{AllByRecursion, AllWithin, HoldsAt, IsDistinct, cons_option, flat_map, list_all, list_any, position_from, prefix_len, range_with_len}
+pub use Rattle.std.specs.List.{AllByRecursion, AllWithin, HoldsAt, cons_option, flat_map, list_all, list_any, position_from, prefix_len, range_with_len}
 pub use Rattle.std.specs.Option.{ok_or, option_map_or}
 pub use Rattle.std.specs.Ordering.{is_eq, is_lt, nat_cmp, ordering_reverse, ordering_then}
 pub use Rattle.std.specs.Prelude.{⊤}
@@ -35,14 +35,14 @@ pub use Rattle.ipv4_prefix.proofs.SortedRows.{distinct_from_sorted, to_T}
 pub use Rattle.ipv4_prefix.proofs.Tables.{row_of-row}
 pub use Rattle.metric.specs.Distance.{IsCost, infinity}
 pub use Rattle.metric.specs.declared.kind.Kind.{Kind}
-pub use Rattle.metric.specs.declared.kind.Kind.TheVariants.{Query, Reply, Update}
+pub use Rattle.metric.specs.declared.kind.Kind.TheVariants.{Update}
 pub use Rattle.loop_freedom.specs.Facts.{LinkFacts, count, end_at, end_of, end_towards, is_current, is_next_hop, live, messages, pipe}
 pub use Rattle.loop_freedom.specs.Network.{ControlEdge, IsEdgeWalk, Opening, OpeningPorts, PublishedEdge, Releases, Run, SameCosts, SameLinks, SameMachines, SamePublished, Skip, Skips, Start, Take, Takes, TakesAtHome, Then, Topology, arriving, event_of, held_for, is_met, meets_twice, met, next_hop_of, notices, seen_after}
 pub use Rattle.machine_laws.specs.Laws.{IsSound, MachineLaws, Meets, NothingHeard, awaits, awaits_of, is_active, is_kind, is_up_at, owes_of, owes_port, reported_at, reported_by, sent_to, test_at}
 pub use Rattle.network_model.specs.Forwarding.{Ends, Goes, IsForwarded, IsPacketWalk, IsWalk, IsWalkHome, Onward, Trace, by_entry, by_row, entry_leads, has_no_notice, hop, is_crossed, is_empty, is_quiet, is_quiet_link, is_quiet_router, onward, over_link, row_for, trace, trace_from, trace_of, traced_by, walk_cost}
 pub use Rattle.network_model.specs.Journal.{Fits, journal_sum, most_steps, step_number, steps_in_sum}
 pub use Rattle.network_model.specs.Machine.{Computation, Machine, Reaction, attachment_after, changed_at, event_at_home, is_port, least, opening_machine, port_count, port_successor, reaction, records_after}
-pub use Rattle.network_model.specs.Network.{AreWithin, HasCosts, IsNetwork, attachment_causes, degree, first_cause, has_same_ends, has_same_prefix, is_bad_attachment, is_bad_link, is_link_too_many, link_causes, most_links, most_ports, most_routers, network_fault, program_limits, touches, widest_limits}
+pub use Rattle.network_model.specs.Network.{AreWithin, HasCosts, IsNetwork, attachment_causes, degree, first_cause, has_same_ends, has_same_prefix, is_bad_attachment, is_bad_link, is_link_too_many, link_causes, most_links, most_ports, most_routers, network_fault, touches, widest_limits}
 pub use Rattle.network_model.specs.Numbers.{one_if}
 pub use Rattle.network_model.specs.Publication.{Image, Patch, answer_of, image_answer, with_rows}
 pub use Rattle.network_model.specs.Run.{History, Runs, history, history_from, one_more, published_after, run, stopped_at, with_step, with_steps}
@@ -70,7 +70,7 @@ pub use Rattle.network_model.specs.declared.route.Answer.{Answer}
 pub use Rattle.network_model.specs.declared.route.Entry.{Entry}
 pub use Rattle.network_model.specs.declared.route.Entry.TheVariants.{Local, Unreachable, Via}
 pub use Rattle.network_model.specs.declared.step.Refusal.{Refusal}
-pub use Rattle.network_model.specs.declared.step.Refusal.TheVariants.{NoImage, NoMemory, NothingDue, NothingRipe, NothingToDeliver, Stale, UnknownLink, UnknownRouter}
+pub use Rattle.network_model.specs.declared.step.Refusal.TheVariants.{NoImage, NothingDue, NothingRipe, NothingToDeliver, Stale, UnknownLink, UnknownRouter}
 pub use Rattle.network_model.specs.declared.step.Step.{Step}
 pub use Rattle.network_model.specs.declared.step.Step.TheVariants.{Attach, Deliver, Detach, LinkDown, LinkUp, Publish, Release, SetCost}
 pub use Rattle.network_model.specs.declared.trace.Ending.{Ending}

@@ -1,6 +1,5 @@
 -- The names that proofs above cite most, passed on from one place. Declares nothing.
 pub use Rattle.std.specs.BTreeMap.{UpdatesBy, get_by_text}
-pub use Rattle.std.specs.Io.KnownBytes.{Appends}
 pub use Rattle.std.specs.List.{AllZip, cons_option, join_with_byte, list_any, position_from, range_with_len}
 pub use Rattle.std.specs.Option.{option_or}
 pub use Rattle.std.proofs.lemmas.Bool.{cases_lt, false≢true}
@@ -32,11 +31,11 @@ pub use Rattle.network_model.specs.declared.network.LinkSpec.{LinkSpec}
 pub use Rattle.network_model.specs.declared.network.Place.{Place}
 pub use Rattle.network_model.specs.declared.step.Step.{Step}
 pub use Rattle.network_model.specs.declared.step.Step.TheVariants.{Attach, Deliver, Detach, LinkDown, LinkUp, Publish, Release, SetCost}
-pub use Rattle.script.specs.Attachments.{AreWords, AttachmentLine, IsAttachment, IsAttachmentFault}
+pub use Rattle.script.specs.Attachments.{AttachmentLine, IsAttachment, IsAttachmentFault}
 pub use Rattle.script.specs.Commands.{Asks, AsksBadAttachment, AsksBadCost, AsksBadQuestion, AsksBadStep, AsksCost, AsksDelivery, AsksDrawn, AsksNoAttachment, AsksNoCost, AsksNoStep, AsksNoTrace, AsksNothing, AsksStep, AsksTrace, HasBadValue, IsCommand, IsCommandFault, IsKnownPrefix, IsPortOn, NamesWay, NamesBadPrefix, NamesLink, NamesNoAddress, NamesNoPrefix, NamesNumber, NamesRouter, NamesText, NamesTextAndNumber, NamesThrough, NamesTwice, address_verbs, link_between, port_on}
 pub use Rattle.script.specs.Directories.{Directory, directory_of, neighbours_of, router_across, source_at}
 pub use Rattle.script.specs.Links.{IsLink, IsLinkFault, LinkWords, router_named}
-pub use Rattle.script.specs.Reading.{IsWhole, ReadsFirst, StopsHere}
+pub use Rattle.script.specs.Reading.{ReadsFirst, StopsHere}
 pub use Rattle.script.specs.Routers.{AreNames, FindsNames, IsDigit, IsName, IsSmallLetter, no_router, router_number}
 pub use Rattle.texts.specs.Lines.{lines_of}
 pub use Rattle.texts.specs.Number.{Spells}

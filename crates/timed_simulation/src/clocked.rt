@@ -1,6 +1,6 @@
 //! A simulation with a clock: when what is left to do is due.
 
-ghost use Rattle.std.specs.Prelude.{IsTrue, ◌≡◌, ◌≤◌, ◌<◌, ◌↔◌, false, Some, drop, length, slice_get, IfOk, IfErr, OnOk, OnErr};
+ghost use Rattle.std.specs.Prelude.{IsTrue, ◌≡◌, ◌<◌, ◌↔◌, false, Some, drop, length, slice_get, IfOk, IfErr, OnOk, OnErr};
 ghost use Rattle.network_model.specs.World.{degree_of, place_at};
 ghost use Rattle.coming_to_rest.specs.Worlds.{is_own};
 ghost use Rattle.simulation.specs.Headline as headline;
