@@ -1,18 +1,14 @@
 -- The words of answers, and the answers of words.
 use Rattle.std.proofs.Common.{ℕ, zero, suc, ◌≡◌, ◌≢◌, inl, inr, ◌-◌, ◌*◌, ◌/◌, ◌^◌, ◌<◌, ◌≤◌, Option, Some, None, true, arith, refl, sym, ap, subst, ◌∙◌, eq-eqb}
-use Rattle.std.proofs.Math.Nat.{div-mul-le_self, mul-mod_left}
-use Rattle.std.proofs.lemmas.Nat.{shl-shr}
+use Rattle.std.proofs.{Math.Nat.div-mul-le_self, Math.Nat.mul-mod_left, lemmas.Nat.shl-shr}
 use Rattle.std.proofs.lemmas.Bool.{cases_eq, cond-true, cond-false, ne_eqb}
-use Rattle.ipv4_prefix.specs.Prefix.{Prefix, IsPrefix, covers}
-use Rattle.ipv4_prefix.specs.LongestMatch.{longest_match}
+use Rattle.ipv4_prefix.specs.{Prefix.Prefix, Prefix.IsPrefix, Prefix.covers, LongestMatch.longest_match}
 use Rattle.ipv4_prefix.proofs.TableRows.{longest_in_table}
 use Rattle.array_bitmap.specs.Words.{nothing, found, len_of, word_entry, answer_word, word_answer, IsRowWord, IsReadBack}
 use Rattle.bitmaps.specs.Greatest.{GreatestBelow}
 use Rattle.array_bitmap.specs.Tree.{Cells, word_at, entry_in, rows_of_cells, IsSoundCells}
-use Rattle.array_bitmap.proofs.ShortRows.{some_found}
+use Rattle.array_bitmap.proofs.{ShortRows.some_found, LongestRow.found-row, PrefixRows.longest_on_path, PrefixRows.none_on_path}
 use Rattle.bitmaps.proofs.Finds.{GreatestBelow-end}
-use Rattle.array_bitmap.proofs.LongestRow.{found-row}
-use Rattle.array_bitmap.proofs.PrefixRows.{longest_on_path, none_on_path}
 
 -- the prefix of so many bits that covers an address
 abbrev covering : ℕ → ℕ → Prefix

@@ -1,13 +1,9 @@
 -- The arrays of an image, as the code writes them.
 use Rattle.std.proofs.Common.{ℕ, ◌≡◌, inl, inr, ◌+◌, ◌-◌, ◌*◌, ◌/◌, ◌%◌, ◌^◌, ◌<◌, ◌≤◌, List, arith, sym, ap, ◌∙◌}
-use Rattle.std.proofs.lemmas.Bool.{cases_lt, cases_eq}
+use Rattle.std.proofs.{lemmas.Bool.cases_lt, lemmas.Bool.cases_eq, Math.Nat.pow-le-pow_right}
 use Rattle.std.proofs.lemmas.Nat.{one_shl, pow-add, le-div, div_below, div-add-mod', mod_below, mul-le}
-use Rattle.std.proofs.Math.Nat.{pow-le-pow_right}
 use mathlib.Core.Path.{fun_ext}
-use Rattle.array_bitmap.specs.Bits.{depth_of, path_start}
-use Rattle.array_bitmap.specs.Tree.{Cells}
-use Rattle.array_bitmap.specs.Image.{top_at}
-use Rattle.array_bitmap.specs.declared.tree.Top.{Top}
+use Rattle.array_bitmap.specs.{Bits.depth_of, Bits.path_start, Tree.Cells, Image.top_at, declared.tree.Top.Top}
 use Rattle.array_bitmap.proofs.ShortRows.{start_small}
 
 -- a number below 2^64 is not cut off

@@ -2,15 +2,12 @@
 use Rattle.std.proofs.Common.{ℕ, ◌≡◌, inl, inr, ◌+◌, ◌<◌, Bool, true, false, cond, not, T, List, [], ◌∷◌, ◌++◌, length, take, get_or, Option, Some, None, is_some, arith, refl, sym, ap, subst, ◌∙◌, length-append}
 use Rattle.std.specs.FinMap.{put, find as row_of, is_sorted}
 use Rattle.std.specs.FinMap.Entries.{is_sorted-put, is_sorted-where_key, find-put, find-where_key, same_entries}
-use Rattle.std.proofs.Math.Seq.{get_or-append_seam}
-use Rattle.std.proofs.lemmas.Bool.{cases_eq}
+use Rattle.std.proofs.{Math.Seq.get_or-append_seam, lemmas.Bool.cases_eq}
 use Rattle.std.proofs.lemmas.List.{get_or_append_left, get_or_default, get_or-take, length-take}
 use Rattle.ipv4_prefix.specs.Prefix.{Prefix, prefix_cmp, prefix_eq}
 use Rattle.ipv4_prefix.proofs.PrefixOrder.{prefix_cmp_total, prefix_cmp-tied, prefix_eq-Decides}
-use Rattle.network_model.specs.declared.route.Entry.{Entry}
-use Rattle.network_model.specs.Publication.{with_rows}
-use Rattle.array_bitmap.specs.Removal.{without_row}
-use Rattle.array_bitmap.specs.Batch.{put_back, IsNoted}
+use Rattle.network_model.specs.{declared.route.Entry.Entry, Publication.with_rows}
+use Rattle.array_bitmap.specs.{Removal.without_row, Batch.put_back, Batch.IsNoted}
 use Rattle.bitmaps.proofs.RowsSet.{with_one_more, with_all}
 
 -- rows set in order leave a table in order

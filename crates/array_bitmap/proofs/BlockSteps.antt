@@ -1,27 +1,15 @@
 -- From a place in a block to the next one: no prefix between has a row.
 use Rattle.std.proofs.Common.{ℕ, zero, suc, ◌≡◌, inl, inr, ◌+◌, ◌-◌, ◌*◌, ◌/◌, ◌%◌, ◌^◌, ◌<◌, ◌≤◌, false, Option, None, option_map, arith, refl, sym, ap, subst, ◌∙◌}
 use Rattle.std.specs.Int.{bit_at}
-use Rattle.std.proofs.lemmas.Bool.{cases_lt, cases_order}
+use Rattle.std.proofs.{lemmas.Bool.cases_lt, lemmas.Bool.cases_order, Math.Nat.mul-lt-mul_of_pos_right, Math.Nat.zero-mod, Math.Pow.mod-mod-pow}
 use Rattle.std.proofs.lemmas.Nat.{pow-add, pow_pos, mod-pow-add, div-add-mod', le-div, mul-le}
-use Rattle.std.proofs.Math.Nat.{mul-lt-mul_of_pos_right, zero-mod}
-use Rattle.std.proofs.Math.Pow.{mod-mod-pow}
 use Rattle.ipv4_prefix.specs.Prefix.{Prefix, IsPrefix}
 use Rattle.array_bitmap.specs.Bits.{depth_of, five_bits, path_start, row_bit}
-use Rattle.array_bitmap.specs.Words.{word_entry}
-use Rattle.array_bitmap.specs.Blocks.{kid_map, kid_in, IsHead}
+use Rattle.array_bitmap.specs.{Words.word_entry, Blocks.kid_map, Blocks.kid_in, Blocks.IsHead, declared.blocks.Head.Head, declared.cursor.Spot.Spot, declared.cursor.Found.TheVariants.NoneBefore}
 use Rattle.array_bitmap.specs.Cursor.{is_before, IsFirstAt, IsFoundAt, IsNextSpot, spot_number, none_until}
 use Rattle.array_bitmap.specs.Tree.{Cells, words_at, block_at, word_at, entry_in, IsSoundCells}
-use Rattle.array_bitmap.specs.declared.blocks.Head.{Head}
-use Rattle.array_bitmap.specs.declared.cursor.Spot.{Spot}
-use Rattle.array_bitmap.specs.declared.cursor.Found.TheVariants.{NoneBefore}
-use Rattle.array_bitmap.proofs.Covering.{row-clear}
-use Rattle.array_bitmap.proofs.EmptyBlocks.{in_level, none_until_end}
-use Rattle.array_bitmap.proofs.Lookups.{next_block}
-use Rattle.array_bitmap.proofs.PathBits.{next_level}
-use Rattle.array_bitmap.proofs.PrefixRows.{path_bits}
+use Rattle.array_bitmap.proofs.{Covering.row-clear, EmptyBlocks.in_level, EmptyBlocks.none_until_end, Lookups.next_block, PathBits.next_level, PrefixRows.path_bits, Stands.word_of_stand, Walks.block-same, Walks.kid-clear, Walks.none_below}
 use Rattle.array_bitmap.proofs.PrefixNumbers.{number, number_before, number_not_before, before_from_number}
-use Rattle.array_bitmap.proofs.Stands.{word_of_stand}
-use Rattle.array_bitmap.proofs.Walks.{block-same, kid-clear, none_below}
 
 -- ---- paths as multiples
 

@@ -6,8 +6,7 @@ use Rattle.bitmaps.specs.Bits.{rank}
 use Rattle.array_bitmap.specs.Blocks.{row_map, kid_map, row_index, kid_index, size_for, row_in, kid_in, IsBlock}
 use Rattle.array_bitmap.specs.Changes.{ChangesRow, ChangesKid, IsInserted, IsReplaced, IsRemoved}
 use Rattle.bitmaps.proofs.Ranks.{rank_lt, rank_le, rank_mono, rank_mono_lt, bit_at-add_same, bit_at-add_other, ones-add, add_lt, rank-add_below, rank-add_above}
-use Rattle.array_bitmap.proofs.Covering.{row-set, row-clear}
-use Rattle.array_bitmap.proofs.Walks.{kid-set, kid-clear}
+use Rattle.array_bitmap.proofs.{Covering.row-set, Covering.row-clear, Walks.kid-set, Walks.kid-clear}
 
 -- two rows are the same where both bits are set and their words are the same, or neither bit is set
 pub same_row : (ws ws' : List ℕ) (b : ℕ) → bit_at (row_map ws') b ≡ bit_at (row_map ws) b

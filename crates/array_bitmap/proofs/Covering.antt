@@ -3,11 +3,9 @@ use Rattle.std.proofs.Common.{ℕ, zero, suc, ◌≡◌, inl, inr, ⊎_elim, ◌
 use Rattle.std.specs.Int.{bit_at}
 use Rattle.std.proofs.lemmas.Bool.{cases_eq, and_parts, eqb-true, cond-true, cond-false, eq-eqb, ne_eqb}
 use Rattle.std.proofs.lemmas.Nat.Bits.{bit_at-zero, bit_at-lt, bit_at_and, bit_at_or, bit_at-pow_same, bit_at-pow_other}
-use Rattle.bitmaps.specs.Greatest.{GreatestBelow}
-use Rattle.bitmaps.specs.Bits.{IsHighest}
+use Rattle.bitmaps.specs.{Greatest.GreatestBelow, Bits.IsHighest}
 use Rattle.bitmaps.proofs.HighestBit.{both_bits}
-use Rattle.array_bitmap.specs.Bits.{row_bit, width}
-use Rattle.array_bitmap.specs.Blocks.{row_map, row_index, row_in}
+use Rattle.array_bitmap.specs.{Bits.row_bit, Bits.width, Blocks.row_map, Blocks.row_index, Blocks.row_in}
 use Rattle.array_bitmap.proofs.PathBits.{longer_is_greater}
 
 -- ---- bits of covering prefixes

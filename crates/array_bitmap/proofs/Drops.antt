@@ -1,15 +1,11 @@
 -- A block without rows and kids loses its name, and is given back.
 use Rattle.std.proofs.Common.{ℕ, zero, suc, ◌≡◌, ◌≢◌, ◌⊎◌, inl, inr, ◌+◌, ◌==◌, List, Option, Some, None, cond, is_some, sym, ap, subst, ◌∙◌}
 use Rattle.std.proofs.lemmas.Bool.{cases_eq}
-use Rattle.array_bitmap.specs.Bits.{depth_of, five_bits, path_start}
-use Rattle.array_bitmap.specs.Words.{found}
-use Rattle.array_bitmap.specs.Blocks.{row_in, kid_in}
+use Rattle.array_bitmap.specs.{Bits.depth_of, Bits.five_bits, Bits.path_start, Words.found, Blocks.row_in, Blocks.kid_in, Changes.WritesName}
 use Rattle.array_bitmap.specs.Tree.{Cells, words_in_block, words_at, kid_at, block_at, word_at, named, IsSoundCells}
-use Rattle.array_bitmap.specs.Changes.{WritesName}
 use Rattle.array_bitmap.proofs.Walks.{zeros, block-first, block-next, kid-nowhere, row-nowhere, no_kid_none}
 use Rattle.array_bitmap.proofs.OnePath.{named-kid, named_used, name_of, holder, index_in}
-use Rattle.array_bitmap.proofs.SetsWords.{GreatestBelow-same}
-use Rattle.array_bitmap.proofs.NewBlocks.{words_same}
+use Rattle.array_bitmap.proofs.{SetsWords.GreatestBelow-same, NewBlocks.words_same}
 
 -- ---- the name of a block is written over with 0
 module _ (c : Cells) (tops2 : ℕ → ℕ) (heap2 : ℕ → Option (List ℕ)) (q k j : ℕ) (sound : IsSoundCells c) (name : named c q k ≡ j) (real : j ≢ 0)

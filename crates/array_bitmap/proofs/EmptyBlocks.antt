@@ -1,17 +1,13 @@
 -- What an image has at a prefix, and which prefixes after it have no row.
 use Rattle.std.proofs.Common.{ℕ, ◌≡◌, inl, inr, ◌+◌, ◌-◌, ◌*◌, ◌/◌, ◌%◌, ◌^◌, ◌<◌, ◌≤◌, false, Option, Some, None, option_map, arith, sym, ap, subst, ◌∙◌}
-use Rattle.std.proofs.lemmas.Bool.{cases_lt, cases_eq, true≢false}
-use Rattle.std.proofs.lemmas.Nat.{div-mul-add, pow_pos}
-use Rattle.std.proofs.Math.Nat.{div-add-mod, div-mul-le_self, lt-div-mul-add}
+use Rattle.std.proofs.{lemmas.Bool.cases_lt, lemmas.Bool.cases_eq, lemmas.Bool.true≢false, lemmas.Nat.div-mul-add, lemmas.Nat.pow_pos, Math.Nat.div-add-mod, Math.Nat.div-mul-le_self, Math.Nat.lt-div-mul-add}
 use Rattle.ipv4_prefix.specs.Prefix.{Prefix, IsPrefix}
 use Rattle.network_model.specs.declared.route.Entry.{Entry}
-use Rattle.array_bitmap.specs.Bits.{depth_of, path_start}
-use Rattle.array_bitmap.specs.Words.{word_entry}
+use Rattle.array_bitmap.specs.{Bits.depth_of, Bits.path_start, Words.word_entry}
 use Rattle.array_bitmap.specs.Cursor.{is_before, IsNextPrefix, IsFirstAt, IsFoundAt, none_until}
 use Rattle.array_bitmap.specs.Tree.{Cells, block_at, entry_in, IsSoundCells}
-use Rattle.array_bitmap.proofs.Walks.{block-same, none_below}
+use Rattle.array_bitmap.proofs.{Walks.block-same, Walks.none_below, PrefixRows.path_bits}
 use Rattle.array_bitmap.proofs.PrefixNumbers.{number_before, number_not_before, before_from_number, same_where_neither, cases_before, longer_writable}
-use Rattle.array_bitmap.proofs.PrefixRows.{path_bits}
 
 -- a number between another and the end of its block is in that block
 same_block : (c a w : ℕ) → 0 < w → c ≤ a → a < (c / w + 1) * w → a / w ≡ c / w

@@ -1,20 +1,17 @@
 -- An image without rows, and one with the same words.
 use Rattle.std.proofs.Common.{ℕ, suc, ◌≡◌, inl, inr, ◌+◌, ◌-◌, ◌*◌, ◌^◌, ◌≤◌, List, [], get_or, replicate, Option, None, option_map, arith, refl, sym, ap, subst, ◌∙◌}
-use Rattle.std.specs.Int.{bit_at}
-use Rattle.std.specs.Int.RustNames.{count_ones}
+use Rattle.std.specs.{Int.bit_at, Int.RustNames.count_ones}
 use Rattle.std.proofs.lemmas.Bool.{cases_eq, cases_lt, cond-true, cond-false, eq-eqb, ne_eqb}
 use Rattle.std.proofs.lemmas.Nat.Bits.{bit_at-zero}
 use mathlib.Core.Path.{fun_ext}
 use Rattle.word_pool.specs.Heap.{HasOnlyZeros}
 use Rattle.ipv4_prefix.proofs.TableRows.{table_rows-empty}
 use Rattle.array_bitmap.specs.Bits.{depth_of, five_bits, path_start, row_bit, level_of, more_of}
-use Rattle.array_bitmap.specs.Words.{nothing, word_entry, found}
+use Rattle.array_bitmap.specs.{Words.nothing, Words.word_entry, Words.found, declared.tree.Top.Top}
 use Rattle.array_bitmap.specs.Blocks.{size_for, row_in, kid_in, IsBlock}
 use Rattle.bitmaps.specs.Greatest.{GreatestBelow}
 use Rattle.array_bitmap.specs.Tree.{Cells, words_in_block, words_at, block_at, short_word, long_word, word_at, named, entry_in, rows_of_cells, IsSoundCells}
-use Rattle.array_bitmap.specs.declared.tree.Top.{Top}
-use Rattle.array_bitmap.proofs.ShortRows.{nothing_shown, nothing_found}
-use Rattle.array_bitmap.proofs.ShortSet.{array_cells}
+use Rattle.array_bitmap.proofs.{ShortRows.nothing_shown, ShortRows.nothing_found, ShortSet.array_cells}
 use Rattle.bitmaps.proofs.Options.{none≢some, Some_same}
 use Rattle.array_bitmap.proofs.Walks.{zeros, no_kid_none, row-nowhere, gone, block-first, word-short, word-long}
 

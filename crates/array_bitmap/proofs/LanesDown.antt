@@ -1,12 +1,10 @@
 -- Look-ups go down one level, one after another.
 use Rattle.std.proofs.Common.{ℕ, ◌≡◌, ◌≢◌, ◌⊎◌, inl, inr, ◌+◌, ◌-◌, ◌*◌, ◌<◌, ◌≤◌, List, length, slice_index, slice_set, min, arith, refl, sym, ap, subst, ◌∙◌, get_or-set_same, get_or-set_other}
 use Rattle.std.proofs.lemmas.Bool.{cases_eq, cases_lt}
-use Rattle.array_bitmap.specs.Bits.{depth_of}
-use Rattle.array_bitmap.specs.Words.{found}
+use Rattle.array_bitmap.specs.{Bits.depth_of, Words.found, declared.lanes.Lane.Lane}
 use Rattle.bitmaps.specs.Greatest.{GreatestBelow}
 use Rattle.array_bitmap.specs.Tree.{Cells, block_at, word_at, IsSoundCells}
 use Rattle.array_bitmap.specs.Lane.{IsStep, IsLongestWord, IsCared, lane_at}
-use Rattle.array_bitmap.specs.declared.lanes.Lane.{Lane}
 use Rattle.array_bitmap.proofs.Lookups.{longest_ends}
 
 -- an address has its word, or a look-up that has gone down, or one that has not yet

@@ -2,15 +2,13 @@
 use Rattle.std.proofs.Common.{ℕ, ◌≡◌, ◌↔◌, ◌+◌, ◌^◌, ◌<◌, ◌≤◌, bit_and, Option, Some, None, arith, sym, ap, subst, ◌∙◌}
 use Rattle.std.specs.Int.{bit_at}
 use Rattle.std.proofs.lemmas.Bool.{cond-false, ne_eqb}
-use Rattle.bitmaps.specs.Bits.{IsHighest}
+use Rattle.bitmaps.specs.{Bits.IsHighest, Greatest.GreatestBelow}
 use Rattle.bitmaps.proofs.Finds.{GreatestBelow-end, GreatestBelow-longer}
 use Rattle.array_bitmap.specs.Bits.{depth_of, five_bits, row_bit, width}
 use Rattle.array_bitmap.specs.Words.{kind_of, found, nothing, IsRowWord}
 use Rattle.array_bitmap.specs.Blocks.{row_map, row_in, word_after}
-use Rattle.bitmaps.specs.Greatest.{GreatestBelow}
 use Rattle.array_bitmap.specs.Tree.{Cells, words_at, kid_at, block_at, word_at, IsSoundCells}
-use Rattle.array_bitmap.proofs.Covering.{none_in, some_in}
-use Rattle.array_bitmap.proofs.Walks.{word_in, block-next, none_after}
+use Rattle.array_bitmap.proofs.{Covering.none_in, Covering.some_in, Walks.word_in, Walks.block-next, Walks.none_after}
 
 -- what is found by a row's word
 pub found-row : (len w : ℕ) → IsRowWord len w → found w ≡ Some (len, w)

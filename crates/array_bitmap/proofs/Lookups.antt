@@ -1,16 +1,13 @@
 -- What the code reads of an image.
 use Rattle.std.proofs.Common.{ℕ, suc, ◌≡◌, ◌↔◌, ◌+◌, ◌-◌, ◌^◌, ◌<◌, ◌≤◌, min, bit_and, Option, is_some, arith, sym, ap, subst, ◌∙◌}
 use Rattle.std.specs.Int.{bit_at}
-use Rattle.bitmaps.specs.Bits.{IsHighest}
+use Rattle.bitmaps.specs.{Bits.IsHighest, Greatest.GreatestBelow}
 use Rattle.array_bitmap.specs.Bits.{depth_of, five_bits, row_bit, width}
 use Rattle.array_bitmap.specs.Words.{found}
 use Rattle.array_bitmap.specs.Blocks.{row_map, kid_in, word_after, IsBlock}
-use Rattle.bitmaps.specs.Greatest.{GreatestBelow}
 use Rattle.array_bitmap.specs.Tree.{Cells, words_in_block, kid_at, block_at, word_at, IsSoundCells}
 use Rattle.bitmaps.proofs.Options.{some-from}
-use Rattle.array_bitmap.proofs.Walks.{block-next}
-use Rattle.array_bitmap.proofs.OnePath.{block_used}
-use Rattle.array_bitmap.proofs.LongestRow.{best_after, best_at_end}
+use Rattle.array_bitmap.proofs.{Walks.block-next, OnePath.block_used, LongestRow.best_after, LongestRow.best_at_end}
 
 -- each block of a path is one
 pub block_is : (c : Cells) (sound : IsSoundCells c) (path steps block : ℕ) → block ≡ block_at c path steps → IsBlock (words_in_block (c.heap block))

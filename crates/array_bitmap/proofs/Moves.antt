@@ -2,15 +2,13 @@
 use Rattle.std.proofs.Common.{ℕ, zero, suc, ◌≡◌, ◌≢◌, ◌⊎◌, inl, inr, ◌+◌, ◌-◌, ◌/◌, ◌^◌, ◌<◌, ◌≤◌, ◌==◌, List, Option, Some, None, true, cond, is_some, arith, refl, sym, ap, subst, ◌∙◌}
 use Rattle.std.proofs.lemmas.Bool.{cond-true, cond-false, eq-eqb, ne_eqb, cases_eq, cases_lt, false≢true}
 use Rattle.array_bitmap.specs.Bits.{depth_of, five_bits, path_start, row_bit, level_of, more_of}
-use Rattle.array_bitmap.specs.Words.{IsRowWord, found}
-use Rattle.array_bitmap.specs.Blocks.{row_in, kid_in, IsBlock}
+use Rattle.array_bitmap.specs.{Words.IsRowWord, Words.found, Blocks.row_in, Blocks.kid_in, Blocks.IsBlock}
 use Rattle.bitmaps.specs.Greatest.{GreatestBelow}
 use Rattle.array_bitmap.specs.Tree.{Cells, words_in_block, words_at, kid_at, block_at, short_word, long_word, word_at, named, IsSoundCells, SetsWord}
 use Rattle.array_bitmap.specs.Changes.{IsReworded, WritesName, ChangesRow, ChangesKid}
-use Rattle.array_bitmap.proofs.PathBits.{parts_from_first, first_from_parts, row_bit_same}
+use Rattle.array_bitmap.proofs.{PathBits.parts_from_first, PathBits.first_from_parts, PathBits.row_bit_same, SetsWords.row_words_stay, SetsWords.GreatestBelow-same}
 use Rattle.array_bitmap.proofs.Walks.{zeros, block-first, block-next, block-same, word_in, word-long, kid-nowhere, row-nowhere, no_kid_none, word-short}
 use Rattle.array_bitmap.proofs.OnePath.{named-kid, named_used, block_used, walk_unique}
-use Rattle.array_bitmap.proofs.SetsWords.{row_words_stay, GreatestBelow-same}
 
 module _ (c : Cells) (heap1 : ℕ → Option (List ℕ)) (tops2 : ℕ → ℕ) (heap2 : ℕ → Option (List ℕ)) (j j' q k : ℕ) (ws ws' : List ℕ)
     (sound : IsSoundCells c) (at : c.heap j ≡ Some ws) (real : j ≢ 0) (name : named c q k ≡ j) (apart : q ≢ j)

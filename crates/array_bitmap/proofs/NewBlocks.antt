@@ -2,13 +2,10 @@
 use Rattle.std.proofs.Common.{ℕ, zero, suc, ◌≡◌, ◌≢◌, ◌⊎◌, inl, inr, ◌+◌, ◌-◌, ◌≤◌, ◌==◌, List, Option, Some, None, true, cond, is_some, sym, ap, subst, ◌∙◌}
 use Rattle.std.proofs.lemmas.Bool.{cases_eq, cases_lt, false≢true}
 use Rattle.array_bitmap.specs.Bits.{depth_of, five_bits, path_start, row_bit, level_of, more_of}
-use Rattle.array_bitmap.specs.Words.{found}
-use Rattle.array_bitmap.specs.Blocks.{row_in, kid_in, IsBlock}
+use Rattle.array_bitmap.specs.{Words.found, Blocks.row_in, Blocks.kid_in, Blocks.IsBlock, Changes.WritesName}
 use Rattle.array_bitmap.specs.Tree.{Cells, words_in_block, words_at, kid_at, block_at, short_word, long_word, word_at, named, IsSoundCells}
-use Rattle.array_bitmap.specs.Changes.{WritesName}
 use Rattle.array_bitmap.proofs.Walks.{zeros, block-first, block-next, kid-nowhere, row-nowhere, no_kid_none, no_row_none, word-short, word-long}
-use Rattle.array_bitmap.proofs.OnePath.{named-kid, named_used}
-use Rattle.array_bitmap.proofs.SetsWords.{GreatestBelow-same}
+use Rattle.array_bitmap.proofs.{OnePath.named-kid, OnePath.named_used, SetsWords.GreatestBelow-same}
 
 module _ (c : Cells) (tops2 : ℕ → ℕ) (heap2 : ℕ → Option (List ℕ)) where
   abbrev c2 : Cells

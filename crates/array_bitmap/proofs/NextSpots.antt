@@ -1,15 +1,11 @@
 -- The next place in a block that has a row or a kid.
 use Rattle.std.proofs.Common.{ℕ, zero, suc, ◌≡◌, inl, inr, ◌+◌, ◌-◌, ◌*◌, ◌/◌, ◌%◌, ◌^◌, ◌<◌, ◌≤◌, min, arith, refl, sym, ap, subst, ◌∙◌, shr-shr, w64, ◌↔◌}
-use Rattle.std.specs.Int.{bit_at}
-use Rattle.std.specs.Int.Count.{count_trailing_zeros, trailing_of_zero}
-use Rattle.std.proofs.lemmas.Bool.{cases_eq, cases_lt}
-use Rattle.std.proofs.lemmas.Nat.{pow_pos, pow-add, mod-pow-add}
+use Rattle.std.specs.{Int.bit_at, Int.Count.count_trailing_zeros, Int.Count.trailing_of_zero}
+use Rattle.std.proofs.{lemmas.Bool.cases_eq, lemmas.Bool.cases_lt, lemmas.Nat.pow_pos, lemmas.Nat.pow-add, lemmas.Nat.mod-pow-add, Math.Pow.mod-mod-pow}
 use Rattle.std.proofs.lemmas.Nat.Bits.{bit_at-zero, bit_at_cat_low, bit_at_cat_high, bit_at-trailing_zeros}
 use Rattle.std.proofs.Math.Nat.{div-mul-le_self, zero-mod, mul-div_cancel, mul-mod_left, add-mul-mod_self_right, mul-lt-mul_of_pos_right}
-use Rattle.std.proofs.Math.Pow.{mod-mod-pow}
 use Rattle.array_bitmap.specs.Bits.{depth_of, path_start, row_bit, width}
-use Rattle.array_bitmap.specs.Cursor.{spot_number}
-use Rattle.array_bitmap.specs.declared.cursor.Spot.{Spot}
+use Rattle.array_bitmap.specs.{Cursor.spot_number, declared.cursor.Spot.Spot}
 use Rattle.array_bitmap.proofs.ShortRows.{start_small}
 
 -- ---- the next bit

@@ -3,8 +3,7 @@ use Rattle.std.proofs.Common.{ℕ, zero, suc, ◌≡◌, ◌≢◌, inl, inr, �
 use Rattle.std.proofs.lemmas.Bool.{cond-false, ne_eqb, cases_eq}
 use Rattle.array_bitmap.specs.Bits.{depth_of, five_bits, path_start}
 use Rattle.array_bitmap.specs.Tree.{Cells, kid_at, block_at, named, IsSoundCells}
-use Rattle.array_bitmap.proofs.PathBits.{after_level}
-use Rattle.array_bitmap.proofs.Walks.{block-first, block-next, kid_of_some}
+use Rattle.array_bitmap.proofs.{PathBits.after_level, Walks.block-first, Walks.block-next, Walks.kid_of_some}
 
 -- what stands at a name in a block
 pub named-kid : (c : Cells) (place k : ℕ) → place ≢ 0 → named c place k ≡ kid_at c place k

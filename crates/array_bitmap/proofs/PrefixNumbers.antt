@@ -1,16 +1,10 @@
 -- The order of prefixes by numbers, and the first prefix at an address.
 use Rattle.std.proofs.Common.{ℕ, zero, suc, ◌≡◌, ◌⊎◌, inl, inr, ◌+◌, ◌-◌, ◌*◌, ◌/◌, ◌%◌, ◌^◌, ◌<◌, ◌≤◌, ◌==◌, Bool, true, false, cond, Option, Some, None, arith, refl, sym, ap, subst, ◌∙◌, Ordering}
-use Rattle.std.specs.declared.cmp.Ordering.TheVariants.{Less, Equal, Greater}
-use Rattle.std.specs.Ordering.{is_lt, ordering_reverse}
-use Rattle.std.specs.Int.Count.{count_trailing_zeros, under}
+use Rattle.std.specs.{declared.cmp.Ordering.TheVariants.Less, declared.cmp.Ordering.TheVariants.Equal, declared.cmp.Ordering.TheVariants.Greater, Ordering.is_lt, Ordering.ordering_reverse, Int.Count.count_trailing_zeros, Int.Count.under}
 use Rattle.std.proofs.lemmas.Bool.{cases_order, cases_lt, cases_eq, lt-ltb, le-ltb, eq-eqb, ne_eqb, true≢false}
-use Rattle.std.proofs.lemmas.Cmp.{tied_itself}
-use Rattle.std.proofs.lemmas.Nat.{mod-pow-add, trailing_le}
-use Rattle.std.proofs.Math.Nat.{zero-mod}
-use Rattle.std.proofs.Math.Pow.{mod-mod-pow}
+use Rattle.std.proofs.{lemmas.Cmp.tied_itself, lemmas.Nat.mod-pow-add, lemmas.Nat.trailing_le, Math.Nat.zero-mod, Math.Pow.mod-mod-pow}
 use Rattle.ipv4_prefix.specs.Prefix.{Prefix, IsPrefix, covers, prefix_cmp}
-use Rattle.ipv4_prefix.proofs.LongestMatches.{covering_same}
-use Rattle.ipv4_prefix.proofs.PrefixOrder.{prefix_cmp_total, prefix_cmp-tied, less_from_test}
+use Rattle.ipv4_prefix.proofs.{LongestMatches.covering_same, PrefixOrder.prefix_cmp_total, PrefixOrder.prefix_cmp-tied, PrefixOrder.less_from_test}
 use Rattle.array_bitmap.specs.Cursor.{is_before, IsNextPrefix, IsFirstAt}
 
 -- ---- the order by numbers

@@ -1,24 +1,18 @@
 -- Rows of an image by prefixes.
-use Rattle.std.specs.FinMap.{find as row_of}
-use Rattle.std.specs.FinMap.Entries.{is_sorted-where_key, find-where_key}
+use Rattle.std.specs.{FinMap.find as row_of, FinMap.Entries.is_sorted-where_key, FinMap.Entries.find-where_key}
 use Rattle.std.proofs.Common.{ℕ, ◌≡◌, ◌≢◌, inl, inr, ◌+◌, ◌-◌, ◌*◌, ◌/◌, ◌^◌, ◌<◌, ◌≤◌, Bool, true, false, cond, not, Option, Some, None, is_some, option_map, arith, refl, sym, ap, subst, ◌∙◌, shr-shr}
 use Rattle.std.proofs.lemmas.Bool.{eq-eqb, eqb-true, cases_lt}
 use Rattle.ipv4_prefix.specs.Prefix.{Prefix, IsPrefix, covers, prefix_cmp, prefix_eq}
-use Rattle.ipv4_prefix.specs.LongestMatch.{IsLongestIn}
-use Rattle.ipv4_prefix.specs.Tables.{table_rows}
-use Rattle.ipv4_prefix.proofs.PrefixOrder.{prefix_eq-Decides, prefix_cmp-tied}
+use Rattle.ipv4_prefix.specs.{LongestMatch.IsLongestIn, Tables.table_rows}
+use Rattle.ipv4_prefix.proofs.{PrefixOrder.prefix_eq-Decides, PrefixOrder.prefix_cmp-tied, LongestMatches.covering_same}
 use Rattle.ipv4_prefix.proofs.TableRows.{table_rows-sorted, table_rows_unique, row_of-table, row_of-unwritable}
-use Rattle.array_bitmap.specs.Removal.{without_row}
-use Rattle.ipv4_prefix.proofs.LongestMatches.{covering_same}
+use Rattle.array_bitmap.specs.{Removal.without_row, Blocks.row_in}
 use Rattle.network_model.specs.declared.route.Entry.{Entry}
 use Rattle.array_bitmap.specs.Bits.{depth_of, five_bits, path_start, row_bit, level_of, more_of}
 use Rattle.array_bitmap.specs.Words.{nothing, word_entry, len_of, found}
-use Rattle.array_bitmap.specs.Blocks.{row_in}
 use Rattle.bitmaps.specs.Greatest.{GreatestBelow}
 use Rattle.array_bitmap.specs.Tree.{Cells, words_at, block_at, word_at, row_at, entry_in, SetsWord}
-use Rattle.array_bitmap.proofs.PathBits.{parts_from_first}
-use Rattle.array_bitmap.proofs.Walks.{word-short, word_in, block-same}
-use Rattle.array_bitmap.proofs.ShortRows.{short_same, nothing_found, some_found}
+use Rattle.array_bitmap.proofs.{PathBits.parts_from_first, Walks.word-short, Walks.word_in, Walks.block-same, ShortRows.short_same, ShortRows.nothing_found, ShortRows.some_found}
 
 -- the first bits of an address's path are those of the address
 pub path_bits : (a len : ℕ) → len ≤ 32 → path_start (a * 4) len ≡ a / 2 ^ (32 - len)

@@ -1,11 +1,9 @@
 -- The blocks of a path that are left.
 use Rattle.std.proofs.Common.{ℕ, suc, ◌≡◌, ◌≢◌, inl, inr, ◌+◌, ◌-◌, ◌<◌, ◌≤◌, arith, ap, sym, subst, ◌∙◌}
 use Rattle.std.proofs.lemmas.Bool.{cases_eq, cases_lt}
-use Rattle.array_bitmap.specs.Bits.{five_bits}
+use Rattle.array_bitmap.specs.{Bits.five_bits, Removal.HasUse}
 use Rattle.array_bitmap.specs.Tree.{Cells, words_at, block_at, IsSoundCells}
-use Rattle.array_bitmap.specs.Removal.{HasUse}
-use Rattle.array_bitmap.proofs.Walks.{block-next}
-use Rattle.array_bitmap.proofs.Stands.{no_kids_in, walk_ends}
+use Rattle.array_bitmap.proofs.{Walks.block-next, Stands.no_kids_in, Stands.walk_ends}
 
 -- above a block of a path, each block has a kid
 pub used_above : (c : Cells) (sound : IsSoundCells c) (path d k : ℕ) → c.first ≤ d → d < k → block_at c path (k - c.first) ≢ 0 → HasUse c path d

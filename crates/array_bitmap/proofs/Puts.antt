@@ -1,9 +1,7 @@
 -- A row or a kid is put into a block of a pool.
 use Rattle.std.proofs.Common.{ℕ, ◌≡◌, ◌≢◌, inl, inr, ◌+◌, ◌*◌, ◌/◌, ◌%◌, ◌^◌, ◌<◌, ◌≤◌, List, slice_index, Some, true, cond, is_some, ◌==◌, arith, refl, sym, ap, subst, ◌∙◌}
-use Rattle.std.specs.Int.{bit_at}
-use Rattle.std.specs.Int.RustNames.{count_ones}
-use Rattle.std.proofs.lemmas.Bool.{cases_eq, false≢true}
-use Rattle.std.proofs.lemmas.Nat.Bits.{bit_at-zero}
+use Rattle.std.specs.{Int.bit_at, Int.RustNames.count_ones}
+use Rattle.std.proofs.{lemmas.Bool.cases_eq, lemmas.Bool.false≢true, lemmas.Nat.Bits.bit_at-zero}
 use Rattle.word_pool.specs.Heap.{Heap, size_of, IsWordWritten, IsAllocated, SameOthers}
 use Rattle.bitmaps.proofs.Ranks.{ones_of_zero, rank_lt}
 use Rattle.array_bitmap.specs.Blocks.{row_map, kid_map, row_index, kid_index, size_for, used_words, row_in, kid_in, IsBlock}

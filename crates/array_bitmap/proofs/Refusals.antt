@@ -2,8 +2,7 @@
 use Rattle.std.proofs.Common.{ℕ, ◌≡◌, ◌-◌, ◌/◌, ◌%◌, ◌<◌, ◌≤◌, None, refl, arith, ◌∙◌}
 use Rattle.array_bitmap.specs.Bits.{depth_of, five_bits, row_bit}
 use Rattle.array_bitmap.specs.Tree.{Cells, block_at, word_at, IsSoundCells}
-use Rattle.array_bitmap.proofs.Walks.{row-nowhere}
-use Rattle.array_bitmap.proofs.Stands.{walk_ends, word_of_len}
+use Rattle.array_bitmap.proofs.{Walks.row-nowhere, Stands.walk_ends, Stands.word_of_len}
 
 pub no_word_below : (c : Cells) (sound : IsSoundCells c) (path len d : ℕ) → c.first ≤ d → depth_of d < len → block_at c path (d - c.first) ≡ 0 → word_at c path len ≡ None
 no_word_below c sound path len d low long none =

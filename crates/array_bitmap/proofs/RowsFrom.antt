@@ -1,16 +1,10 @@
 -- Rows in order, from a prefix on.
 use Rattle.std.proofs.Common.{length, ◌<◌, ◌^◌, ◌≡◌, inl, inr, true, false, not, cond, List, [], ◌∷◌, Option, Some, None, Contains, slice_get, arith, refl, sym, ap, subst, ◌∙◌}
-use Rattle.std.specs.FinMap.{is_sorted}
-use Rattle.std.specs.FinMap.Entries.{below_all}
-use Rattle.std.proofs.lemmas.Bool.{and_parts, true≢false}
-use Rattle.std.proofs.lemmas.Option.{same_Some, none-some}
-use Rattle.std.proofs.lemmas.List.Elements.{All-contains}
-use Rattle.ipv4_prefix.specs.Prefix.{Prefix, IsPrefix, prefix_cmp}
-use Rattle.ipv4_prefix.specs.Tables.{table_rows}
-use Rattle.ipv4_prefix.proofs.LongestMatches.{Contains-first, Contains-later, Contains-cases}
-use Rattle.ipv4_prefix.proofs.SortedRows.{distinct_from_sorted, from_T}
+use Rattle.std.specs.{FinMap.is_sorted, FinMap.Entries.below_all}
+use Rattle.std.proofs.{lemmas.Bool.and_parts, lemmas.Bool.true≢false, lemmas.Option.same_Some, lemmas.Option.none-some, lemmas.List.Elements.All-contains}
+use Rattle.ipv4_prefix.specs.{Prefix.Prefix, Prefix.IsPrefix, Prefix.prefix_cmp, Tables.table_rows}
+use Rattle.ipv4_prefix.proofs.{LongestMatches.Contains-first, LongestMatches.Contains-later, LongestMatches.Contains-cases, SortedRows.distinct_from_sorted, SortedRows.from_T, Tables.row_of-Contains, Tables.row_of-row}
 use Rattle.ipv4_prefix.proofs.TableRows.{table_rows-sorted, row_of-table, row_of-unwritable, writable_rows}
-use Rattle.ipv4_prefix.proofs.Tables.{row_of-Contains, row_of-row}
 use Rattle.array_bitmap.specs.Cursor.{is_before, rows_from, first_row_from, rows_onward, IsNextPrefix, IsHeadFrom}
 use Rattle.array_bitmap.proofs.PrefixNumbers.{number, number_before, number_not_before, before_itself, before_one_way, before_chain, same_where_neither, cases_before}
 

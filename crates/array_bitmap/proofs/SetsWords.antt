@@ -1,10 +1,8 @@
 -- One word is set, or taken out, and what that leaves of all words.
 use Rattle.std.proofs.Common.{ℕ, ◌≡◌, ◌⊎◌, inl, inr, ◌^◌, ◌<◌, ◌≤◌, Option, Some, None, sym, ap, subst, ◌∙◌}
 use Rattle.std.proofs.lemmas.Bool.{cases_eq}
-use Rattle.array_bitmap.specs.Bits.{path_start}
-use Rattle.array_bitmap.specs.Words.{IsRowWord}
+use Rattle.array_bitmap.specs.{Bits.path_start, Words.IsRowWord, Tree.SetsWord}
 use Rattle.bitmaps.specs.Greatest.{GreatestBelow}
-use Rattle.array_bitmap.specs.Tree.{SetsWord}
 
 pub row_words_stay : (old new : ℕ → ℕ → Option ℕ) (path len : ℕ) (word : Option ℕ) → SetsWord old new path len word
     → ((w : ℕ) → word ≡ Some w → IsRowWord len w)

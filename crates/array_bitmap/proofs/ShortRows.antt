@@ -1,18 +1,15 @@
 -- A short row is set, or taken out: the words of the array that it covers are the longest again.
 use Rattle.std.proofs.Common.{ℕ, zero, suc, ◌≡◌, ◌≢◌, ◌⊎◌, inl, inr, ◌+◌, ◌-◌, ◌*◌, ◌/◌, ◌^◌, ◌<◌, ◌≤◌, ◌==◌, Option, Some, None, cond, nat_le, arith, sym, ap, subst, ◌∙◌}
 use Rattle.std.proofs.lemmas.Bool.{cases_eq, cases_lt, cases_order, cond-true, cond-false, le-leb, lt-leb, eq-eqb, ne_eqb}
-use Rattle.std.proofs.lemmas.Nat.{shr-shr, shr_below, pow-add}
-use Rattle.std.proofs.Math.Nat.{pow-le-pow_right}
+use Rattle.std.proofs.{lemmas.Nat.shr-shr, lemmas.Nat.shr_below, lemmas.Nat.pow-add, Math.Nat.pow-le-pow_right}
 use Rattle.array_bitmap.specs.Bits.{depth_of, five_bits, path_start, row_bit, level_of, more_of}
 use Rattle.array_bitmap.specs.Words.{nothing, kind_of, len_of, shown, found, IsRowWord}
 use Rattle.bitmaps.specs.Greatest.{GreatestBelow}
 use Rattle.array_bitmap.specs.Blocks.{row_in}
 use Rattle.array_bitmap.specs.Tree.{Cells, words_at, kid_at, block_at, short_word, long_word, word_at, IsSoundCells, SetsWord}
-use Rattle.array_bitmap.proofs.PathBits.{start_above}
+use Rattle.array_bitmap.proofs.{PathBits.start_above, SetsWords.row_words_stay, SetsWords.GreatestBelow-same, LongestRow.found-row}
 use Rattle.bitmaps.proofs.Options.{none≢some}
 use Rattle.array_bitmap.proofs.Walks.{block-first, block-next, word-short, word-long}
-use Rattle.array_bitmap.proofs.SetsWords.{row_words_stay, GreatestBelow-same}
-use Rattle.array_bitmap.proofs.LongestRow.{found-row}
 
 -- ---- numbers of prefixes
 

@@ -1,18 +1,14 @@
 -- A short row is set in the arrays of the code.
 use Rattle.std.proofs.Common.{ℕ, ◌≡◌, ◌≢◌, ◌+◌, ◌-◌, ◌*◌, ◌^◌, ◌<◌, ◌≤◌, List, length, get_or, slice_set, slice_index_or, Option, Some, None, cond, nat_le, ◌==◌, arith, refl, sym, ap, subst, ◌∙◌, pow_pos}
-use Rattle.std.proofs.lemmas.List.{get_or-set_same, get_or-set_other, get_or_read}
-use Rattle.array_bitmap.specs.Bits.{depth_of, path_start}
+use Rattle.std.proofs.{lemmas.List.get_or-set_same, lemmas.List.get_or-set_other, lemmas.List.get_or_read, lemmas.Bool.cond-false, lemmas.Bool.ne_eqb}
+use Rattle.array_bitmap.specs.{Bits.depth_of, Bits.path_start, Image.top_at, declared.tree.Top.Top}
 use Rattle.array_bitmap.specs.Words.{nothing, len_of, shown, found, IsRowWord}
 use Rattle.bitmaps.specs.Greatest.{GreatestBelow}
 use Rattle.array_bitmap.specs.Tree.{Cells, short_word, word_at, IsSoundCells, SetsWord}
-use Rattle.array_bitmap.specs.Image.{top_at}
-use Rattle.array_bitmap.specs.declared.tree.Top.{Top}
 use Rattle.array_bitmap.proofs.Arrays.{best_covered, best_uncovered, blocks_stay, arrays_kept}
 use Rattle.array_bitmap.proofs.ShortRows.{short_set_sound, short_set_sets, short_gone_sound, short_gone_sets, nothing_shown}
-use Rattle.array_bitmap.proofs.Walks.{word-short}
+use Rattle.array_bitmap.proofs.{Walks.word-short, LongestRow.found-row}
 use Rattle.bitmaps.proofs.Finds.{GreatestBelow-end}
-use Rattle.array_bitmap.proofs.LongestRow.{found-row}
-use Rattle.std.proofs.lemmas.Bool.{cond-false, ne_eqb}
 
 -- the words of an image, by its arrays and its blocks
 abbrev pub array_cells : ℕ → (ℕ → Option (List ℕ)) → List ℕ → List Top → Cells

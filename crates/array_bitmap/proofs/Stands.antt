@@ -1,27 +1,18 @@
 -- A block that stands on a path is changed, and its name is written.
 use Rattle.std.proofs.Common.{ℕ, suc, ◌≡◌, ◌≢◌, inl, inr, ◌+◌, ◌-◌, ◌*◌, ◌/◌, ◌%◌, ◌^◌, ◌<◌, ◌≤◌, List, length, Option, Some, None, true, is_some, count_ones, arith, refl, sym, ap, subst, ◌∙◌, zero}
 use Rattle.std.specs.Int.{bit_at}
-use Rattle.std.proofs.lemmas.Bool.{cases_eq, cases_lt, false≢true}
-use Rattle.std.proofs.lemmas.Nat.Bits.{bit_at-zero, bit_at_above}
-use Rattle.std.proofs.Math.Nat.{pow-le-pow_right}
+use Rattle.std.proofs.{lemmas.Bool.cases_eq, lemmas.Bool.cases_lt, lemmas.Bool.false≢true, lemmas.Nat.Bits.bit_at-zero, lemmas.Nat.Bits.bit_at_above, Math.Nat.pow-le-pow_right}
 use mathlib.Core.Path.{fun_ext}
 use Rattle.array_bitmap.specs.Bits.{depth_of, five_bits, path_start, row_bit}
-use Rattle.array_bitmap.specs.Words.{IsRowWord}
+use Rattle.array_bitmap.specs.{Words.IsRowWord, Image.IsStand, Image.LosesBlock, declared.tree.Stand.Stand}
 use Rattle.array_bitmap.specs.Blocks.{row_map, kid_map, size_for, row_in, kid_in, IsBlock}
 use Rattle.array_bitmap.specs.Tree.{Cells, words_in_block, words_at, kid_at, block_at, word_at, named, IsSoundCells, SetsWord}
 use Rattle.array_bitmap.specs.Changes.{IsReworded, WritesName, PutsRow, PutsKid, TakesBlank, TakesRow, TakesKid}
-use Rattle.array_bitmap.specs.Image.{IsStand, LosesBlock}
-use Rattle.array_bitmap.specs.declared.tree.Stand.{Stand}
-use Rattle.array_bitmap.proofs.Covering.{row-clear}
-use Rattle.bitmaps.proofs.Options.{some-from}
+use Rattle.array_bitmap.proofs.{Covering.row-clear, ShortRows.start_small, PrefixRows.word_covers, Puts.four, PoolWords.is_words}
+use Rattle.bitmaps.proofs.{Options.some-from, Ranks.ones_of_zero}
 use Rattle.array_bitmap.proofs.Walks.{kid-clear, kid_is_set, block-first, block-next, word_in, gone}
-use Rattle.array_bitmap.proofs.ShortRows.{start_small}
-use Rattle.array_bitmap.proofs.PrefixRows.{word_covers}
 use Rattle.array_bitmap.proofs.Drops.{unnamed_sound, unnamed_words, unnamed_gone, has_no_name, given_sound, given_words, given_walks}
-use Rattle.bitmaps.proofs.Ranks.{ones_of_zero}
-use Rattle.array_bitmap.proofs.Puts.{four}
 use Rattle.array_bitmap.proofs.OnePath.{named-kid, holder, index_in, name_of, named_used, not_its_own}
-use Rattle.array_bitmap.proofs.PoolWords.{is_words}
 use Rattle.array_bitmap.proofs.Moves.{row_sets, row_sound, kid_words, kid_place, kid_sound, lost_sound, lost_words, lost_unnamed, lost_stays, lost_gone}
 use Rattle.array_bitmap.proofs.NewBlocks.{taken_names, taken_walks, taken_words, taken_unnamed, taken_sound, first_words, first_place, first_sound}
 

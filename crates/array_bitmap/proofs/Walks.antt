@@ -6,8 +6,7 @@ use Rattle.std.proofs.lemmas.Nat.Bits.{bit_at-zero}
 use Rattle.array_bitmap.specs.Bits.{depth_of, five_bits, path_start, row_bit, level_of, more_of}
 use Rattle.array_bitmap.specs.Blocks.{kid_map, kid_index, row_in, kid_in}
 use Rattle.array_bitmap.specs.Tree.{Cells, words_in_block, words_at, kid_at, block_at, short_word, long_word, word_at}
-use Rattle.array_bitmap.proofs.PathBits.{before_level, level_from_parts, more_from_parts}
-use Rattle.array_bitmap.proofs.Covering.{row-clear}
+use Rattle.array_bitmap.proofs.{PathBits.before_level, PathBits.level_from_parts, PathBits.more_from_parts, Covering.row-clear}
 
 -- a kid whose bit is set, and one whose bit is not
 pub kid-set : (ws : List ℕ) (five : ℕ) → bit_at (kid_map ws) five ≡ 1 → kid_in ws five ≡ slice_index ws (kid_index ws five)

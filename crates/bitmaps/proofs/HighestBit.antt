@@ -1,10 +1,7 @@
 -- The greatest bit that is set, and bits of two bitmaps.
 use Rattle.std.proofs.Common.{ℕ, suc, ◌≡◌, ◌≢◌, ⊎_elim, ◌+◌, ◌-◌, ◌*◌, ◌/◌, ◌%◌, ◌^◌, ◌<◌, ◌≤◌, min, bit_and, Some, arith, sym, ap, subst, ◌∙◌}
-use Rattle.std.specs.Int.{bit_at}
-use Rattle.std.specs.Int.Count.{count_leading_zeros}
-use Rattle.std.proofs.lemmas.Bool.{cases_order}
-use Rattle.std.proofs.lemmas.Nat.{leading_top, pow-add, shr_high}
-use Rattle.std.proofs.lemmas.Nat.Bits.{bit_at-lt, bit_at_and, bit_at_above}
+use Rattle.std.specs.{Int.bit_at, Int.Count.count_leading_zeros}
+use Rattle.std.proofs.{lemmas.Bool.cases_order, lemmas.Nat.leading_top, lemmas.Nat.pow-add, lemmas.Nat.shr_high, lemmas.Nat.Bits.bit_at-lt, lemmas.Nat.Bits.bit_at_and, lemmas.Nat.Bits.bit_at_above}
 use Rattle.bitmaps.specs.Bits.{IsHighest}
 
 -- a number from 2 ^ j up to 2 ^ (j + 1) has bit j

@@ -1,13 +1,9 @@
 -- How ranks grow, and how they move when a bit is set.
 use Rattle.std.proofs.Common.{ℕ, zero, suc, ◌≡◌, ◌≢◌, inl, inr, ◌+◌, ◌-◌, ◌*◌, ◌/◌, ◌%◌, ◌^◌, ◌<◌, ◌≤◌, max, bit_or, arith, refl, sym, ap, subst, pow-suc, ◌∙◌}
-use Rattle.std.specs.Int.{bit_at}
-use Rattle.std.specs.Int.RustNames.{count_ones}
-use Rattle.std.specs.Int.Count.{ones_step}
+use Rattle.std.specs.{Int.bit_at, Int.RustNames.count_ones, Int.Count.ones_step}
 use Rattle.std.proofs.lemmas.Nat.{ones_cat, ones-le, ones_le_self, pow_pos, mod-pow-add, pow-add, pow_below, shr_split, mod_below, mod_low, or_disjoint, or_lt}
 use Rattle.std.proofs.lemmas.Nat.Bits.{and_pow, bit_at-lt, bit_at_or, bit_at-pow_same, bit_at-pow_other, bit_at_cat_low}
-use Rattle.std.proofs.lemmas.Bool.{cases_lt}
-use Rattle.std.proofs.Math.Pow.{mod-mod-pow}
-use Rattle.std.proofs.Math.Nat.{add-div_right, add-mul-mod_self_right}
+use Rattle.std.proofs.{lemmas.Bool.cases_lt, Math.Pow.mod-mod-pow, Math.Nat.add-div_right, Math.Nat.add-mul-mod_self_right}
 use Rattle.bitmaps.specs.Bits.{rank}
 
 -- no bit of 0 is set

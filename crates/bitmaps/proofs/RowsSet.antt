@@ -1,15 +1,10 @@
 -- Rows that are set in order, and the longest match of an image's rows.
-use Rattle.std.specs.FinMap.{put}
+use Rattle.std.specs.{FinMap.put, Result.is_ok}
 use Rattle.std.proofs.Common.{List, [], ◌∷◌, ◌++◌, length, take, get_or, ℕ, ◌≡◌, ◌+◌, ◌<◌, true, Option, Some, None, IfSome, sym, ap, subst, ◌∙◌, Result, Err, IsOk}
-use Rattle.std.specs.Result.{is_ok}
-use Rattle.std.proofs.lemmas.List.{take_more}
-use Rattle.std.proofs.Math.Seq.{take-length}
-use Rattle.std.proofs.lemmas.Bool.{false≢true}
-use Rattle.ipv4_prefix.specs.Prefix.{Prefix, prefix_cmp}
-use Rattle.ipv4_prefix.specs.LongestMatch.{IsLongestMatch, longest_match}
+use Rattle.std.proofs.{lemmas.List.take_more, Math.Seq.take-length, lemmas.Bool.false≢true}
+use Rattle.ipv4_prefix.specs.{Prefix.Prefix, Prefix.prefix_cmp, LongestMatch.IsLongestMatch, LongestMatch.longest_match}
 use Rattle.ipv4_prefix.proofs.LongestMatches.{longest_match-found}
-use Rattle.network_model.specs.declared.route.Entry.{Entry}
-use Rattle.network_model.specs.Publication.{with_rows}
+use Rattle.network_model.specs.{declared.route.Entry.Entry, Publication.with_rows}
 use Rattle.network_model.proofs.RowLaws.{with_rows-push}
 
 -- with one row more, that row is put

@@ -28,8 +28,7 @@ use denote.Struct.Laws.{makes}
 use denote.Struct.Struct.{Struct-Tells}
 use denote.Struct.Declared as declared
 use denote.Struct.Tuple.{Tuple, tuple_type}
-use Rattle.core.proofs.atomic.Steps.{Ptr-Good}
-use Rattle.core.proofs.cell.Inside.{Good}
+use Rattle.core.proofs.{atomic.Steps.Ptr-Good, cell.Inside.Good}
 use Rattle.std_alloc.proofs.ResultValues.{and_tt}
 use Rattle.std_alloc.specs.contracts.boxed.Box as box
 use Rattle.std_alloc.proofs.boxed.Box.TheLaws as box_laws

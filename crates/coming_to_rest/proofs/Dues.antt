@@ -1,9 +1,7 @@
 -- What a router has to publish and release: to do either makes it less.
 use Rattle.std.proofs.Common.{refl, ap, subst, arith, inl, inr, ◌∙◌, ◌≡◌, ◌⊎◌, ℕ, zero, suc, ◌+◌, ◌<◌, Bool, true, false, not, cond, nat_lt, List, [], ◌∷◌, length, filter, Some, slice_get, length-drop, ltb-true}
 use Rattle.no_packet_loops.proofs.Common.{option_map_or, or_cases, entry_eq, and_parts, tied_itself, Prefix, prefix_cmp, prefix_cmp_total, Entry, Held, Router, chosen_rows, changed_rows, has_row, is_due, ripe_front, router_publishing, router_releasing, entry_eq-refl, unripe_of, None_not_Some, Some_injective, is_eq, find as row_of, is_sorted, below_all}
-use Rattle.no_packet_loops.proofs.Publishing.{control_sorted}
-use Rattle.no_packet_loops.proofs.Quiet.{found_later}
-use Rattle.no_packet_loops.proofs.Releasing.{front_of, unripe_left}
+use Rattle.no_packet_loops.proofs.{Publishing.control_sorted, Quiet.found_later, Releasing.front_of, Releasing.unripe_left}
 
 -- ---- rows
 

@@ -3,10 +3,7 @@ use Rattle.std.proofs.Common.{refl, sym, ap, subst, arith, ◌≡◌, ℕ, zero,
 use Rattle.no_packet_loops.proofs.Common.{list_any, Prefix, prefix_eq, State, Topology}
 use Rattle.no_packet_loops.proofs.Machines.{prefix_same, prefix_itself}
 use Rattle.coming_to_rest.proofs.Order.{Falls, NoRise, at_place, at_first, at_second}
-use Rattle.coming_to_rest.proofs.Measure.{weight, loads, top}
-use Rattle.coming_to_rest.proofs.Takes.{MessageEffect, falls_at, load_falls}
-use Rattle.coming_to_rest.proofs.Known.{IsOf}
-use Rattle.coming_to_rest.proofs.Sums.{sum_list, list_less, list_strict}
+use Rattle.coming_to_rest.proofs.{Measure.weight, Measure.loads, Measure.top, Takes.MessageEffect, Takes.falls_at, Takes.load_falls, Known.IsOf, Sums.sum_list, Sums.list_less, Sums.list_strict}
 
 -- ---- lists of prefixes
 

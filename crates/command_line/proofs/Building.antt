@@ -1,14 +1,9 @@
 -- Commands that are built step by step.
 use Rattle.std.proofs.Common.{◌≡◌, ◌≤◌, ◌<◌, Bor, ◌+◌, ◌++◌, ◌||◌, ◌∙◌, [], ◌∷◌, List, ℕ, length, take, fold, map, add-one, ap, ap₂, get_or, subst, sym, false}
-use Rattle.std.proofs.Math.Seq.{take-suc}
-use Rattle.std.proofs.lemmas.List.{map_push, take_all}
-use Rattle.std.proofs.lemmas.List.Sums.{fold_push}
+use Rattle.std.proofs.{Math.Seq.take-suc, lemmas.List.map_push, lemmas.List.take_all, lemmas.List.Sums.fold_push}
 use Rattle.clap.specs.Words.{App, Rule, Text, rule_of, with_rule, AddsArg}
-use Rattle.clap.specs.declared.builder.arg.Arg.{Arg}
-use Rattle.clap.specs.declared.builder.command.Command.{Command}
-use Rattle.command_line.specs.Commands.{IsProgramCommand, argument_rule}
-use Rattle.command_line.specs.declared.arguments.Argument.{Argument}
-use Rattle.command_line.specs.declared.arguments.Shape.TheVariants.{Word}
+use Rattle.clap.specs.{declared.builder.arg.Arg.Arg, declared.builder.command.Command.Command}
+use Rattle.command_line.specs.{Commands.IsProgramCommand, Commands.argument_rule, declared.arguments.Argument.Argument, declared.arguments.Shape.TheVariants.Word}
 
 -- an argument is one rule more
 one_more : (old new : Command) (a : Arg) (app : App) (r : Rule) → IsProgramCommand app old → AddsArg old a new → rule_of a ≡ r → a.global ≡ false

@@ -1,15 +1,12 @@
 -- From the matches of one command to what they ask for.
 use Rattle.std.proofs.Common.{◌≡◌, ◌≤◌, ℕ, Bool, true, false, List, [], Option, Some, None, Result, Ok, Err, IfNone, IfSome, option_map, Bor, refl, sym, ap, subst, ◌∙◌, codes, arith, unwrap_or, length, if◌then◌else◌}
-use Rattle.std.specs.Option.{option_map_or}
+use Rattle.std.specs.{Option.option_map_or, Str.Parse.ParsesBool, Str.Parse.ParsesUnsigned}
 use Rattle.std.proofs.lemmas.Option.{none-some}
-use Rattle.std.specs.Str.Parse.{ParsesBool, ParsesUnsigned}
 use Rattle.clap.specs.Words.{Row, Text, first_of, first_value, one_text, rows_of}
-use Rattle.clap.specs.Matches.{ReadsOne}
-use Rattle.clap.specs.declared.parser.matches.Found.{Found}
+use Rattle.clap.specs.{Matches.ReadsOne, declared.parser.matches.Found.Found}
 use Rattle.clap.proofs.WalkLemmas.{first_value-rows, one_text-rows}
-use Rattle.command_line.specs.Formats.{format_text}
+use Rattle.command_line.specs.{Formats.format_text, declared.format.Format.Format}
 use Rattle.command_line.specs.Asked.{GoTogether, HasFlag, HasFormat, HasNumber, IsNumberText, IsFlag}
-use Rattle.command_line.specs.declared.format.Format.{Format}
 
 -- a look-up gives the first text of its rows
 pub text_given : (r : Option (Bor Text)) (f : Found) (id : Text) → option_map (λ s. s.now) r ≡ first_value f id → first_of id (rows_of f) ≡ option_map (λ s. s.now) r

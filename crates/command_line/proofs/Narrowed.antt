@@ -1,9 +1,7 @@
 -- A parser of bytes that bounds make narrower.
 use Rattle.std.proofs.Common.{◌≡◌, pos, Some, Option, ℤ}
 use Rattle.std.proofs.Math.Path.{subst, subst₂}
-use Rattle.clap.specs.Values.{NarrowsTo}
-use Rattle.clap.specs.declared.builder.value_parser.ValueParser.{ValueParser}
-use Rattle.clap.specs.declared.builder.value_parser.ValueParser.TheVariants.{Signed}
+use Rattle.clap.specs.{Values.NarrowsTo, declared.builder.value_parser.ValueParser.ValueParser, declared.builder.value_parser.ValueParser.TheVariants.Signed}
 
 -- with these bounds
 pub narrowed : (parser result : ValueParser) (least most : Option ℤ) (low high : ℤ) → parser ≡ Signed (pos 0) (pos 255)

@@ -3,10 +3,7 @@ use Rattle.std.proofs.Common.{◌≡◌, ℕ, List, [], Option, Some, None, opti
 use Rattle.std.specs.Option.{option_map_or}
 use Rattle.clap.specs.Words.{Row, Text, first_of, one_of}
 use Rattle.command_line.specs.Asked.{ChecksFile, HasFlag, HasFormat, HasNumber, IsAsked, IsFlag, IsNumberText, ReplaysFiles, RunsFile, command_name}
-use Rattle.command_line.specs.declared.format.Format.{Format}
-use Rattle.command_line.specs.declared.format.Format.TheVariants.{Text as ForPeople, Json}
-use Rattle.command_line.specs.declared.words.Words.{Words}
-use Rattle.command_line.specs.declared.words.Words.TheVariants.{Check, Run, Replay}
+use Rattle.command_line.specs.{declared.format.Format.Format, declared.format.Format.TheVariants.Text as ForPeople, declared.format.Format.TheVariants.Json, declared.words.Words.Words, declared.words.Words.TheVariants.Check, declared.words.Words.TheVariants.Run, declared.words.Words.TheVariants.Replay}
 use Rattle.command_line.proofs.Subcommands.{of_check, of_replay, of_run}
 use Rattle.command_line.proofs.Lines.{Seen, seen, seen_check, seen_run, seen_replay}
 

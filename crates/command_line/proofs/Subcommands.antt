@@ -1,15 +1,12 @@
 -- From the subcommand that was met to what it asks for.
 use Rattle.std.proofs.Common.{◌≡◌, ℕ, List, Bool, Bor, Option, Some, None, IfNone, IfSome, option_map, ◌*◌, ◌+◌, length, slice_index, Box, sym, ap, subst, ◌∙◌, codes, arith}
-use Rattle.std.specs.Box.{box_value}
-use Rattle.std.specs.Option.{option_map_or}
+use Rattle.std.specs.{Box.box_value, Option.option_map_or}
 use Rattle.std.proofs.lemmas.Option.{IfSome_then}
 use Rattle.faults.specs.declared.kind.FaultKind.{FaultKind}
 use Rattle.clap.specs.Words.{Row, Text, found_of, rows_of, subcommand_rows}
-use Rattle.clap.specs.declared.parser.matches.SubCommand.{SubCommand}
-use Rattle.clap.specs.declared.parser.matches.ArgMatches.TheViews.{out-SubCommand}
+use Rattle.clap.specs.{declared.parser.matches.SubCommand.SubCommand, declared.parser.matches.ArgMatches.TheViews.out-SubCommand}
 use Rattle.command_line.specs.Asked.{AsksByMatches, AsksAs, IsAsked, command_name}
-use Rattle.command_line.specs.declared.format.Format.{Format}
-use Rattle.command_line.specs.declared.words.Words.{Words}
+use Rattle.command_line.specs.{declared.format.Format.Format, declared.words.Words.Words}
 use Rattle.command_line.specs.declared.words.Words.TheVariants.{Check, Run, Replay, Time, Explain, Shell}
 
 -- the name of the subcommand and its rows, which two clauses tell apart

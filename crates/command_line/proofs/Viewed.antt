@@ -1,8 +1,7 @@
 -- Matches that ask for the states of no run, or of two.
 use Rattle.std.proofs.Common.{◌≡◌, true, List, Option, Some, None, is_some, option_map, true≢false, Bor, refl, sym, ◌∙◌, codes}
 use Rattle.clap.specs.Words.{Row, Text, first_of}
-use Rattle.command_line.specs.View.{IsView, NamesOneRun}
-use Rattle.command_line.specs.declared.view.ViewWords.{ViewWords}
+use Rattle.command_line.specs.{View.IsView, View.NamesOneRun, declared.view.ViewWords.ViewWords}
 
 pub no_view : (rows : List Row) → first_of (codes "file") rows ≡ None → (w : ViewWords) → IsView rows w → NamesOneRun w → ⊥
 no_view rows none w h one =

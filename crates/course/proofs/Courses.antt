@@ -1,8 +1,7 @@
 -- What a step leaves of what every course keeps.
 use Rattle.std.proofs.Common.{refl, sym, ap, ◌∙◌, arith, length-append, ◌≡◌, ◌+◌, ◌^◌, ◌<◌, ◌≤◌, List, [], ◌∷◌, ◌++◌, length, if◌then◌else◌, Option, Some, None, Result, Err, lt-ltb}
 use Rattle.no_packet_loops.proofs.Common.{World, Network, opening, IsNetwork, Lawful, next, refusal, Refusal, Kind, Update, Step}
-use Rattle.world.specs.Headline.{IsReached}
-use Rattle.world.specs.Steps.{CanBeRefused, HasRoomForSteps, IsDoneOr}
+use Rattle.world.specs.{Headline.IsReached, Steps.CanBeRefused, Steps.HasRoomForSteps, Steps.IsDoneOr}
 use Rattle.world.proofs.Runs.{with_last_step, run-room, opening-room}
 use Rattle.course.specs.declared.sent.Sent.{Sent}
 use Rattle.course.specs.Counts.{leaving, none_sent, one_sent, sent_count, with_sent}

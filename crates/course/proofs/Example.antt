@@ -4,8 +4,7 @@ use Rattle.no_packet_loops.proofs.Example.{pair}
 use Rattle.network_model.proofs.Common.{next_step}
 use Rattle.network_model.specs.declared.step.Step.{Step}
 use Rattle.network_model.specs.declared.step.Step.TheVariants.{LinkUp, LinkDown, Deliver, Publish, Release}
-use Rattle.course.specs.Counts.{none_sent}
-use Rattle.course.specs.Course.{Course, course_after_all, opening_course}
+use Rattle.course.specs.{Counts.none_sent, Course.Course, Course.course_after_all, Course.opening_course}
 
 -- the link comes up, both routers hear of that, and router 0 publishes
 abbrev told : List Step

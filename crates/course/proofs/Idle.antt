@@ -2,8 +2,7 @@
 use Rattle.std.proofs.Common.{arith, ◌∙◌, ◌≡◌, ℕ, ◌<◌, Bool, true, false, List, length, Option, Some, None, refl}
 use Rattle.no_packet_loops.proofs.Common.{length-map-range_with_len, World, Network, opening, opening_router_of, IsNetwork, Runs, next_step, is_settled, Step}
 use Rattle.no_packet_loops.proofs.WorldLaws.{Runs-shape}
-use Rattle.convergence.proofs.AtRest.{rest_settled, settled_rests}
-use Rattle.convergence.proofs.Turns.{idle_rests, next_chosen}
+use Rattle.convergence.proofs.{AtRest.rest_settled, AtRest.settled_rests, Turns.idle_rests, Turns.next_chosen}
 
 -- a run leaves the number of routers
 pub router_count : (n : Network) (ss : List Step) (w : World) → Runs (opening n) ss w → length w.routers ≡ n.routers

@@ -2,8 +2,7 @@
 use Rattle.std.proofs.Common.{refl, sym, ap, ◌∙◌, subst, ◌≡◌, ◌≢◌, ◌<◌, ℕ, List, length, Bool, true, false, not, ◌&&◌, ◌==◌, if◌then◌else◌, Option, Some, None, slice_get, option_and_then, eq-eqb, ne_eqb}
 use Rattle.no_packet_loops.proofs.Common.{option_map_or, Held, Place, Link, World, place_at, release_at, is_up_in, element_there, Release, Kind}
 use Rattle.world.specs.Steps.{is_stale}
-use Rattle.course.specs.Counts.{leaving}
-use Rattle.course.specs.Links.{HasLinksOfPorts}
+use Rattle.course.specs.{Counts.leaving, Links.HasLinksOfPorts}
 
 -- a router that releases this, over a link that is there
 module _ (w : World) (i : ℕ) (h : Held) (at : release_at w i ≡ Some h) where

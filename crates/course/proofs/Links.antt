@@ -1,11 +1,7 @@
 -- What code rests on that finds its way over links, in the world of every run.
 use Rattle.std.proofs.Common.{sym, ap, ◌∙◌, arith, ◌≡◌, ◌<◌, ◌∷◌, List, length, slice_get, option_and_then}
 use Rattle.no_packet_loops.proofs.Common.{length-map, length-map-range_with_len, slice_get_within, Place, Network, World, opening, opening_link, IsNetwork, Runs, history, at_port, Step}
-use Rattle.no_packet_loops.proofs.Places.{laid}
-use Rattle.no_packet_loops.proofs.Runs.{reached}
-use Rattle.no_packet_loops.proofs.Walks.{leads_known}
-use Rattle.no_packet_loops.proofs.Wiring.{wired}
-use Rattle.no_packet_loops.proofs.WorldLaws.{Runs-shape}
+use Rattle.no_packet_loops.proofs.{Places.laid, Runs.reached, Walks.leads_known, Wiring.wired, WorldLaws.Runs-shape}
 use Rattle.all_packets.proofs.Ways.{always_ways_end, way_moves}
 use Rattle.course.specs.Links.{HasLinksOfPorts, HasShortWays, LeadsToRouters}
 

@@ -6,8 +6,7 @@ use Rattle.world.proofs.Runs.{with_last_step}
 use Rattle.convergence.proofs.Turns.{next_chosen}
 use Rattle.course.specs.Course.{Course, course_after, course_refusal}
 use Rattle.course.specs.Turns.{AreNextSteps, HasTakenTurns, IsCourseStopped, IsNextStep}
-use Rattle.course.proofs.Idle.{busy-unsettled}
-use Rattle.course.proofs.Courses.{after_push}
+use Rattle.course.proofs.{Idle.busy-unsettled, Courses.after_push}
 
 turns_push : (w : World) (ss : List Step) (v : World) (s : Step) → AreNextSteps w ss → Runs w ss v → IsNextStep v s → AreNextSteps w (ss ++ s ∷ [])
 turns_push w [] v s turns runs turn = (subst (λ u. IsNextStep u s) (sym runs) turn, tt)

@@ -1,23 +1,12 @@
 -- What holds at every moment, whatever has happened.
 use Rattle.std.proofs.Common.{List, [], ◌∷◌, inl, ℕ}
 use Rattle.no_packet_loops.proofs.Common.{Prefix, Topology, link_facts}
-use Rattle.daemon_laws.specs.Processes.{Processes}
+use Rattle.daemon_laws.specs.{Processes.Processes, Moments.fds_reached, Moments.LinkFactsHoldThere, Rest.RestIsAlwaysBest}
 use Rattle.daemon_laws.specs.Packets.{NoPacketCirclesAtDaemons, NoPacketLoopsAtDaemons, NoMixtureLoopsAtDaemons, NoUnmarkedCircles, NoUnmarkedLoops, NoUnmarkedMixtureLoops, NoUnmarkedWrittenCircles, NoWrittenCircles}
-use Rattle.daemon_laws.proofs.Shown.{AllShown, next_shown, begins_shown}
+use Rattle.daemon_laws.proofs.{Shown.AllShown, Shown.next_shown, Shown.begins_shown, Beginning.begins_kept, Invariant.Placed, Invariant.Invariant, Invariant.links_far, Order.after_keeps, Order.next_orderly, Order.begins_orderly, Steps.next_keeps, Placed.placed_next, Rewiring.rewired_keeps, Rewiring.rewired_orderly, Rewiring.rewired_placed, Orderly.Orderly, Taken.taken_there, Resting.best}
 use Rattle.daemon_laws.proofs.Ways.{marked_free, unmarked_free, marked_written, unmarked_written}
 use Rattle.daemon_laws.specs.Happenings.{Happening, IsOpening, AllCanHappen, after_happenings, AfterIsReached, after_happening, AreReached, Begun, Happened, Rewired, MayRewire, rewired, CanHappen, HoldsAlways, NoneRefused}
 use Rattle.daemon_laws.specs.Facts.{fds_next, fds_after, first_fds, end_from, LinkFactsAlwaysHold}
-use Rattle.daemon_laws.specs.Moments.{fds_reached, LinkFactsHoldThere}
-use Rattle.daemon_laws.specs.Rest.{RestIsAlwaysBest}
-use Rattle.daemon_laws.proofs.Beginning.{begins_kept}
-use Rattle.daemon_laws.proofs.Invariant.{Placed, Invariant, links_far}
-use Rattle.daemon_laws.proofs.Order.{after_keeps, next_orderly, begins_orderly}
-use Rattle.daemon_laws.proofs.Steps.{next_keeps}
-use Rattle.daemon_laws.proofs.Placed.{placed_next}
-use Rattle.daemon_laws.proofs.Rewiring.{rewired_keeps, rewired_orderly, rewired_placed}
-use Rattle.daemon_laws.proofs.Orderly.{Orderly}
-use Rattle.daemon_laws.proofs.Taken.{taken_there}
-use Rattle.daemon_laws.proofs.Resting.{best}
 use Rattle.daemon_laws.proofs.Walks.{published_free, mixture_free, unmarked_published_free, unmarked_mixture_free}
 
 -- the feasible distances with which the routers have published last, after all this

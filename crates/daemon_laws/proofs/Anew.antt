@@ -4,9 +4,7 @@ use Rattle.no_packet_loops.proofs.Common.{and_parts, false≢true, Prefix, prefi
 use Rattle.network_model.proofs.Common.{cases_eq}
 use Rattle.daemon_laws.specs.Processes.{Carried, Processes}
 use Rattle.daemon_laws.specs.Happenings.{latest, latest_coming, last_anew, may_come_again, lost_anew}
-use Rattle.daemon_laws.proofs.Seen.{carried, arriving_in}
-use Rattle.daemon_laws.proofs.Invariant.{session_of}
-use Rattle.daemon_laws.proofs.Orderly.{CarriedPast}
+use Rattle.daemon_laws.proofs.{Seen.carried, Seen.arriving_in, Invariant.session_of, Orderly.CarriedPast}
 
 -- ---- messages
 

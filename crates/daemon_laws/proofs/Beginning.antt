@@ -2,19 +2,11 @@
 use Rattle.std.proofs.Common.{refl, sym, ap, subst, ◌∙◌, arith, ◌≡◌, ℕ, zero, suc, ◌<◌, ◌≤◌, Bool, true, false, ◌&&◌, ◌==◌, nat_le, nat_lt, cond, if◌then◌else◌, List, [], ◌∷◌, ◌++◌, map, length, Option, Some, None, slice_get, option_map, option_and_then, unwrap_or, take, drop, eq-eqb, leb-true}
 use Rattle.no_packet_loops.proofs.Common.{option_map_or, take-nil, drop-nil, and_parts, None_not_Some, Some_injective, find-put, Prefix, prefix_cmp, prefix_eq, IsCost, Machine, opening_machine, infinity, Neighbour, Port, Entry, Router, neighbours, machine_of, rows_of, session_at, entry_of, chosen_rows, next_hop, next_hop_at, is_next_hop, is_up_at, is_port, test_at, kept, ripe_of, unripe_of, IsSound, prefix_cmp_total, find-map, sorted-map, sorted-rows_of, slice_get-map, Topology, LinkEnd, most_ports, awaits, owes_port, is_active, opened_sound, pipe, count, messages, live, one_if_at_most_one, end_invariant_new}
 use Rattle.network_model.proofs.Common.{both_ways, and_left, Query, Reply, one_if, greatest_cost, find as row_of}
-use Rattle.single_router.specs.declared.opening.Attachment.{Attachment}
-use Rattle.c_interface.specs.declared.fault.CallFault.{CallFault}
-use Rattle.c_interface.specs.declared.fault.CallFault.TheVariants.{BadCost, TooManyPorts}
-use Rattle.c_interface.specs.Rows.{prefix_fault}
-use Rattle.single_router.specs.Inputs.{cost_fault}
+use Rattle.single_router.specs.{declared.opening.Attachment.Attachment, Inputs.cost_fault}
+use Rattle.c_interface.specs.{declared.fault.CallFault.CallFault, declared.fault.CallFault.TheVariants.BadCost, declared.fault.CallFault.TheVariants.TooManyPorts, Rows.prefix_fault}
 use Rattle.single_router.specs.Openings.{first_fault_in, attachment_fault, attachment_row, attachments_fault, costs_fault, make_fault, made_router, unused_port}
-use Rattle.daemon_laws.specs.Processes.{Processes}
-use Rattle.daemon_laws.specs.Happenings.{IsMade, IsOpening}
-use Rattle.daemon_laws.specs.Facts.{first_fds}
-use Rattle.daemon_laws.proofs.Seen.{carried, arriving_in, is_port_in}
-use Rattle.daemon_laws.proofs.Routers.{faces, faces_opened, RouterKept}
-use Rattle.daemon_laws.proofs.Cheap.{IsCheap}
-use Rattle.daemon_laws.proofs.Telling.{neither}
+use Rattle.daemon_laws.specs.{Processes.Processes, Happenings.IsMade, Happenings.IsOpening, Facts.first_fds}
+use Rattle.daemon_laws.proofs.{Seen.carried, Seen.arriving_in, Seen.is_port_in, Routers.faces, Routers.faces_opened, Routers.RouterKept, Cheap.IsCheap, Telling.neither}
 use Rattle.daemon_laws.proofs.Invariant.{router_at, session_of, end_from, Invariant}
 
 -- ---- what the tests say

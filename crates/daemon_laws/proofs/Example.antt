@@ -2,13 +2,11 @@
 use Rattle.std.proofs.Common.{refl, arith, ◌≡◌, ℕ, zero, suc, Bool, true, false, ◌&&◌, ◌==◌, List, [], ◌∷◌, slice_get}
 use Rattle.no_packet_loops.proofs.Common.{option_map_or, IsCost, Port, Topology, LinkEnd, Via, at_port}
 use Rattle.loop_freedom.proofs.Example.{pair}
-use Rattle.single_router.specs.declared.opening.Attachment.{Attachment}
-use Rattle.single_router.specs.Openings.{made_router}
+use Rattle.single_router.specs.{declared.opening.Attachment.Attachment, Openings.made_router}
 use Rattle.single_router.specs.declared.input.Input.TheVariants as input
-use Rattle.daemon_laws.specs.Processes.{Processes}
+use Rattle.daemon_laws.specs.{Processes.Processes, Packets.is_in_session}
 use Rattle.daemon_laws.specs.Happenings.{Happening, IsOpening, Tells, Takes, Publishes, Releases, IsMade}
 use Rattle.daemon_laws.specs.Reached.{SomeForgets, SomeNeighbour, SomePacketGoesAtDaemons, SomeSessionAgain}
-use Rattle.daemon_laws.specs.Packets.{is_in_session}
 
 -- all addresses, at cost 1
 abbrev pub everything : Attachment

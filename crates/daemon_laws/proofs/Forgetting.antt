@@ -6,14 +6,9 @@ use Rattle.no_packet_loops.proofs.Machines.{prefix_same}
 use Rattle.route_table.specs.Place.{without}
 use Rattle.route_table.proofs.PrefixPlaces.{sorted-without}
 use Rattle.router_core.specs.Alone.{is_unreported, knows_nothing, may_forget, router_forgetting}
-use Rattle.daemon_laws.specs.Processes.{Carried}
-use Rattle.daemon_laws.specs.Happenings.{forgotten}
-use Rattle.daemon_laws.proofs.Seen.{end_in}
+use Rattle.daemon_laws.specs.{Processes.Carried, Happenings.forgotten}
+use Rattle.daemon_laws.proofs.{Seen.end_in, Items.up_is, Telling.none_up, Cheap.IsCheap, SomeRows.row_forgotten, SomeRows.row_beside, SomeRows.chosen_without}
 use Rattle.daemon_laws.proofs.Routers.{face, port_face, faces, faces_opened, RouterKept}
-use Rattle.daemon_laws.proofs.Items.{up_is}
-use Rattle.daemon_laws.proofs.Telling.{none_up}
-use Rattle.daemon_laws.proofs.Cheap.{IsCheap}
-use Rattle.daemon_laws.proofs.SomeRows.{row_forgotten, row_beside, chosen_without}
 use Rattle.daemon_laws.proofs.InForce.{AsChosen, PutsInForce, puts_held, puts_nothing}
 
 -- ---- a machine that knows nothing

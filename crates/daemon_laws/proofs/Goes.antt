@@ -3,11 +3,8 @@ use Rattle.std.proofs.Common.{refl, sym, ap, subst, ◌∙◌, arith, inl, inr, 
 use Rattle.no_packet_loops.proofs.Common.{Prefix, prefix_eq, reaction, Event, Outgoing, Notice, Router, machine_of, router_at_home, session_at, event_at_home, kept, ripe_of, unripe_of, IsSound, Meets, meets_home, sent_to, machine_laws, held_for, SeenItem, event_of, live, IsLawfullyHeld, lawfully_held_append, lawfully_held_later, lawfully_held_for, message_of, live-append}
 use Rattle.network_model.proofs.Common.{cases_Bool, cases_eq, Report, infinity, greatest_cost}
 use Rattle.daemon_laws.specs.Processes.{Carried}
-use Rattle.daemon_laws.proofs.Cheap.{IsCheap, cheap_after, cheap_event}
-use Rattle.daemon_laws.proofs.Seen.{is_port_in, MayBeIn}
-use Rattle.daemon_laws.proofs.Routers.{RouterKept, Met, Unmoved}
+use Rattle.daemon_laws.proofs.{Cheap.IsCheap, Cheap.cheap_after, Cheap.cheap_event, Seen.is_port_in, Seen.MayBeIn, Routers.RouterKept, Routers.Met, Routers.Unmoved, Items.met_home, Items.moved_home, Items.unmoved_home}
 use Rattle.daemon_laws.proofs.Moving.{earlier, nothing_sent, Moved, moved_unmoved, Took, took_beside, took_in, took_out}
-use Rattle.daemon_laws.proofs.Items.{met_home, moved_home, unmoved_home}
 
 -- from r to the next state the machine of the prefix stays as it is, or meets an event that it may meet
 pub data Reacted (p : Prefix) (r r' : Router) : Type 0 where

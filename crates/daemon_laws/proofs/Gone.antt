@@ -2,8 +2,7 @@
 use Rattle.std.proofs.Common.{sym, ◌∙◌, ap, arith, inl, inr, ◌≡◌, ◌+◌, ◌<◌, ◌≤◌, true, List, ◌++◌, Option}
 use Rattle.network_model.proofs.Common.{cases_lt, Kind, Query, Reply, Report, one_if}
 use Rattle.loop_freedom.specs.Facts.{count, End, pipe}
-use Rattle.loop_freedom.proofs.Lists.{front, count-append, one_if_at_most_one}
-use Rattle.loop_freedom.proofs.Link.{EndInvariant, GoesOn, EndStep}
+use Rattle.loop_freedom.proofs.{Lists.front, Lists.count-append, Lists.one_if_at_most_one, Link.EndInvariant, Link.GoesOn, Link.EndStep}
 
 -- x has left the session, and y has not: what y does cannot make its feasible distances reach that by which x still sends
 pub record Gone (x y : End) : Type 0 where

@@ -2,15 +2,9 @@
 use Rattle.std.proofs.Common.{refl, ap, subst, ◌∙◌, arith, inl, inr, ◌≡◌, ℕ, ◌<◌, ◌≤◌, true, false, not, ◌&&◌, ◌||◌, nat_lt, nat_le, List, [], ◌∷◌, ne_eqb}
 use Rattle.no_packet_loops.proofs.Common.{Prefix, Topology, LinkEnd}
 use Rattle.network_model.proofs.Common.{cases_Bool, cases_lt, and_from, and_right, or_from, or_left, or_right, lt-ltb, le-leb}
-use Rattle.daemon_laws.specs.Processes.{Carried, Processes}
+use Rattle.daemon_laws.specs.{Processes.Carried, Processes.Processes, Moments.fds_reached, Rest.SessionsBeginWhole}
 use Rattle.daemon_laws.specs.Happenings.{Happening, Tells, Takes, Loses, Releases, BeginsAnew, is_same_end, is_first_of, last_anew, may_come_again, lost_anew, link_stays, after_happening, MayRewire, rewired, Begun, Happened, Rewired, HoldsAlways}
-use Rattle.daemon_laws.specs.Moments.{fds_reached}
-use Rattle.daemon_laws.specs.Rest.{SessionsBeginWhole}
-use Rattle.daemon_laws.proofs.Cases.{by_take, by_release}
-use Rattle.daemon_laws.proofs.Invariant.{Invariant}
-use Rattle.daemon_laws.proofs.Orderly.{CarriedPast, Orderly}
-use Rattle.daemon_laws.proofs.Rewiring.{stays_at, stays_far, same_at}
-use Rattle.daemon_laws.proofs.Always.{always}
+use Rattle.daemon_laws.proofs.{Cases.by_take, Cases.by_release, Invariant.Invariant, Orderly.CarriedPast, Orderly.Orderly, Rewiring.stays_at, Rewiring.stays_far, Rewiring.same_at, Always.always}
 
 -- the first of messages that are of no later session than k is of none later
 not_first : (n k : ℕ) (cs : List Carried) → k < n → CarriedPast k cs → is_first_of n cs ≡ false

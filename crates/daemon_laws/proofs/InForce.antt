@@ -4,12 +4,8 @@ use Rattle.no_packet_loops.proofs.Common.{and_parts, Prefix, prefix_cmp, Router,
 use Rattle.network_model.proofs.Common.{cases_eq, and_left, infinity, Gate, find as row_of}
 use Rattle.loop_freedom.specs.Facts.{End, end_of}
 use Rattle.daemon_laws.specs.Processes.{Carried, Processes}
-use Rattle.daemon_laws.proofs.Cases.{each_but}
+use Rattle.daemon_laws.proofs.{Cases.each_but, Routers.RouterKept, Cheap.IsCheap, Told.Told, Gone.Gone}
 use Rattle.daemon_laws.proofs.Seen.{carried, arriving_in, end_in, is_port_in}
-use Rattle.daemon_laws.proofs.Routers.{RouterKept}
-use Rattle.daemon_laws.proofs.Cheap.{IsCheap}
-use Rattle.daemon_laws.proofs.Told.{Told}
-use Rattle.daemon_laws.proofs.Gone.{Gone}
 use Rattle.daemon_laws.proofs.Shows.{told_here, told_there, gone_here, gone_there}
 use Rattle.daemon_laws.proofs.Invariant.{Whole, router_at, session_of, end_from, MayBe, Left, Invariant}
 

@@ -5,10 +5,7 @@ use Rattle.network_model.proofs.Common.{Kind, Query, Reply, Report}
 use Rattle.loop_freedom.specs.Facts.{End, pipe, count, messages, live, AtLeast, AtLeastFromLastQuery}
 use Rattle.daemon_laws.specs.Processes.{Carried, Processes}
 use Rattle.daemon_laws.specs.Happenings.{Loses, is_same_end, is_first_of, after_happening}
-use Rattle.daemon_laws.proofs.Told.{Told}
-use Rattle.daemon_laws.proofs.Seen.{carried, arriving_in}
-use Rattle.daemon_laws.proofs.Gone.{Gone, gone_less}
-use Rattle.daemon_laws.proofs.Invariant.{end_from, Invariant}
+use Rattle.daemon_laws.proofs.{Told.Told, Seen.carried, Seen.arriving_in, Gone.Gone, Gone.gone_less, Invariant.end_from, Invariant.Invariant}
 
 -- ---- two ends
 

@@ -3,14 +3,9 @@ use Rattle.std.proofs.Common.{refl, sym, ap, subst, ◌∙◌, arith, append_ass
 use Rattle.no_packet_loops.proofs.Common.{Prefix, Router, machine_of, session_at, kept, ripe_of, unripe_of, IsSound, Topology, LinkEnd, at_port, place_cases, is_next_hop, next_hop_at, live, front, EndInvariant, LinkStep, step_keeps, IsLawfullyHeld, lawfully_held_later}
 use Rattle.network_model.proofs.Common.{cases_eq, Report}
 use Rattle.daemon_laws.specs.Processes.{Processes}
-use Rattle.daemon_laws.proofs.Cases.{each_but}
+use Rattle.daemon_laws.proofs.{Cases.each_but, Routers.RouterKept, Routers.Unmoved, Goes.Goes, Cheap.IsCheap, Told.Told, Told.told_keeps, Gone.Gone, Gone.Leaves, Gone.gone_keeps}
 use Rattle.daemon_laws.proofs.Seen.{carried, messages_arriving, is_port_in, MayBeIn}
-use Rattle.daemon_laws.proofs.Routers.{RouterKept, Unmoved}
 use Rattle.daemon_laws.proofs.Moving.{in_session, hop_same, Moved, moved_unmoved}
-use Rattle.daemon_laws.proofs.Goes.{Goes}
-use Rattle.daemon_laws.proofs.Cheap.{IsCheap}
-use Rattle.daemon_laws.proofs.Told.{Told, told_keeps}
-use Rattle.daemon_laws.proofs.Gone.{Gone, Leaves, gone_keeps}
 use Rattle.daemon_laws.proofs.Invariant.{Whole, router_at, session_of, end_from, MayBe, Left, Invariant, links_far, gone_before}
 
 -- router i makes a step, at whose port q it may take a message; nothing else changes

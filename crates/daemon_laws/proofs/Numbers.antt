@@ -4,20 +4,12 @@ use Rattle.no_packet_loops.proofs.Common.{Some_injective, Prefix, Held, Router, 
 use Rattle.network_model.proofs.Common.{cases_eq, cases_Bool}
 use Rattle.router_core.specs.Alone.{router_publishing_some, may_forget, router_forgetting}
 use Rattle.single_router.specs.Openings.{made_router}
-use Rattle.daemon_laws.specs.Processes.{Carried, Processes}
-use Rattle.daemon_laws.specs.Packets.{is_in_session}
+use Rattle.daemon_laws.specs.{Processes.Carried, Processes.Processes, Packets.is_in_session, Moments.fds_reached}
 use Rattle.daemon_laws.specs.Happenings.{Happening, Tells, Takes, Loses, Publishes, PublishesSome, Forgets, Releases, BeginsAnew, CanHappen, with_process, is_same_end, with_coming, forgotten, sent_from, having_released, after_happening, latest, latest_coming, last_anew, link_stays, MayRewire, rewired, AreReached, Begun, Happened, Rewired}
-use Rattle.daemon_laws.specs.Moments.{fds_reached}
 use Rattle.daemon_laws.specs.Numbers.{known_session, IsClean, Cleanly, NumbersSuffice}
-use Rattle.daemon_laws.proofs.Cases.{after_message, by_take, by_release}
-use Rattle.daemon_laws.proofs.Invariant.{session_of, Invariant}
-use Rattle.daemon_laws.proofs.Orderly.{Orderly}
-use Rattle.daemon_laws.proofs.Meeting.{GoesAt}
-use Rattle.daemon_laws.proofs.Releasing.{as_carried}
+use Rattle.daemon_laws.proofs.{Cases.after_message, Cases.by_take, Cases.by_release, Invariant.session_of, Invariant.Invariant, Orderly.Orderly, Meeting.GoesAt, Releasing.as_carried, Rewiring.stays_at, Rewiring.stays_far, Rewiring.same_at, Always.always}
 use Rattle.daemon_laws.proofs.Steps.{router_away, end_same, tells_at, taken_at}
 use Rattle.daemon_laws.proofs.Anew.{Anew, Here, Across, Away, anew_at}
-use Rattle.daemon_laws.proofs.Rewiring.{stays_at, stays_far, same_at}
-use Rattle.daemon_laws.proofs.Always.{always}
 
 -- an end has to exceed no more than the two processes know, and what is on its way
 abbrev Known : Topology → Processes → LinkEnd → Type 0

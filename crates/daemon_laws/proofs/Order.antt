@@ -4,30 +4,18 @@ use Rattle.no_packet_loops.proofs.Common.{and_parts, and_from, false≢true, tak
 use Rattle.network_model.proofs.Common.{cases_eq, both_ways}
 use Rattle.loop_freedom.specs.Facts.{End}
 use Rattle.router_core.specs.Alone.{router_publishing_some}
-use Rattle.single_router.specs.declared.input.Input.{Input}
+use Rattle.single_router.specs.{declared.input.Input.Input, declared.opening.Attachment.Attachment, Inputs.told_fault, Inputs.kind_fault, Inputs.message_fault, Openings.make_fault, Openings.made_router}
 use Rattle.single_router.specs.declared.input.Input.TheVariants as input
-use Rattle.single_router.specs.declared.opening.Attachment.{Attachment}
-use Rattle.single_router.specs.Inputs.{told_fault, kind_fault, message_fault}
-use Rattle.single_router.specs.Openings.{make_fault, made_router}
-use Rattle.daemon_laws.specs.Processes.{Carried, Processes}
+use Rattle.daemon_laws.specs.{Processes.Carried, Processes.Processes, Facts.fds_next, Facts.fds_after}
 use Rattle.daemon_laws.specs.Happenings.{Happening, Tells, Takes, Loses, Publishes, PublishesSome, Forgets, Releases, BeginsAnew, IsLocalInput, CanHappen, with_process, is_same_end, with_coming, told_router, forgotten, having_released, after_happening, after_happenings, IsOpening, AllCanHappen, latest_coming, last_anew, heard_anew}
-use Rattle.daemon_laws.specs.Facts.{fds_next, fds_after}
-use Rattle.daemon_laws.proofs.Cases.{after_message, by_take, by_release}
-use Rattle.daemon_laws.proofs.Seen.{is_port_in}
-use Rattle.daemon_laws.proofs.Moving.{in_session, hop_same as hop_from}
+use Rattle.daemon_laws.proofs.{Cases.after_message, Cases.by_take, Cases.by_release, Seen.is_port_in, Moving.in_session, Moving.hop_same as hop_from, Meeting.GoesAt, Meeting.may_before, Beginning.Made, Beginning.made, Items.session_is, Telling.passed, Telling.neither, Telling.message_passes, Placed.placed_next}
 use Rattle.daemon_laws.proofs.Invariant.{router_at, session_of, Invariant, Placed}
-use Rattle.daemon_laws.proofs.Meeting.{GoesAt, may_before}
 use Rattle.daemon_laws.proofs.InForce.{Ends, AsChosen, AsBefore, PutsInForce}
 use Rattle.daemon_laws.proofs.Releasing.{as_carried, Sent, OnItsWay, Lost}
 use Rattle.no_packet_loops.proofs.Releasing.{front_of, ripe_front_is}
-use Rattle.daemon_laws.proofs.Beginning.{Made, made}
 use Rattle.daemon_laws.proofs.Orderly.{CarriedPast, HeldPast, carried_later, carried_append, carried_drop, carried_first, held_later, held_append, held_drop, held_take, stamped_past, HoldsMore, told_more, Shows, Orderly}
-use Rattle.c_interface.specs.declared.fault.CallFault.{CallFault}
-use Rattle.c_interface.specs.Faults.{first_of}
-use Rattle.daemon_laws.proofs.Items.{session_is}
-use Rattle.daemon_laws.proofs.Telling.{passed, neither, message_passes}
+use Rattle.c_interface.specs.{declared.fault.CallFault.CallFault, Faults.first_of}
 use Rattle.daemon_laws.proofs.Anew.{carried_least, anew_less, anew_least, anew_far}
-use Rattle.daemon_laws.proofs.Placed.{placed_next}
 use Rattle.daemon_laws.proofs.Steps.{router_here, router_away, end_same, tells_at, taken_at, publishes_puts, publishes_some_puts, forgets_puts, sent_is, next_keeps}
 
 -- a message that is taken is of the session of its port

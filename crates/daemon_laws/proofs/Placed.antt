@@ -2,13 +2,9 @@
 use Rattle.std.proofs.Common.{refl, sym, ap, subst, ◌∙◌, ◌≡◌, Bool, true, false, ◌&&◌, if◌then◌else◌, [], ◌∷◌, ◌++◌, drop}
 use Rattle.no_packet_loops.proofs.Common.{Held, Topology, LinkEnd, at_port}
 use Rattle.network_model.proofs.Common.{both_ways}
-use Rattle.daemon_laws.specs.Processes.{Processes}
-use Rattle.daemon_laws.specs.Packets.{is_in_session}
+use Rattle.daemon_laws.specs.{Processes.Processes, Packets.is_in_session}
 use Rattle.daemon_laws.specs.Happenings.{Happening, Takes, Loses, Releases, is_same_end, with_coming, after_happening}
-use Rattle.daemon_laws.proofs.Cases.{by_take, by_release}
-use Rattle.daemon_laws.proofs.Releasing.{as_carried}
-use Rattle.daemon_laws.proofs.Invariant.{Placed}
-use Rattle.daemon_laws.proofs.Steps.{coming_away}
+use Rattle.daemon_laws.proofs.{Cases.by_take, Cases.by_release, Releasing.as_carried, Invariant.Placed, Steps.coming_away}
 
 module _ (t : Topology) (w : Processes) (placed : Placed t w) where
   -- nothing, without its first

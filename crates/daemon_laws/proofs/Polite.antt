@@ -8,8 +8,7 @@ use Rattle.c_interface.specs.declared.fault.CallFault.TheVariants.{AskedTwice, U
 use Rattle.single_router.specs.Inputs.{owes_at, kind_fault}
 use Rattle.loop_freedom.specs.Facts.{End, count, pipe, messages, live}
 use Rattle.daemon_laws.specs.Processes.{Carried, Processes}
-use Rattle.daemon_laws.proofs.Seen.{carried, arriving_in, is_port_in}
-use Rattle.daemon_laws.proofs.Gone.{Gone}
+use Rattle.daemon_laws.proofs.{Seen.carried, Seen.arriving_in, Seen.is_port_in, Gone.Gone}
 use Rattle.daemon_laws.proofs.Invariant.{router_at, end_from, MayBe, may_or_left, Invariant, links_far}
 
 -- ---- a machine's computation, as the router tests it

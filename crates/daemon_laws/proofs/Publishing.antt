@@ -2,13 +2,9 @@
 use Rattle.std.proofs.Common.{refl, sym, ap, subst, ◌∙◌, arith, append_assoc, take_all, take-append-drop, inl, inr, ◌≡◌, ℕ, ◌<◌, ◌≤◌, true, false, ◌&&◌, ◌==◌, List, [], ◌++◌, length, Option, Some, None, option_map, eqb-true}
 use Rattle.no_packet_loops.proofs.Common.{and_parts, drop_all, slice_get_past, Prefix, Machine, port_count, port_successor, is_port, Neighbour, Router, machine_of, entry_of, session_at, router_publishing, next_hop_at, next_hop_of, kept, ripe_of, unripe_of, IsSound, is_up_at, test_at, is_current, is_next_hop, port_successor_from, is_port_successor, port_successor_home, live, messages, ShownAs, shown_as_chosen, shown_published, next_hop_seen, published_end, live-append, IsLawfullyHeld, lawfully_held_append}
 use Rattle.network_model.proofs.Common.{cases_lt, and_left, false≢true, false_from_ne_true, none-some}
-use Rattle.no_packet_loops.proofs.Publishing.{control_row, control_hop, control_sorted}
-use Rattle.no_packet_loops.proofs.View.{kept-append}
+use Rattle.no_packet_loops.proofs.{Publishing.control_row, Publishing.control_hop, Publishing.control_sorted, View.kept-append}
 use Rattle.daemon_laws.specs.Processes.{Carried}
-use Rattle.daemon_laws.proofs.Seen.{carried, arriving_in, end_in}
-use Rattle.daemon_laws.proofs.Routers.{RouterKept}
-use Rattle.daemon_laws.proofs.Cheap.{IsCheap}
-use Rattle.daemon_laws.proofs.InForce.{AsChosen, PutsInForce}
+use Rattle.daemon_laws.proofs.{Seen.carried, Seen.arriving_in, Seen.end_in, Routers.RouterKept, Cheap.IsCheap, InForce.AsChosen, InForce.PutsInForce}
 
 -- ---- the next hop that is published
 

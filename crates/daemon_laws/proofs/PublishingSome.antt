@@ -4,14 +4,10 @@ use Rattle.no_packet_loops.proofs.Common.{Prefix, prefix_cmp, port_successor, is
 use Rattle.network_model.proofs.Common.{infinity, find as row_of}
 use Rattle.no_packet_loops.proofs.Publishing.{control_row, control_hop, control_sorted}
 use Rattle.router_core.specs.Alone.{router_publishing_some}
-use Rattle.daemon_laws.specs.Processes.{Carried}
-use Rattle.daemon_laws.specs.Facts.{fd_then}
-use Rattle.daemon_laws.proofs.Seen.{end_in}
-use Rattle.daemon_laws.proofs.Routers.{RouterKept}
-use Rattle.daemon_laws.proofs.Cheap.{IsCheap}
+use Rattle.daemon_laws.specs.{Processes.Carried, Facts.fd_then}
+use Rattle.daemon_laws.proofs.{Seen.end_in, Routers.RouterKept, Cheap.IsCheap, Publishing.published_as}
 use Rattle.daemon_laws.proofs.SomeRows.{all_in_self, all_in_filter, all_in_take, row_in_force, sorted_in_force}
 use Rattle.daemon_laws.proofs.InForce.{AsChosen, PutsInForce, puts_held, puts_nothing}
-use Rattle.daemon_laws.proofs.Publishing.{published_as}
 
 module _ (p : Prefix) (r : Router) (R : RouterKept p r) (sound : IsSound (machine_of r p)) (cheap : IsCheap (machine_of r p)) (fd : ℕ) (bounded : fd ≤ infinity) (n : ℕ) where
   abbrev rows : List (Prefix × Entry)

@@ -5,12 +5,8 @@ use Rattle.network_model.proofs.Common.{cases_eq, cases_Bool, both_ways, and_lef
 use Rattle.loop_freedom.specs.Facts.{End, live, count, pipe}
 use Rattle.no_packet_loops.proofs.Releasing.{Front, front_of, ripe_front_is, unripe_left}
 use Rattle.daemon_laws.specs.Processes.{Carried, Processes}
-use Rattle.daemon_laws.proofs.Cases.{each_but}
+use Rattle.daemon_laws.proofs.{Cases.each_but, Routers.RouterKept, Cheap.IsCheap, Told.Told, Gone.Gone, Gone.gone_less}
 use Rattle.daemon_laws.proofs.Seen.{carried, carried-append, arriving_in, messages_arriving, is_port_in}
-use Rattle.daemon_laws.proofs.Routers.{RouterKept}
-use Rattle.daemon_laws.proofs.Cheap.{IsCheap}
-use Rattle.daemon_laws.proofs.Told.{Told}
-use Rattle.daemon_laws.proofs.Gone.{Gone, gone_less}
 use Rattle.daemon_laws.proofs.Invariant.{Whole, router_at, session_of, end_from, MayBe, Left, Invariant}
 
 -- ---- the router

@@ -5,11 +5,8 @@ use Rattle.network_model.proofs.Common.{cases_eq, both_ways, false_from_ne_true,
 use Rattle.loop_freedom.proofs.Example.{pair}
 use Rattle.least_cost.proofs.Reached.{each_place, each_router}
 use Rattle.single_router.specs.declared.input.Input.TheVariants as input
-use Rattle.daemon_laws.specs.Processes.{Processes}
-use Rattle.daemon_laws.specs.Packets.{is_in_session}
+use Rattle.daemon_laws.specs.{Processes.Processes, Packets.is_in_session, Rest.IsUpIn, Rest.NothingLost, Reached.ExampleOfRest}
 use Rattle.daemon_laws.specs.Happenings.{Happening, Tells, Takes, Loses, Publishes, PublishesSome, Forgets, Releases, BeginsAnew, after_happening, after_happenings}
-use Rattle.daemon_laws.specs.Rest.{IsUpIn, NothingLost}
-use Rattle.daemon_laws.specs.Reached.{ExampleOfRest}
 use Rattle.daemon_laws.proofs.Cases.{by_take, by_release}
 use Rattle.daemon_laws.proofs.Example.{first, begins, happenings, seven}
 

@@ -4,16 +4,9 @@ use Rattle.no_packet_loops.proofs.Common.{Prefix, Router, machine_of, session_at
 use Rattle.network_model.proofs.Common.{cases_eq, cases_lt, cases_Bool, both_ways, false_from_ne_true, and_left, Kind, Query, Reply, Report, infinity, one_if}
 use Rattle.loop_freedom.specs.Facts.{End, pipe, count, messages, live, AtLeast}
 use Rattle.daemon_laws.specs.Processes.{Processes}
-use Rattle.daemon_laws.proofs.Cases.{each_but}
+use Rattle.daemon_laws.proofs.{Cases.each_but, Routers.RouterKept, Moving.not_yet, Cheap.IsCheap, Told.Told, Told.listens, Told.last_value, Gone.Gone, Beginning.Made, Orderly.Orderly}
 use Rattle.daemon_laws.proofs.Seen.{carried, arriving_in, end_in, is_port_in}
-use Rattle.daemon_laws.proofs.Routers.{RouterKept}
-use Rattle.daemon_laws.proofs.Moving.{not_yet}
-use Rattle.daemon_laws.proofs.Cheap.{IsCheap}
-use Rattle.daemon_laws.proofs.Told.{Told, listens, last_value}
-use Rattle.daemon_laws.proofs.Gone.{Gone}
-use Rattle.daemon_laws.proofs.Beginning.{Made}
 use Rattle.daemon_laws.specs.Happenings.{latest, latest_coming, last_anew, lost_anew}
-use Rattle.daemon_laws.proofs.Orderly.{Orderly}
 use Rattle.daemon_laws.proofs.Anew.{none_of, lawful_least, anew_least, anew_own, Nothing, nothing_left, lost_still, nothing_back}
 use Rattle.daemon_laws.proofs.Invariant.{Whole, Placed, router_at, session_of, end_from, MayBe, Left, Invariant, links_far, gone_before}
 

@@ -3,19 +3,12 @@ use Rattle.std.proofs.Common.{refl, sym, ap, subst, ◌∙◌, inl, arith, ◌�
 use Rattle.no_packet_loops.proofs.Common.{option_map_or, and_parts, and_from, false≢true, Prefix, test_at, Machine, Neighbour, Local, Via, Port, machine_of, is_up_at, Topology, IsEdgeWalk, walk_map, LinkEnd, State, next_hop_at, most_routers, reported_at, pipe, messages, live}
 use Rattle.network_model.proofs.Common.{infinity}
 use Rattle.least_cost.specs.Quiet.{LeadsHome, Follows, IsQuiet, IsRouted, IsOptimal, walk_end, edges_cost}
-use Rattle.least_cost.proofs.Replay.{cost_of}
-use Rattle.least_cost.proofs.Kept.{Kept as NetKept}
-use Rattle.least_cost.proofs.AtQuiet.{optimal_here}
-use Rattle.daemon_laws.specs.Processes.{Processes}
-use Rattle.daemon_laws.specs.Packets.{is_in_session}
+use Rattle.least_cost.proofs.{Replay.cost_of, Kept.Kept as NetKept, AtQuiet.optimal_here}
+use Rattle.daemon_laws.specs.{Processes.Processes, Packets.is_in_session}
 use Rattle.daemon_laws.specs.Rest.{IsUpIn, cost_from, IsSessionWay, way_cost, IsWayHome, entry_in_force, IsSessionChain, ProcessHasRoute, ProcessHasBestRow, AreAtRest}
-use Rattle.daemon_laws.proofs.Seen.{carried, arriving_in, is_port_in}
-use Rattle.daemon_laws.proofs.Told.{Told, listens, last_value}
+use Rattle.daemon_laws.proofs.{Seen.carried, Seen.arriving_in, Seen.is_port_in, Told.Told, Told.listens, Told.last_value, Moving.in_session, Items.cost_is, Walks.opened, Walks.in_it}
 use Rattle.no_packet_loops.proofs.Taking.{port_within}
-use Rattle.daemon_laws.proofs.Moving.{in_session}
-use Rattle.daemon_laws.proofs.Items.{cost_is}
 use Rattle.daemon_laws.proofs.Invariant.{router_at, session_of, end_from, MayBe, Invariant}
-use Rattle.daemon_laws.proofs.Walks.{opened, in_it}
 use Rattle.daemon_laws.proofs.Quiet.{still, ripe_quiet, unripe_quiet, hop_quiet, local_quiet, lost_quiet, attachment_is, via_row}
 
 module _ (t : Topology) (p : Prefix) (pfd : ℕ → ℕ) (w : Processes) (I : Invariant t p pfd w) (n : ℕ) (few : n ≤ most_routers) (A : AreAtRest t n w) where

@@ -6,14 +6,8 @@ use Rattle.loop_freedom.specs.Facts.{End, messages}
 use Rattle.daemon_laws.specs.Processes.{Processes}
 use Rattle.daemon_laws.specs.Happenings.{is_same_end, link_stays, is_new_link, MayRewire, rewired}
 use Rattle.daemon_laws.proofs.Seen.{carried, arriving_in, end_in, is_port_in}
-use Rattle.daemon_laws.proofs.Moving.{not_yet}
-use Rattle.daemon_laws.proofs.Told.{Told}
-use Rattle.daemon_laws.proofs.Gone.{Gone}
-use Rattle.daemon_laws.proofs.Telling.{in_session_is}
+use Rattle.daemon_laws.proofs.{Moving.not_yet, Told.Told, Gone.Gone, Telling.in_session_is, Orderly.CarriedPast, Orderly.carried_later, Orderly.Orderly, Restarting.Blank, Restarting.blank_links, Restarting.blank_told, Steps.end_itself, Steps.end_same}
 use Rattle.daemon_laws.proofs.Invariant.{Whole, Placed, router_at, session_of, end_from, MayBe, Left, Invariant}
-use Rattle.daemon_laws.proofs.Orderly.{CarriedPast, carried_later, Orderly}
-use Rattle.daemon_laws.proofs.Restarting.{Blank, blank_links, blank_told}
-use Rattle.daemon_laws.proofs.Steps.{end_itself, end_same}
 
 module _ (t t' : Topology) (p : Prefix) (pfd : ℕ → ℕ) (w : Processes) (I : Invariant t p pfd w) (O : Orderly t p w) (R : MayRewire t t' w) where
   abbrev pub w' : Processes

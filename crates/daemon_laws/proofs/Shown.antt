@@ -5,17 +5,11 @@ use Rattle.network_model.proofs.Common.{cases_eq, find as row_of}
 use Rattle.all_packets.proofs.Known.{Follows, unheard}
 use Rattle.route_table.specs.Place.{without}
 use Rattle.router_core.specs.Alone.{router_publishing_some, may_forget, router_forgetting}
-use Rattle.single_router.specs.declared.input.Input.{Input}
+use Rattle.single_router.specs.{declared.input.Input.Input, Inputs.told_fault, Inputs.router_after, Openings.made_router}
 use Rattle.single_router.specs.declared.input.Input.TheVariants as input
-use Rattle.single_router.specs.Inputs.{told_fault, router_after}
-use Rattle.single_router.specs.Openings.{made_router}
-use Rattle.daemon_laws.specs.Processes.{Processes}
+use Rattle.daemon_laws.specs.{Processes.Processes, Facts.fd_then, Facts.fds_next, Facts.first_fds}
 use Rattle.daemon_laws.specs.Happenings.{Happening, Tells, Takes, Loses, Publishes, PublishesSome, Forgets, Releases, BeginsAnew, CanHappen, IsMade, IsOpening, with_process, told_router, forgotten, after_happening}
-use Rattle.daemon_laws.specs.Facts.{fd_then, fds_next, first_fds}
-use Rattle.daemon_laws.proofs.Cases.{by_take, by_release}
-use Rattle.daemon_laws.proofs.SomeRows.{none_in_force, row_beside, chosen_without}
-use Rattle.daemon_laws.proofs.Beginning.{made}
-use Rattle.daemon_laws.proofs.Steps.{router_here, router_away}
+use Rattle.daemon_laws.proofs.{Cases.by_take, Cases.by_release, SomeRows.none_in_force, SomeRows.row_beside, SomeRows.chosen_without, Beginning.made, Steps.router_here, Steps.router_away}
 
 module _ (p : Prefix) where
   -- a router, and the feasible distance with which it published last

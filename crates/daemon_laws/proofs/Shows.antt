@@ -3,8 +3,7 @@ use Rattle.std.proofs.Common.{sym, ap, subst, ◌∙◌, arith, inl, inr, ◌≡
 use Rattle.network_model.proofs.Common.{cases_Bool, both_ways, Query, Reply, infinity}
 use Rattle.loop_freedom.specs.Facts.{count, End, pipe}
 use Rattle.loop_freedom.proofs.Published.{ShownAs, answered_here, answered_there}
-use Rattle.daemon_laws.proofs.Told.{Told, listens, last_value}
-use Rattle.daemon_laws.proofs.Gone.{Gone}
+use Rattle.daemon_laws.proofs.{Told.Told, Told.listens, Told.last_value, Gone.Gone}
 
 -- what this end was told stays
 pub told_here : {x x' y : End} → ShownAs x x' → Told x y → Told x' y

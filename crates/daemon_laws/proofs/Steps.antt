@@ -3,29 +3,12 @@ use Rattle.std.proofs.Common.{refl, sym, ap, subst, ◌∙◌, arith, inl, inr, 
 use Rattle.no_packet_loops.proofs.Common.{and_parts, and_from, Prefix, prefix_eq, Held, Router, machine_of, session_at, router_publishing, router_releasing, msg_of, Topology, LinkEnd, at_port, changed_rows, live, front, IsLawfullyHeld}
 use Rattle.network_model.proofs.Common.{cases_eq, both_ways, false_from_ne_true, SeenHeld, infinity}
 use Rattle.router_core.specs.Alone.{router_publishing_some, may_forget}
-use Rattle.single_router.specs.declared.input.Input.{Input}
+use Rattle.single_router.specs.{declared.input.Input.Input, declared.opening.Attachment.Attachment, Openings.make_fault, Openings.made_router}
 use Rattle.single_router.specs.declared.input.Input.TheVariants as input
-use Rattle.daemon_laws.specs.Processes.{Carried, Processes}
-use Rattle.daemon_laws.specs.Packets.{is_in_session}
+use Rattle.daemon_laws.specs.{Processes.Carried, Processes.Processes, Packets.is_in_session, Facts.fd_then, Facts.fds_next}
 use Rattle.daemon_laws.specs.Happenings.{Happening, Tells, Takes, Loses, Publishes, PublishesSome, Forgets, Releases, BeginsAnew, IsLocalInput, CanHappen, with_process, is_same_end, with_coming, told_router, forgotten, sent_from, having_released, after_happening}
-use Rattle.daemon_laws.specs.Facts.{fd_then, fds_next}
-use Rattle.daemon_laws.proofs.Cases.{after_message, by_take, by_release}
-use Rattle.daemon_laws.proofs.Seen.{carried, is_port_in}
-use Rattle.daemon_laws.proofs.Goes.{Goes}
+use Rattle.daemon_laws.proofs.{Cases.after_message, Cases.by_take, Cases.by_release, Seen.carried, Seen.is_port_in, Goes.Goes, Orderly.Orderly, Invariant.router_at, Invariant.Placed, Invariant.Invariant, Meeting.GoesAt, Meeting.goes_keeps, Polite.first_is, Polite.polite, InForce.PutsInForce, InForce.puts_keeps, Publishing.puts_published, PublishingSome.puts_some, Forgetting.puts_forgetting, Beginning.Made, Beginning.made, Losing.loses_keeps, Restarting.restart_keeps}
 use Rattle.daemon_laws.proofs.Telling.{in_session_is, GoesAlone, goes_told, GoesWith, goes_with}
-use Rattle.daemon_laws.proofs.Orderly.{Orderly}
-use Rattle.daemon_laws.proofs.Invariant.{router_at, Placed, Invariant}
-use Rattle.daemon_laws.proofs.Meeting.{GoesAt, goes_keeps}
-use Rattle.daemon_laws.proofs.Polite.{first_is, polite}
-use Rattle.daemon_laws.proofs.InForce.{PutsInForce, puts_keeps}
-use Rattle.daemon_laws.proofs.Publishing.{puts_published}
-use Rattle.daemon_laws.proofs.PublishingSome.{puts_some}
-use Rattle.daemon_laws.proofs.Forgetting.{puts_forgetting}
-use Rattle.single_router.specs.declared.opening.Attachment.{Attachment}
-use Rattle.single_router.specs.Openings.{make_fault, made_router}
-use Rattle.daemon_laws.proofs.Beginning.{Made, made}
-use Rattle.daemon_laws.proofs.Losing.{loses_keeps}
-use Rattle.daemon_laws.proofs.Restarting.{restart_keeps}
 use Rattle.daemon_laws.proofs.Releasing.{as_carried, Sent, OnItsWay, Lost, release_keeps}
 
 -- ---- one router, or what comes to one end, changed

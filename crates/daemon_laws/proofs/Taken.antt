@@ -2,16 +2,11 @@
 use Rattle.std.proofs.Common.{refl, ◌∙◌, ◌≡◌, ℕ, true, false, ◌&&◌, ◌==◌, Option, Some, None, slice_get, eq-eqb, eqb-true}
 use Rattle.no_packet_loops.proofs.Common.{option_map_or, and_parts, and_from, false≢true, is_up_at, Prefix, Port, machine_of, session_at, Topology, LinkEnd}
 use Rattle.no_packet_loops.proofs.Machines.{prefix_itself}
-use Rattle.c_interface.specs.declared.fault.CallFault.{CallFault}
-use Rattle.c_interface.specs.Faults.{first_of}
+use Rattle.c_interface.specs.{declared.fault.CallFault.CallFault, Faults.first_of}
 use Rattle.single_router.specs.Inputs.{told_fault, port_fault, message_fault, kind_fault}
 use Rattle.single_router.specs.declared.input.Input.TheVariants as input
-use Rattle.daemon_laws.specs.Processes.{Carried, Processes}
-use Rattle.daemon_laws.specs.Packets.{is_in_session}
-use Rattle.daemon_laws.proofs.Seen.{is_port_in}
-use Rattle.daemon_laws.proofs.Items.{up_is, session_is}
-use Rattle.daemon_laws.proofs.Invariant.{router_at, Invariant}
-use Rattle.daemon_laws.proofs.Polite.{polite}
+use Rattle.daemon_laws.specs.{Processes.Carried, Processes.Processes, Packets.is_in_session}
+use Rattle.daemon_laws.proofs.{Seen.is_port_in, Items.up_is, Items.session_is, Invariant.router_at, Invariant.Invariant, Polite.polite}
 
 module _ (t : Topology) (w : Processes) (e : LinkEnd) (v : t.valid e ≡ true) (c : Carried) (at : slice_get (w.coming e) 0 ≡ Some c) (pfd : ℕ → ℕ) (I : Invariant t (c.message).prefix pfd w) where
   -- the prefix of the message

@@ -3,19 +3,13 @@ use Rattle.std.proofs.Common.{refl, sym, ap, subst, ◌∙◌, arith, inl, inr, 
 use Rattle.no_packet_loops.proofs.Common.{option_map_or, LinkEnd, None_not_Some, Some_injective, and_parts, and_from, false≢true, is_up_at, Event, Prefix, prefix_eq, Message, Port, Router, machine_of, session_at, router_accepting, IsSound, UpNotice, DownNotice, CostNotice, Reported, msg_of, Item}
 use Rattle.network_model.proofs.Common.{both_ways, cases_eq, and_left, false_from_ne_true, Report, infinity}
 use Rattle.single_router.specs.declared.input.Input.{Input}
-use Rattle.c_interface.specs.Faults.{first_of}
-use Rattle.c_interface.specs.declared.fault.CallFault.{CallFault}
+use Rattle.c_interface.specs.{Faults.first_of, declared.fault.CallFault.CallFault}
 use Rattle.c_interface.specs.declared.fault.CallFault.TheVariants as fault
 use Rattle.single_router.specs.Inputs.{told_fault, router_after, port_fault, up_fault, down_fault, message_fault, kind_fault}
 use Rattle.single_router.specs.declared.input.Input.TheVariants as input
-use Rattle.no_packet_loops.proofs.Machines.{prefix_same}
-use Rattle.daemon_laws.specs.Processes.{Processes}
-use Rattle.daemon_laws.specs.Packets.{is_in_session}
-use Rattle.daemon_laws.specs.Happenings.{IsLocalInput, told_router}
-use Rattle.daemon_laws.proofs.Seen.{is_port_in}
-use Rattle.daemon_laws.proofs.Routers.{RouterKept, Unmoved, unmoved_elsewhere}
-use Rattle.no_packet_loops.proofs.Taking.{port_within}
-use Rattle.daemon_laws.proofs.Moving.{in_session}
+use Rattle.no_packet_loops.proofs.{Machines.prefix_same, Taking.port_within}
+use Rattle.daemon_laws.specs.{Processes.Processes, Packets.is_in_session, Happenings.IsLocalInput, Happenings.told_router}
+use Rattle.daemon_laws.proofs.{Seen.is_port_in, Routers.RouterKept, Routers.Unmoved, Routers.unmoved_elsewhere, Moving.in_session}
 use Rattle.daemon_laws.proofs.Items.{up_is, as_many, session_is, took_up, took_down, took_cost, took_message}
 use Rattle.daemon_laws.proofs.Goes.{Goes, nothing, goes_unmoved, goes_took, goes_home, taken_in}
 

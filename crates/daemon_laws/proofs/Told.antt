@@ -3,10 +3,8 @@ use Rattle.std.proofs.Common.{refl, sym, ◌∙◌, ap, inl, inr, ◌≡◌, ℕ
 use Rattle.network_model.proofs.Common.{cases_Bool, Report, infinity}
 use Rattle.network_model.specs.declared.machine.Outgoing.{Outgoing}
 use Rattle.loop_freedom.specs.Facts.{End, pipe}
-use Rattle.loop_freedom.proofs.Lists.{front}
-use Rattle.loop_freedom.proofs.Link.{Answered, heard, EndStep}
+use Rattle.loop_freedom.proofs.{Lists.front, Link.Answered, Link.heard, Link.EndStep, OnTheWay.reports_of}
 use Rattle.loop_freedom.proofs.LinkSteps.{LinkStep, swapped, pipe_old, pipe_new, step_answered}
-use Rattle.loop_freedom.proofs.OnTheWay.{reports_of}
 use Rattle.least_cost.proofs.Told.{last_sent}
 
 -- the last value of these messages, after v

@@ -2,16 +2,11 @@
 use Rattle.std.proofs.Common.{refl, sym, ap, subst, ◌∙◌, arith, inl, inr, ◌≡◌, ◌⊎◌, ℕ, ◌<◌, ◌≤◌, max, Bool, true, false, ◌&&◌, ◌==◌, if◌then◌else◌, List, ◌∷◌, Option, Some, None, slice_get, option_and_then, eq-eqb}
 use Rattle.no_packet_loops.proofs.Common.{and_parts, and_from, Prefix, prefix_cmp, longest_match, is_port, port_successor_from, Entry, Via, Port, machine_of, session_at, Some_injective, None_not_Some, is_up_at, is_next_hop, Topology, meets_twice, LinkEnd, at_port, next_hop, next_hop_at, FallsAlong, falls_distinct}
 use Rattle.network_model.proofs.Common.{cases_lt, both_ways, find as row_of}
-use Rattle.no_packet_loops.proofs.Walks.{match_is_row}
-use Rattle.no_packet_loops.proofs.Publishing.{control_hop, control_sorted, hop_chosen}
+use Rattle.no_packet_loops.proofs.{Walks.match_is_row, Publishing.control_hop, Publishing.control_sorted, Publishing.hop_chosen}
 use Rattle.daemon_laws.specs.Processes.{Processes}
 use Rattle.daemon_laws.specs.Packets.{is_in_session, session_leads, lets_in, unmarked_leads, rows_in_force, rows_in_mixture, IsPacketWalkByRows}
-use Rattle.daemon_laws.proofs.Seen.{is_port_in}
-use Rattle.daemon_laws.proofs.Telling.{none_up, in_session_is}
-use Rattle.daemon_laws.proofs.Publishing.{successor_there}
+use Rattle.daemon_laws.proofs.{Seen.is_port_in, Telling.none_up, Telling.in_session_is, Publishing.successor_there, Moving.in_session, Orderly.Orderly}
 use Rattle.daemon_laws.proofs.Invariant.{may_or_left, router_at, session_of, Invariant}
-use Rattle.daemon_laws.proofs.Moving.{in_session}
-use Rattle.daemon_laws.proofs.Orderly.{Orderly}
 
 module _ (t : Topology) (p : Prefix) (pfd : ℕ → ℕ) (w : Processes) (I : Invariant t p pfd w) where
   -- the entry of the row that a router published for the prefix

@@ -2,17 +2,13 @@
 use Rattle.std.proofs.Common.{refl, sym, ap, subst, ◌∙◌, inl, inr, arith, ◌≡◌, ℕ, ◌<◌, ◌≤◌, Bool, true, false, ◌&&◌, ◌||◌, ◌==◌, if◌then◌else◌, List, [], ◌∷◌, ne_eqb, Option, Some, None, IsSome, option_and_then}
 use Rattle.no_packet_loops.proofs.Common.{Prefix, prefix_cmp, covers, longest_match, infinity, machine_of, Entry, None_not_Some, Some_injective, false≢true, Topology, LinkEnd, at_port, and_parts, is_met, meets_twice, Unreachable, Via, is_sorted, longest_match-found}
 use Rattle.network_model.proofs.Common.{both_ways, find as row_of}
-use Rattle.no_packet_loops.proofs.Publishing.{control_sorted}
+use Rattle.no_packet_loops.proofs.{Publishing.control_sorted, Walks.match_is_row}
 use Rattle.all_packets.specs.Packets.{IsWayBy}
-use Rattle.all_packets.proofs.Known.{unheard}
-use Rattle.no_packet_loops.proofs.Walks.{match_is_row}
-use Rattle.all_packets.proofs.Matches.{GoesBefore, found}
+use Rattle.all_packets.proofs.{Known.unheard, Matches.GoesBefore, Matches.found}
 use Rattle.all_packets.proofs.Improving.{Improves, Goes, none_twice, matched_once}
 use Rattle.daemon_laws.specs.Processes.{Processes}
 use Rattle.daemon_laws.specs.Packets.{is_in_session, session_leads, unmarked_leads, rows_in_mixture, MayGoOnBy, IsHalfWritten, IsShut, GoesHalfWritten}
-use Rattle.daemon_laws.proofs.Invariant.{Invariant}
-use Rattle.daemon_laws.proofs.Orderly.{Orderly}
-use Rattle.daemon_laws.proofs.Shown.{AllShown}
+use Rattle.daemon_laws.proofs.{Invariant.Invariant, Orderly.Orderly, Shown.AllShown}
 use Rattle.daemon_laws.proofs.Walks.{leads, published_both, control_both, unmarked}
 
 module _ (t : Topology) (w : Processes) (fds : Prefix → ℕ → ℕ) (I : (p : Prefix) → Invariant t p (fds p) w) (S : (p : Prefix) → AllShown p w.routers (fds p)) where

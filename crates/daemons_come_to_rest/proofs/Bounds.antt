@@ -10,8 +10,7 @@ use Rattle.coming_to_rest.proofs.Bounds.{IsIn, in_left, in_right, bound_of_all}
 use Rattle.daemon_laws.specs.Processes.{Carried, Processes}
 use Rattle.daemon_laws.specs.Happenings.{Happening, Tells, Takes, Loses, Publishes, PublishesSome, Forgets, Releases, BeginsAnew, CanHappen, after_happening}
 use Rattle.daemons_come_to_rest.specs.Rest.{HappensAlone, ProcessesComeToRest, rests, AllAlone, HasMostHappenings}
-use Rattle.daemons_come_to_rest.proofs.Forgets.{may_machine}
-use Rattle.daemons_come_to_rest.proofs.Kept.{Kept, kept_next, link_there}
+use Rattle.daemons_come_to_rest.proofs.{Forgets.may_machine, Kept.Kept, Kept.kept_next, Kept.link_there}
 
 -- ---- what may still happen
 

@@ -4,18 +4,13 @@ use Rattle.no_packet_loops.proofs.Common.{option_map_or, false≢true, Port, Top
 use Rattle.network_model.proofs.Common.{both_ways, cases_Bool, true_from_ne_false}
 use Rattle.coming_to_rest.specs.Rest.{IsFinite}
 use Rattle.coming_to_rest.proofs.Bounds.{IsIn, find_one}
-use Rattle.daemon_laws.specs.Processes.{Processes}
-use Rattle.daemon_laws.specs.Packets.{is_in_session}
+use Rattle.daemon_laws.specs.{Processes.Processes, Packets.is_in_session}
 use Rattle.daemon_laws.specs.Happenings.{Happening, Takes, Loses, Releases, BeginsAnew, after_happening, after_happenings}
 use Rattle.daemon_laws.proofs.Cases.{by_take, by_release}
 use Rattle.daemons_come_to_rest.specs.Rest.{HappensAlone, ProcessesComeToRest, rests, AllAlone}
 use Rattle.daemons_come_to_rest.specs.Settled.{is_loss, forgets, NothingLeft, EndsAgree, LosesNone, SameGround, ProcessesConverge, ProcessesAlwaysConverge}
-use Rattle.daemons_come_to_rest.proofs.Gathered.{prefixes_in, all_known}
-use Rattle.daemons_come_to_rest.proofs.Kept.{Kept, kept_next, kept_reached}
-use Rattle.daemons_come_to_rest.proofs.Falling.{goes_alone}
+use Rattle.daemons_come_to_rest.proofs.{Gathered.prefixes_in, Gathered.all_known, Kept.Kept, Kept.kept_next, Kept.kept_reached, Falling.goes_alone, Resting.kept_rests, Settled.settled_best}
 use Rattle.daemons_come_to_rest.proofs.Bounds.{alone_can, either, candidates, candidate, has_bound}
-use Rattle.daemons_come_to_rest.proofs.Resting.{kept_rests}
-use Rattle.daemons_come_to_rest.proofs.Settled.{settled_best}
 
 -- ---- what is left as it is
 

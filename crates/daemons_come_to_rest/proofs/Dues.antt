@@ -2,10 +2,9 @@
 use Rattle.std.proofs.Common.{refl, sym, ap, subst, ◌∙◌, arith, inl, inr, ◌≡◌, ◌⊎◌, ℕ, zero, suc, ◌+◌, ◌<◌, ◌≤◌, Bool, true, false, not, cond, if◌then◌else◌, List, [], ◌∷◌, length, take, filter, Some, is_some, slice_get}
 use Rattle.no_packet_loops.proofs.Common.{option_map_or, false≢true, None_not_Some, Some_injective, Prefix, prefix_cmp, prefix_eq, prefix_cmp_total, Machine, Entry, entry_eq, entry_eq-refl, Router, Table, has_row, changed_rows, with_rows, is_sorted, length_without}
 use Rattle.network_model.proofs.Common.{both_ways, find as row_of, to_T}
-use Rattle.no_packet_loops.proofs.Machines.{prefix_itself}
+use Rattle.no_packet_loops.proofs.{Machines.prefix_itself, Publishing.control_sorted}
 use Rattle.route_table.specs.Place.{without}
 use Rattle.router_core.specs.Alone.{with_some_published, router_publishing_some, router_forgetting}
-use Rattle.no_packet_loops.proofs.Publishing.{control_sorted}
 use Rattle.coming_to_rest.proofs.Dues.{router_dues}
 use Rattle.daemon_laws.proofs.Routers.{RouterKept}
 use Rattle.daemon_laws.proofs.SomeRows.{AllIn, all_in_self, all_in_filter, all_in_take, row_in_force, apart_back, row_beside}

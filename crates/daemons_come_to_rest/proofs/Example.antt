@@ -3,17 +3,13 @@ use Rattle.std.proofs.Common.{refl, sym, ap, subst, ◌∙◌, arith, ◌≡◌,
 use Rattle.no_packet_loops.proofs.Common.{None_not_Some, false≢true, changed_rows, is_due, ripe_front, LinkEnd, at_port}
 use Rattle.loop_freedom.proofs.Example.{pair}
 use Rattle.coming_to_rest.specs.Rest.{IsFinite}
-use Rattle.daemon_laws.specs.Processes.{Carried, Processes}
-use Rattle.daemon_laws.specs.Packets.{is_in_session}
-use Rattle.daemon_laws.specs.Rest.{NothingLost}
+use Rattle.daemon_laws.specs.{Processes.Carried, Processes.Processes, Packets.is_in_session, Rest.NothingLost}
 use Rattle.daemon_laws.specs.Happenings.{Takes, Loses, Publishes, PublishesSome, Forgets, Releases, after_happenings, AllCanHappen}
 use Rattle.daemon_laws.proofs.Example.{first, begins, seven}
 use Rattle.least_cost.proofs.Reached.{each_place, each_router}
 use Rattle.daemon_laws.proofs.RestExample.{until_up, onward, rest, agree}
-use Rattle.daemons_come_to_rest.specs.Rest.{AllAlone}
-use Rattle.daemons_come_to_rest.specs.Settled.{NothingLeft, SameGround, SomeConverges}
-use Rattle.daemons_come_to_rest.proofs.Kept.{Kept, kept_first, kept_after}
-use Rattle.daemons_come_to_rest.proofs.Converging.{kept_alone, ground_after, still_agree}
+use Rattle.daemons_come_to_rest.specs.{Rest.AllAlone, Settled.NothingLeft, Settled.SameGround, Settled.SomeConverges}
+use Rattle.daemons_come_to_rest.proofs.{Kept.Kept, Kept.kept_first, Kept.kept_after, Converging.kept_alone, Converging.ground_after, Converging.still_agree}
 
 abbrev now : Processes
 now = after_happenings pair first until_up

@@ -9,26 +9,18 @@ use Rattle.single_router.specs.Inputs.{told_fault, attachment_of}
 use Rattle.single_router.specs.declared.input.Input.TheVariants as input
 use Rattle.no_packet_loops.proofs.Machines.{prefix_same, prefix_itself}
 use Rattle.coming_to_rest.specs.Rest.{IsFinite}
-use Rattle.coming_to_rest.proofs.Order.{Falls, at_place}
+use Rattle.coming_to_rest.proofs.{Order.Falls, Order.at_place, Measure.top, Measure.le_same, Takes.MessageEffect, Takes.load_falls, Known.IsOf, Dues.published_less, Dues.released_less}
 use Rattle.coming_to_rest.proofs.Sums.{sum_list, list_less, sum_below, sum_but_one}
-use Rattle.coming_to_rest.proofs.Measure.{top, le_same}
-use Rattle.coming_to_rest.proofs.Takes.{MessageEffect, load_falls}
-use Rattle.coming_to_rest.proofs.Known.{IsOf}
 use Rattle.coming_to_rest.proofs.Prefixes.{CountsLess, each, prefixes_less, prefixes_fall, sum_places, sum_loads, dues_fall, effect_falls}
 use Rattle.daemon_laws.specs.Processes.{Carried, Processes}
 use Rattle.daemon_laws.specs.Happenings.{Happening, Takes, Loses, Publishes, PublishesSome, Forgets, Releases, with_process, with_coming, told_router, forgotten, having_taken, having_released, after_happening}
-use Rattle.daemon_laws.proofs.Cases.{after_message}
-use Rattle.daemon_laws.proofs.Seen.{carried}
+use Rattle.daemon_laws.proofs.{Cases.after_message, Seen.carried}
 use Rattle.daemon_laws.proofs.Steps.{router_here, router_away, coming_here, coming_away, bounded}
-use Rattle.daemons_come_to_rest.specs.Rest.{HappensAlone}
-use Rattle.daemons_come_to_rest.specs.Settled.{SameGround}
-use Rattle.daemons_come_to_rest.proofs.Shown.{reported, shown, stales}
+use Rattle.daemons_come_to_rest.specs.{Rest.HappensAlone, Settled.SameGround}
+use Rattle.daemons_come_to_rest.proofs.{Shown.reported, Shown.shown, Shown.stales, Dues.dues_of, Dues.some_published_less, Dues.forgotten_less, Kept.Kept, Kept.link_there}
 use Rattle.daemons_come_to_rest.proofs.Moves.{Less, alike_less, Drops, drop_less, drop_load, stays_of, TakesOne, taken_effect, taken_stale, taken_attachment, taken_other, PublishesOne, publish_less, ReleasesOne, release_less}
 use Rattle.daemons_come_to_rest.proofs.Gathered.{KnownIn, known_drop, known_first, known_dropped, known_take, known_publish, known_held, known_release}
 use Rattle.daemons_come_to_rest.proofs.Forgets.{ForgetsOne, forget_other, forget_own, may_machine, forget_attachment}
-use Rattle.coming_to_rest.proofs.Dues.{published_less, released_less}
-use Rattle.daemons_come_to_rest.proofs.Dues.{dues_of, some_published_less, forgotten_less}
-use Rattle.daemons_come_to_rest.proofs.Kept.{Kept, link_there}
 
 -- ---- the measure
 

@@ -5,15 +5,12 @@ use Rattle.network_model.proofs.Common.{cases_eq, cases_lt, both_ways, least, wa
 use Rattle.router_core.specs.Alone.{is_unreported, knows_nothing, may_forget, router_forgetting}
 use Rattle.single_router.specs.Inputs.{attachment_of}
 use Rattle.no_packet_loops.proofs.Machines.{prefix_same}
-use Rattle.daemon_laws.proofs.Quiet.{attachment_is}
+use Rattle.daemon_laws.proofs.{Quiet.attachment_is, Seen.carried, SomeRows.row_forgotten, SomeRows.row_beside, Forgetting.Knows, Forgetting.knows_none}
 use Rattle.coming_to_rest.specs.Rest.{IsFinite}
 use Rattle.coming_to_rest.proofs.Effects.{token, one_at, cost_of, cost_at}
 use Rattle.coming_to_rest.proofs.Sums.{ends_less, ends_but_one}
 use Rattle.daemon_laws.specs.Processes.{Processes}
-use Rattle.daemon_laws.proofs.Seen.{carried}
 use Rattle.daemon_laws.proofs.Routers.{port_face, faces, port_faces, RouterKept}
-use Rattle.daemon_laws.proofs.SomeRows.{row_forgotten, row_beside}
-use Rattle.daemon_laws.proofs.Forgetting.{Knows, knows_none}
 use Rattle.daemons_come_to_rest.proofs.Shown.{reported, shown, stale_of, stale, stales, CountsAlike, alike_count, no_more_load}
 use Rattle.daemons_come_to_rest.proofs.Moves.{Less, alike_less, stays_of}
 

@@ -4,14 +4,10 @@ use Rattle.no_packet_loops.proofs.Common.{list_any, false≢true, Prefix, prefix
 use Rattle.network_model.proofs.Common.{cases_eq}
 use Rattle.coming_to_rest.specs.Rest.{IsFinite}
 use Rattle.coming_to_rest.proofs.Known.{Each, each_append, each_front_off, IsOf, HeldKnown, known_sends}
-use Rattle.coming_to_rest.proofs.Order.{lower_cases}
-use Rattle.coming_to_rest.proofs.Prefixes.{of_first, of_more}
-use Rattle.daemon_laws.specs.Processes.{Carried, Processes}
-use Rattle.daemon_laws.specs.Packets.{is_in_session}
-use Rattle.daemon_laws.specs.Happenings.{with_coming}
-use Rattle.daemon_laws.proofs.Releasing.{as_carried}
+use Rattle.coming_to_rest.proofs.{Order.lower_cases, Prefixes.of_first, Prefixes.of_more}
+use Rattle.daemon_laws.specs.{Processes.Carried, Processes.Processes, Packets.is_in_session, Happenings.with_coming}
+use Rattle.daemon_laws.proofs.{Releasing.as_carried, Steps.coming_here, Steps.coming_away}
 use Rattle.no_packet_loops.proofs.Releasing.{front_of}
-use Rattle.daemon_laws.proofs.Steps.{coming_here, coming_away}
 use Rattle.daemons_come_to_rest.proofs.Moves.{Drops, TakesOne, PublishesOne, ReleasesOne}
 
 -- a message on its way is of a prefix of these

@@ -7,21 +7,10 @@ use Rattle.router_core.specs.Alone.{router_publishing_some, may_forget, router_f
 use Rattle.single_router.specs.declared.input.Input.TheVariants as input
 use Rattle.single_router.specs.Openings.{made_router}
 use Rattle.coming_to_rest.proofs.Calm.{IsCalm, stays_calm, opens_calm}
-use Rattle.daemon_laws.specs.Processes.{Carried, Processes}
+use Rattle.daemon_laws.specs.{Processes.Carried, Processes.Processes, Facts.fds_next, Facts.first_fds}
 use Rattle.daemon_laws.specs.Happenings.{Happening, Tells, Takes, Loses, Publishes, PublishesSome, Forgets, Releases, BeginsAnew, CanHappen, with_process, told_router, forgotten, after_happening, after_happenings, AllCanHappen, IsOpening, AreReached, Begun, Happened, Rewired}
-use Rattle.daemon_laws.specs.Facts.{fds_next, first_fds}
-use Rattle.daemon_laws.proofs.Cases.{each_but, by_take, by_release}
-use Rattle.daemon_laws.proofs.Goes.{Reacted, stays, meets_one}
-use Rattle.daemon_laws.proofs.Telling.{goes_told}
-use Rattle.daemon_laws.proofs.Beginning.{made, begins_kept}
+use Rattle.daemon_laws.proofs.{Cases.each_but, Cases.by_take, Cases.by_release, Goes.Reacted, Goes.stays, Goes.meets_one, Telling.goes_told, Beginning.made, Beginning.begins_kept, Orderly.Orderly, Order.next_orderly, Order.begins_orderly, Placed.placed_next, Rewiring.rewired_keeps, Rewiring.rewired_orderly, Rewiring.rewired_placed, Seen.is_port_in, SomeRows.row_forgotten, SomeRows.row_beside, Moving.in_session}
 use Rattle.daemon_laws.proofs.Invariant.{router_at, session_of, Placed, Invariant}
-use Rattle.daemon_laws.proofs.Orderly.{Orderly}
-use Rattle.daemon_laws.proofs.Order.{next_orderly, begins_orderly}
-use Rattle.daemon_laws.proofs.Placed.{placed_next}
-use Rattle.daemon_laws.proofs.Rewiring.{rewired_keeps, rewired_orderly, rewired_placed}
-use Rattle.daemon_laws.proofs.Seen.{is_port_in}
-use Rattle.daemon_laws.proofs.SomeRows.{row_forgotten, row_beside}
-use Rattle.daemon_laws.proofs.Moving.{in_session}
 use Rattle.daemon_laws.proofs.Steps.{router_here, router_away, goes_here, next_keeps}
 
 pub record Kept (t : Topology) (w : Processes) : Type 0 where

@@ -6,28 +6,13 @@ use Rattle.loop_freedom.specs.Network.{Publish as NetPublish, Release as NetRele
 use Rattle.no_packet_loops.proofs.Publishing.{control_hop}
 use Rattle.c_interface.specs.Faults.{first_of}
 use Rattle.single_router.specs.Inputs.{told_fault, message_fault, kind_fault, attachment_of}
-use Rattle.daemon_laws.proofs.Quiet.{attachment_is}
+use Rattle.daemon_laws.proofs.{Quiet.attachment_is, Seen.carried, Seen.carried-append, Routers.RouterKept, Routers.Unmoved, Routers.unmoved_elsewhere, Items.took_message, Telling.passed, Telling.neither, Telling.message_passes, Moving.Took, Publishing.ripe_all, Publishing.unripe_none, Releasing.as_carried, Steps.coming_here, Steps.coming_away}
 use Rattle.single_router.specs.declared.input.Input.TheVariants as input
 use Rattle.coming_to_rest.specs.Rest.{IsFinite}
-use Rattle.coming_to_rest.proofs.Weights.{changes, changes_without, load}
-use Rattle.coming_to_rest.proofs.Calm.{IsCalm}
-use Rattle.coming_to_rest.proofs.Sums.{ends_less, ends_but_one}
+use Rattle.coming_to_rest.proofs.{Weights.changes, Weights.changes_without, Weights.load, Calm.IsCalm, Sums.ends_less, Sums.ends_but_one, Takes.TakesMessage, Takes.MessageEffect, Takes.message_effect, Publishes.publish_weight, Publishes.publish_loads, Releases.release_weight, Releases.release_loads}
 use Rattle.coming_to_rest.proofs.Measure.{on_way, weight, inbox_load, held_load, loads, le_same}
-use Rattle.coming_to_rest.proofs.Takes.{TakesMessage, MessageEffect, message_effect}
-use Rattle.coming_to_rest.proofs.Publishes.{publish_weight, publish_loads}
-use Rattle.coming_to_rest.proofs.Releases.{release_weight, release_loads}
-use Rattle.daemon_laws.specs.Processes.{Carried, Processes}
-use Rattle.daemon_laws.specs.Packets.{is_in_session}
-use Rattle.daemon_laws.specs.Happenings.{sent_from, with_coming}
-use Rattle.daemon_laws.proofs.Seen.{carried, carried-append}
-use Rattle.daemon_laws.proofs.Routers.{RouterKept, Unmoved, unmoved_elsewhere}
-use Rattle.daemon_laws.proofs.Items.{took_message}
-use Rattle.daemon_laws.proofs.Telling.{passed, neither, message_passes}
-use Rattle.daemon_laws.proofs.Moving.{Took}
-use Rattle.daemon_laws.proofs.Publishing.{ripe_all, unripe_none}
-use Rattle.daemon_laws.proofs.Releasing.{as_carried}
+use Rattle.daemon_laws.specs.{Processes.Carried, Processes.Processes, Packets.is_in_session, Happenings.sent_from, Happenings.with_coming}
 use Rattle.no_packet_loops.proofs.Releasing.{Front, front_of, ripe_front_is, unripe_left}
-use Rattle.daemon_laws.proofs.Steps.{coming_here, coming_away}
 use Rattle.daemons_come_to_rest.proofs.Shown.{reported, reported-append, shown, stale_of, stale, stales, stales_same, NoMore, no_more_weight, no_more_load, Alike, alike_weight, alike_loads}
 
 -- a message as the prefix sees it

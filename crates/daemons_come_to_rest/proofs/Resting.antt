@@ -2,15 +2,11 @@
 use Rattle.std.proofs.Common.{refl, subst, ◌≡◌, List}
 use Rattle.no_packet_loops.proofs.Common.{Prefix, Topology}
 use Rattle.coming_to_rest.specs.Rest.{IsFinite}
-use Rattle.coming_to_rest.proofs.Order.{every}
-use Rattle.coming_to_rest.proofs.Measure.{top}
-use Rattle.daemon_laws.specs.Processes.{Processes}
-use Rattle.daemon_laws.specs.Happenings.{Happening, after_happening}
+use Rattle.coming_to_rest.proofs.{Order.every, Measure.top}
+use Rattle.daemon_laws.specs.{Processes.Processes, Happenings.Happening, Happenings.after_happening}
 use Rattle.daemons_come_to_rest.specs.Rest.{HappensAlone, ProcessesComeToRest, rests, ProcessesAlwaysComeToRest, AlwaysHasBound}
-use Rattle.daemons_come_to_rest.proofs.Gathered.{KnownIn, prefixes_in, all_known}
-use Rattle.daemons_come_to_rest.proofs.Kept.{Kept, kept_next, kept_reached}
+use Rattle.daemons_come_to_rest.proofs.{Gathered.KnownIn, Gathered.prefixes_in, Gathered.all_known, Kept.Kept, Kept.kept_next, Kept.kept_reached, Bounds.alone_can, Bounds.has_bound}
 use Rattle.daemons_come_to_rest.proofs.Falling.{all_places, all_loads, all_dues, ProcessesFall, goes_alone}
-use Rattle.daemons_come_to_rest.proofs.Bounds.{alone_can, has_bound}
 
 module _ (t : Topology) (F : IsFinite t) (ps : List Prefix) where
   -- something that still happens leads from the one to the other

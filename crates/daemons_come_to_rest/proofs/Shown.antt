@@ -2,9 +2,7 @@
 use Rattle.std.proofs.Common.{refl, ap, arith, ◌≡◌, ℕ, ◌≤◌, true, false, not, ◌&&◌, ◌==◌, List, [], ◌∷◌, ◌++◌, Option, None, Some, slice_get}
 use Rattle.no_packet_loops.proofs.Common.{option_map_or, Prefix, Port, Machine, Neighbour, machine_of, session_at, next_hop_at, kept, ripe_of, unripe_of, SeenItem, Reported, State, Topology, LinkEnd, reported_at, messages}
 use Rattle.network_model.proofs.Common.{SeenHeld, infinity, one_if}
-use Rattle.coming_to_rest.proofs.Weights.{changes, load}
-use Rattle.coming_to_rest.proofs.Effects.{token, cost_at}
-use Rattle.coming_to_rest.proofs.Sums.{sum_less, ends_sum, ends_less}
+use Rattle.coming_to_rest.proofs.{Weights.changes, Weights.load, Effects.token, Effects.cost_at, Sums.sum_less, Sums.ends_sum, Sums.ends_less}
 use Rattle.coming_to_rest.proofs.Measure.{on_way, end_weight, weight, inbox_load, held_load, loads, le_same}
 use Rattle.daemon_laws.specs.Processes.{Processes}
 use Rattle.daemon_laws.proofs.Seen.{carried}

@@ -1,9 +1,8 @@
 -- A bit that is set, and one that is cleared.
 use Rattle.std.proofs.Common.{◌≡◌, ℕ, zero, suc, ◌-◌, ◌*◌, ◌%◌, ◌^◌, ◌<◌, ◌≤◌, Bool, true, false, not, ◌&&◌, ◌||◌, ◌==◌, ◌⊎◌, inl, inr, bit_and, bit_or, w32, refl, sym, ◌∙◌, arith}
 use Rattle.std.specs.Int.{bit_at}
-use Rattle.std.proofs.lemmas.Bool.{eqb-true, eqb-false, cases_lt}
+use Rattle.std.proofs.{lemmas.Bool.eqb-true, lemmas.Bool.eqb-false, lemmas.Bool.cases_lt, lemmas.Nat.and_le_l}
 use Rattle.std.proofs.lemmas.Nat.Bits.{bit_at_set_same, bit_at_set_other, bit_at_clear_same, bit_at_clear_other, bit_at_above, bit_at-zero, bit_at-lt, same_from_bits_below}
-use Rattle.std.proofs.lemmas.Nat.{and_le_l}
 use Rattle.diffusing_replies.specs.Ports.{is_set}
 
 and-true : (b : Bool) → b ≡ (b && true)

@@ -1,18 +1,10 @@
 -- The awaited ports, as a set and as the definition's list.
 use Rattle.std.proofs.Common.{◌⊎◌, inl, inr, get_or, refl, sym, ap, ◌∙◌, arith, ◌≡◌, ◌≢◌, ℕ, zero, suc, ◌+◌, ◌<◌, ◌≤◌, Bool, true, false, not, ◌&&◌, ◌||◌, ◌==◌, nat_lt, ◌↔◌, IsTrue, List, [], ◌∷◌, map, length, Option, slice_get, unwrap_or}
-use Rattle.std.specs.List.{list_any, range_with_len}
-use Rattle.std.specs.Option.{option_map_or}
-use Rattle.std.specs.FinSet.{contains}
-use Rattle.std.proofs.Math.Bool.{and-false}
-use Rattle.std.proofs.lemmas.Bool.{cases_eq, cases_lt, ne_eqb}
-use Rattle.std.proofs.lemmas.Bool.Decides.{nat_tests}
-use Rattle.std.proofs.lemmas.List.FromFn.{get_or-map-range_with_len, length-map-range_with_len}
-use Rattle.std.proofs.lemmas.Option.{slice_get_past, slice_get_read, unwrap_or-slice_get}
-use Rattle.network_model.specs.declared.machine.Neighbour.{Neighbour}
-use Rattle.network_model.specs.Machine.{changed_at}
+use Rattle.std.specs.{List.list_any, List.range_with_len, Option.option_map_or, FinSet.contains}
+use Rattle.std.proofs.{Math.Bool.and-false, lemmas.Bool.cases_eq, lemmas.Bool.cases_lt, lemmas.Bool.ne_eqb, lemmas.Bool.Decides.nat_tests, lemmas.List.FromFn.get_or-map-range_with_len, lemmas.List.FromFn.length-map-range_with_len, lemmas.Option.slice_get_past, lemmas.Option.slice_get_read, lemmas.Option.unwrap_or-slice_get}
+use Rattle.network_model.specs.{declared.machine.Neighbour.Neighbour, Machine.changed_at}
 use Rattle.diffusing_replies.specs.Ports.{Ports}
-use Rattle.dual_machine.specs.Awaited.{awaited_of, AwaitsBelow}
-use Rattle.dual_machine.specs.Event.{is_neighbour_up}
+use Rattle.dual_machine.specs.{Awaited.awaited_of, Awaited.AwaitsBelow, Event.is_neighbour_up}
 
 -- ---- a port is awaited no more
 

@@ -1,20 +1,11 @@
 -- The parts of a machine fit together still once a record has changed.
 use Rattle.std.proofs.Common.{arith, ap, subst, sym, ◌∙◌, ◌≡◌, ℕ, ◌≤◌, Bool, false, not, ◌↔◌, IsTrue, List, ◌++◌, length, take, Option, Some, None, All, IfSome}
-use Rattle.std.specs.List.{list_any}
-use Rattle.std.specs.FinSet.{contains}
+use Rattle.std.specs.{List.list_any, FinSet.contains}
 use Rattle.metric.specs.Distance.{IsCost}
 use Rattle.diffusing_replies.specs.Ports.{Ports}
-use Rattle.network_model.specs.declared.machine.Event.{Event}
-use Rattle.network_model.specs.declared.machine.Neighbour.{Neighbour}
-use Rattle.network_model.specs.Machine.{records_after, attachment_after}
-use Rattle.dual_machine.specs.declared.mode.Active.{Active}
-use Rattle.dual_machine.specs.Awaited.{awaited_of, AwaitsBelow}
-use Rattle.dual_machine.specs.Event.{BringsCost}
-use Rattle.dual_machine.specs.Parts.{IsMachine, IsUnderWay, computation_of}
-use Rattle.dual_machine.proofs.Awaiting.{asking-done}
-use Rattle.dual_machine.proofs.Changes.{refilled}
-use Rattle.dual_machine.proofs.Costs.{HasCost-records_after, HasCost-attachment_after}
-use Rattle.dual_machine.proofs.Room.{IsAsking}
+use Rattle.network_model.specs.{declared.machine.Event.Event, declared.machine.Neighbour.Neighbour, Machine.records_after, Machine.attachment_after}
+use Rattle.dual_machine.specs.{declared.mode.Active.Active, Awaited.awaited_of, Awaited.AwaitsBelow, Event.BringsCost, Parts.IsMachine, Parts.IsUnderWay, Parts.computation_of}
+use Rattle.dual_machine.proofs.{Awaiting.asking-done, Changes.refilled, Costs.HasCost-records_after, Costs.HasCost-attachment_after, Room.IsAsking}
 
 -- ---- the records as a change through a slice leaves them: ports is that slice before, new after, and before is the whole list
 

@@ -1,13 +1,11 @@
 -- Every cost is at least 1: so a near successor makes the condition hold.
 use Rattle.std.proofs.Common.{refl, arith, ◌≡◌, ◌≢◌, ℕ, zero, suc, ◌<◌, ◌≤◌, min, Bool, true, false, ◌&&◌, ◌||◌, ◌==◌, nat_lt, if◌then◌else◌, List, [], ◌∷◌, ◌++◌, Option, Some, None, All, IfSome}
 use Rattle.std.specs.List.{list_any}
-use Rattle.std.proofs.lemmas.Bool.{or_left, or_right}
-use Rattle.std.proofs.lemmas.Bool.Decides.{nat_tests}
+use Rattle.std.proofs.{lemmas.Bool.or_left, lemmas.Bool.or_right, lemmas.Bool.Decides.nat_tests}
 use Rattle.std.proofs.lemmas.List.Elements.{All-cons, All-head, All-tail, All-append}
 use Rattle.metric.specs.Distance.{infinity, plus, IsCost}
-use Rattle.network_model.specs.declared.machine.Event.{Event}
+use Rattle.network_model.specs.{declared.machine.Event.Event, declared.machine.Neighbour.Neighbour}
 use Rattle.network_model.specs.declared.machine.Event.TheVariants.{Message, Up, Down, Cost, Attached, Detached}
-use Rattle.network_model.specs.declared.machine.Neighbour.{Neighbour}
 use Rattle.network_model.specs.Machine.{changed_at, records_after, attachment_after, at_home, home_ways, distance, least, is_feasible, condition_holds, via_successor}
 use Rattle.dual_machine.specs.Event.{BringsCost}
 use Rattle.network_model.proofs.MachineLaws.{least_bounded}

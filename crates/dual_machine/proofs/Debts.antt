@@ -1,15 +1,10 @@
 -- What an event leaves of the origin state and the debt.
 use Rattle.std.proofs.Common.{refl, sym, ap, ◌∙◌, subst, arith, ◌≡◌, ℕ, ◌<◌, Bool, true, false, if◌then◌else◌, Option, Some, None, eqb-true, ltb-true, lt-ltb}
 use Rattle.metric.specs.declared.kind.Kind.TheVariants.{Query}
-use Rattle.network_model.specs.declared.machine.Event.{Event}
-use Rattle.network_model.specs.declared.machine.Event.TheVariants.{Message, Down, Detached}
-use Rattle.network_model.specs.Machine.{is_port, successor_after, debt_after}
-use Rattle.diffusing_replies.specs.declared.origin.Origin.{Origin}
+use Rattle.network_model.specs.{declared.machine.Event.Event, declared.machine.Event.TheVariants.Message, declared.machine.Event.TheVariants.Down, declared.machine.Event.TheVariants.Detached, Machine.is_port, Machine.successor_after, Machine.debt_after}
+use Rattle.diffusing_replies.specs.{declared.origin.Origin.Origin, Origin.rose, Origin.needs_test}
 use Rattle.diffusing_replies.specs.declared.origin.Origin.TheVariants.{OwnDisturbed, Own, OwingDisturbed, Owing}
-use Rattle.diffusing_replies.specs.Origin.{rose, needs_test}
-use Rattle.dual_machine.specs.State.{moved, is_loss_of, is_query_from}
-use Rattle.dual_machine.specs.Event.{IsKnown}
-use Rattle.dual_machine.specs.Parts.{IsDebtOf, is_port_below}
+use Rattle.dual_machine.specs.{State.moved, State.is_loss_of, State.is_query_from, Event.IsKnown, Parts.IsDebtOf, Parts.is_port_below}
 
 -- where the next end needs no test, the distance has not risen by this event
 pub not_risen : (e : Event) (n : ℕ) (s : Option ℕ) (risen : Bool) (o : Origin) → needs_test (moved n s e risen o) ≡ false → risen ≡ false

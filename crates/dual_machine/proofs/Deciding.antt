@@ -1,9 +1,7 @@
 -- What a machine decides once its records have changed.
 use Rattle.std.proofs.Common.{refl, sym, ap, ◌∙◌, ◌≡◌, ℕ, false, List, ◌++◌, length, take, Option, Some, None}
-use Rattle.std.specs.List.{list_any}
-use Rattle.std.specs.Option.{option_map_or}
-use Rattle.network_model.specs.declared.machine.Event.{Event}
-use Rattle.network_model.specs.declared.machine.Neighbour.{Neighbour}
+use Rattle.std.specs.{List.list_any, Option.option_map_or}
+use Rattle.network_model.specs.{declared.machine.Event.Event, declared.machine.Neighbour.Neighbour}
 use Rattle.network_model.specs.Machine.{Machine, Computation, records_after, attachment_after, successor_after, with_records, with_first, answers_at_once, completion, awaited_after, debt_after, passive_reaction, active_reaction, decision}
 use Rattle.dual_machine.proofs.Changes.{refilled}
 

@@ -2,13 +2,9 @@
 use Rattle.std.proofs.Common.{refl, arith, length-append, ◌≡◌, ℕ, zero, suc, ◌+◌, ◌≤◌, Bool, true, false, not, ◌&&◌, cond, ◌==◌, if◌then◌else◌, List, [], ◌∷◌, Option, Some, None, filter, length, IfSome}
 use Rattle.std.specs.List.{list_any}
 use Rattle.std.proofs.lemmas.List.Sums.{length-filter}
-use Rattle.metric.specs.Distance.{infinity}
-use Rattle.metric.specs.declared.kind.Kind.{Kind}
-use Rattle.metric.specs.declared.kind.Kind.TheVariants.{Update, Query, Reply}
-use Rattle.network_model.specs.declared.machine.Event.{Event}
+use Rattle.metric.specs.{Distance.infinity, declared.kind.Kind.Kind, declared.kind.Kind.TheVariants.Update, declared.kind.Kind.TheVariants.Query, declared.kind.Kind.TheVariants.Reply}
+use Rattle.network_model.specs.{declared.machine.Event.Event, declared.machine.Neighbour.Neighbour, declared.machine.Outgoing.Outgoing}
 use Rattle.network_model.specs.declared.machine.Event.TheVariants.{Message, Up, Down, Cost, Attached, Detached}
-use Rattle.network_model.specs.declared.machine.Neighbour.{Neighbour}
-use Rattle.network_model.specs.declared.machine.Outgoing.{Outgoing}
 use Rattle.network_model.specs.Machine.{Machine, Computation, Reaction, ways, changed_at, records_after, one_to, all_from, news_to_others, is_port, passive_result, new_computation, started_computation, completion, via_successor, condition_holds, least, asker, awaited_after, debt_after, active_reaction, passive_reaction, decision, with_records, greeting, reaction}
 use Rattle.dual_machine.specs.Outbox.{most_sent}
 

@@ -5,8 +5,7 @@ use Rattle.world.specs.Steps.{IsDoneOr}
 use Rattle.image_patch.specs.declared.Patch.{Patch as PatchFields}
 use Rattle.course.specs.Images.{due_at}
 use Rattle.course.proofs.Images.{due_lawful}
-use Rattle.fabric.specs.Fabric.{Fabric, fabric_refusal}
-use Rattle.fabric.specs.Patches.{IsPatchDue}
+use Rattle.fabric.specs.{Fabric.Fabric, Fabric.fabric_refusal, Patches.IsPatchDue}
 
 -- where a patch is due, nothing refuses the step that publishes it, once the fabric admits it
 pub admitted : (f : Fabric) (w : World) (s : Step) (i : ℕ) → fabric_refusal f s ≡ refusal f.world s → f.world ≡ w → s ≡ Publish i → IsSome (due_at w i) → fabric_refusal f s ≡ None

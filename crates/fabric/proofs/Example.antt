@@ -2,10 +2,8 @@
 use Rattle.std.proofs.Common.{refl, subst, arith, zero, suc, List, [], ◌∷◌, Some, None, slice_get, unwrap_or}
 use Rattle.no_packet_loops.proofs.Common.{Router, World, opening, opening_router, Via, Patch, Runs, Some_injective, None_not_Some, run, run-Runs, Step, LinkUp, Deliver, Publish, Release}
 use Rattle.no_packet_loops.proofs.Example.{pair, pair_good}
-use Rattle.fabric.specs.Ahead.{SomePacketGoesAhead}
-use Rattle.fabric.specs.Fabric.{Fabric, fabric_of}
+use Rattle.fabric.specs.{Ahead.SomePacketGoesAhead, Fabric.Fabric, Fabric.fabric_of, Writers.IsPending, Writers.LentAreDue}
 use Rattle.course.specs.Images.{images_in_force}
-use Rattle.fabric.specs.Writers.{IsPending, LentAreDue}
 
 -- the link comes up, both routers hear of that, router 0 publishes and tells router 1 of its prefix, and router 1 takes that
 abbrev steps : List Step

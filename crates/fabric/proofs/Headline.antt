@@ -3,8 +3,7 @@ use Rattle.std.proofs.Common.{refl, sym, ap, ◌∙◌, ◌≡◌, ℕ, Bool, tr
 use Rattle.no_packet_loops.proofs.Common.{option_map_or, slice_get-map, Prefix, longest_match, Entry, entry_leads, Router, router_publishing, IsNetwork, image_answer, None_not_Some}
 use Rattle.no_packet_loops.specs.Packets.{mixture_rows}
 use Rattle.all_packets.specs.Packets.{mixture_hop, IsMovingWay, MayGoOn}
-use Rattle.all_packets.proofs.Improving.{way_by}
-use Rattle.all_packets.proofs.Ways.{always_no_moving_circles}
+use Rattle.all_packets.proofs.{Improving.way_by, Ways.always_no_moving_circles}
 use Rattle.course.specs.Images.{image_in_force}
 use Rattle.fabric.specs.Fabric.{Fabric, is_lent, IsFabric}
 use Rattle.fabric.specs.Headline.{image_row, image_hop, GoesByImage, IsMovingImageWay, NeverMeetsTwice}

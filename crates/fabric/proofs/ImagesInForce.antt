@@ -1,11 +1,9 @@
 -- The images that writers show are those in force.
 use Rattle.std.proofs.Common.{refl, sym, ap, subst, ◌∙◌, ◌≡◌, ℕ, List, length, Option, Some, None, IfSome, slice_get, option_map}
 use Rattle.no_packet_loops.proofs.Common.{slice_get-map, Prefix, Entry, Router, World, Image, answer_of, None_not_Some, Some_injective}
-use Rattle.publication.specs.declared.known.Known.{Known}
-use Rattle.publication.specs.Lists.{Writing, generation_of, image_of}
+use Rattle.publication.specs.{declared.known.Known.Known, Lists.Writing, Lists.generation_of, Lists.image_of}
 use Rattle.course.specs.Images.{image_in_force, images_in_force}
-use Rattle.fabric.specs.Images.{answer_at}
-use Rattle.fabric.specs.Writers.{shown_images}
+use Rattle.fabric.specs.{Images.answer_at, Writers.shown_images}
 
 module _ (openings : List (List (Prefix × Entry))) (w : World) (writers : List Writing) (shown : shown_images openings writers ≡ images_in_force w) (i : ℕ) (x : Writing) (there : slice_get writers i ≡ Some x) where
   -- a writer's router is there, and has the writer's image in force

@@ -7,8 +7,7 @@ use Rattle.fabric.specs.Desks.{all_lent, desk_in, writings}
 use Rattle.fabric.specs.Fabric.{count_lent, fabric_of, opening_fabric, IsFabric}
 use Rattle.course.specs.Images.{chosen_image, images_in_force}
 use Rattle.fabric.specs.Writers.{ArePending, AreReaders, AreWriters, IsPending, IsReaderPort, opening_tables, shown_images}
-use Rattle.fabric.proofs.Fabrics.{kept_at_opening}
-use Rattle.fabric.proofs.WritersOut.{count-none, none_lent}
+use Rattle.fabric.proofs.{Fabrics.kept_at_opening, WritersOut.count-none, WritersOut.none_lent}
 use Rattle.publication.proofs.Places.{each_there}
 
 -- ---- lists

@@ -1,23 +1,15 @@
 -- A publication: what its patch is for the router's writer, and what is left where it is refused.
 use Rattle.std.proofs.Common.{inl, inr, refl, sym, ap, subst, ◌∙◌, append_assoc, ◌≡◌, ◌⊎◌, ◌<◌, ◌+◌, ◌||◌, ℕ, Bool, true, false, cond, List, [], ◌∷◌, ◌++◌, map, length, set, Option, Some, None, IsSome, get_or, slice_get, option_and_then, append-nil}
 use Rattle.no_packet_loops.proofs.Common.{list_any, option_map_or, length-map, map-set, list_any-append, get_or_from_slice_get, slice_get-get_or, map-set_same, Prefix, prefix_cmp, prefix_eq, Entry, Network, Router, World, opening, IsNetwork, chosen_rows, is_due, next, router_publishing, Runs, Image, Patch, None_not_Some, Some_injective, find as row_of, Step}
-use Rattle.no_packet_loops.proofs.WorldLaws.{next-shape}
-use Rattle.no_packet_loops.proofs.Wiring.{wired}
-use Rattle.no_packet_loops.proofs.Runs.{reached}
-use Rattle.image_patch.specs.declared.Patch.{Patch as PatchFields}
-use Rattle.image_patch.specs.Patches.{patched}
+use Rattle.no_packet_loops.proofs.{WorldLaws.next-shape, Wiring.wired, Runs.reached}
+use Rattle.image_patch.specs.{declared.Patch.Patch as PatchFields, Patches.patched}
 use Rattle.publication.specs.declared.known.Known.{Known}
 use Rattle.publication.specs.Lists.{Covers, Writing, generation_of, image_of, is_named, patch_of, patched_prefixes}
-use Rattle.publication.proofs.RowsAgain.{has_row}
-use Rattle.fabric.specs.Fabric.{fabric_of, IsFabric}
+use Rattle.publication.proofs.{RowsAgain.has_row, Places.each_set, Places.each_there}
+use Rattle.fabric.specs.{Fabric.fabric_of, Fabric.IsFabric, Patches.IsPatchDue, Patches.rows_to_set}
 use Rattle.course.specs.Images.{due_at, image_in_force, images_in_force}
-use Rattle.fabric.specs.Patches.{IsPatchDue, rows_to_set}
 use Rattle.fabric.specs.Writers.{AreHeard, AreReaders, AreWriters, IsHeard, shown_images, waiting_at}
-use Rattle.fabric.proofs.Fabrics.{image_at}
-use Rattle.publication.proofs.Places.{each_set, each_there}
-use Rattle.fabric.proofs.HeardPrefixes.{chosen_heard, heard_chosen, heard_next}
-use Rattle.fabric.proofs.NamedRows.{named_chosen, waiting_named}
-use Rattle.fabric.proofs.ImagesInForce.{router_of}
+use Rattle.fabric.proofs.{Fabrics.image_at, HeardPrefixes.chosen_heard, HeardPrefixes.heard_chosen, HeardPrefixes.heard_next, NamedRows.named_chosen, NamedRows.waiting_named, ImagesInForce.router_of}
 
 -- ---- writers and readers after a step
 

@@ -1,7 +1,6 @@
 -- Readers that are taken from the lists of their routers.
 use Rattle.std.proofs.Common.{inl, inr, sym, subst, arith, length-append, ◌≡◌, ◌⊎◌, ◌≤◌, ◌<◌, ◌+◌, ℕ, zero, suc, List, [], ◌∷◌, ◌++◌, length, set, Some, All, slice_get}
-use Rattle.publication.specs.declared.known.Known.{Known}
-use Rattle.publication.specs.Lists.{no_patches}
+use Rattle.publication.specs.{declared.known.Known.Known, Lists.no_patches}
 use Rattle.publication.proofs.Places.{at_set, each_there, there_each}
 use Rattle.fabric.specs.Writers.{HaveReaders}
 

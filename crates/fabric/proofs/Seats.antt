@@ -1,22 +1,17 @@
 -- Writers at their desks: one that is in publishes, goes out with the patch that is due, or comes back.
 use Rattle.std.proofs.Common.{inr, refl, sym, ap, subst, ◌∙◌, arith, ◌≡◌, ◌<◌, ◌+◌, ◌||◌, ℕ, suc, Bool, true, false, cond, List, [], ◌∷◌, ◌++◌, length, set, Option, Some, None, IfSome, is_some, get_or, slice_get, option_map, option_and_then, true≢false}
 use Rattle.no_packet_loops.proofs.Common.{option_map_or, false≢true, length-map, map-set, get_or_from_slice_get, slice_get-get_or, slice_get-map, slice_get_within, or-true, map-set_same, Prefix, Entry, Network, Router, World, IsNetwork, most_steps, Lawful, is_due, next, router_publishing, Patch, None_not_Some, Some_injective, Step, Publish}
-use Rattle.image_patch.specs.declared.Patch.{Patch as PatchFields}
-use Rattle.image_patch.specs.Patches.{patched}
-use Rattle.publication.specs.declared.known.Known.{Known}
+use Rattle.image_patch.specs.{declared.Patch.Patch as PatchFields, Patches.patched}
+use Rattle.publication.specs.{declared.known.Known.Known, Outings.HasPublished, Outings.IsOuting, Outings.Outing}
 use Rattle.publication.specs.Lists.{Writing, image_of, is_named, patch_of, patched_prefixes}
-use Rattle.publication.specs.Outings.{HasPublished, IsOuting, Outing}
-use Rattle.publication.proofs.Outings.{named-more}
-use Rattle.publication.proofs.Places.{each_set, each_there}
-use Rattle.publication.proofs.Tables.{image-covered}
+use Rattle.publication.proofs.{Outings.named-more, Places.each_set, Places.each_there, Tables.image-covered}
 use Rattle.fabric.specs.Desks.{Desk, all_lent, desk_in, desk_out, writings}
 use Rattle.fabric.specs.Fabric.{after_step, awaits_writer, count_lent, fabric_of, lent_at, with_lent, IsFabric}
 use Rattle.course.specs.Images.{due_at, image_in_force, images_in_force}
 use Rattle.fabric.specs.Patches.{IsPatchDue}
 use Rattle.fabric.specs.Writers.{AreHeard, ArePending, AreWriters, IsPending, shown_images, waiting_at, fabric_seen}
 use Rattle.course.proofs.Images.{due_of}
-use Rattle.fabric.proofs.Fabrics.{images_due, kept_lent}
-use Rattle.fabric.proofs.ImagesInForce.{router_of}
+use Rattle.fabric.proofs.{Fabrics.images_due, Fabrics.kept_lent, ImagesInForce.router_of}
 use Rattle.fabric.proofs.WritersOut.{all_pending_next, count-set, lent_none, lent_there, one}
 use Rattle.fabric.proofs.Publications.{IsDue, is_due_by, makes, number_is, still_heard, unseen_shown, writer_within, writers_set}
 

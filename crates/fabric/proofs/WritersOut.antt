@@ -4,10 +4,9 @@ use Rattle.no_packet_loops.proofs.Common.{⊤, option_map_or, false≢true, slic
 use Rattle.image_patch.specs.Patches.{patched}
 use Rattle.publication.specs.Lists.{Writing}
 use Rattle.publication.proofs.Places.{each_there, there_each}
-use Rattle.fabric.specs.Desks.{Desk, all_lent, desk_in}
+use Rattle.fabric.specs.{Desks.Desk, Desks.all_lent, Desks.desk_in, Writers.ArePending, Writers.IsPending}
 use Rattle.fabric.specs.Fabric.{Fabric, awaits_lent, awaits_writer, count_lent, is_lent, lent_at}
 use Rattle.course.specs.Images.{image_in_force}
-use Rattle.fabric.specs.Writers.{ArePending, IsPending}
 
 -- ---- how many are out
 

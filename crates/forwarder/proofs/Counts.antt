@@ -1,14 +1,9 @@
 -- How many replies have a number, and how many are to a job.
 use Rattle.std.proofs.Common.{◌≡◌, ◌≢◌, ℕ, zero, suc, ◌+◌, ◌<◌, ◌≤◌, Bool, true, false, cond, ◌==◌, ◌||◌, ◌&&◌, List, [], ◌∷◌, ◌++◌, length, map, slice_index, slice_index_or, All, IsPermutation, count_by, if◌then◌else◌, Option, Some, None, refl, append_assoc, add-one, arith, append-nil, eqb-true, eq-eqb}
-use Rattle.std.specs.List.{list_any, list_all}
-use Rattle.std.specs.List.Sorted.{IsNonDecreasingBy, IsStrictlyIncreasing}
-use Rattle.std.proofs.lemmas.Bool.{or_parts}
-use Rattle.std.proofs.lemmas.List.Sums.{sum_by-cons, sum_by_push, AllPass-from_list_all}
-use Rattle.std.proofs.lemmas.List.Sorted.{sum_by-IsPermutation, All-permutation}
+use Rattle.std.specs.{List.list_any, List.list_all, List.Sorted.IsNonDecreasingBy, List.Sorted.IsStrictlyIncreasing}
+use Rattle.std.proofs.{lemmas.Bool.or_parts, lemmas.List.Sums.sum_by-cons, lemmas.List.Sums.sum_by_push, lemmas.List.Sums.AllPass-from_list_all, lemmas.List.Sorted.sum_by-IsPermutation, lemmas.List.Sorted.All-permutation}
 use Rattle.publication.specs.declared.job.Job.{Job}
-use Rattle.forwarder.specs.Replies.{Replied}
-use Rattle.forwarder.specs.declared.gathering.GatherFault.{GatherFault}
-use Rattle.forwarder.specs.declared.gathering.GatherFault.TheVariants.{Stranger, Doubled}
+use Rattle.forwarder.specs.{Replies.Replied, declared.gathering.GatherFault.GatherFault, declared.gathering.GatherFault.TheVariants.Stranger, declared.gathering.GatherFault.TheVariants.Doubled}
 use Rattle.forwarder.specs.Gathering.{is_reply_to, job_number, fault_at, earlier_fault, fault_in}
 
 abbrev bit : Bool → ℕ

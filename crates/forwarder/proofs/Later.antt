@@ -2,10 +2,8 @@
 use Rattle.std.proofs.Common.{inl, inr, sym, subst, ◌∙◌, length-set, ◌≡◌, ◌⊎◌, ◌<◌, ℕ, List, set, Some, length, get_or, slice_get}
 use Rattle.std.proofs.lemmas.Option.{slice_get-get_or, slice_get_within}
 use Rattle.network_model.proofs.ListLaws.{Some_injective}
-use Rattle.publication.specs.declared.known.Known.{Known}
-use Rattle.publication.specs.Lists.{Begins}
-use Rattle.publication.proofs.Beginnings.{begins_self, begins_trans}
-use Rattle.publication.proofs.Places.{at_set}
+use Rattle.publication.specs.{declared.known.Known.Known, Lists.Begins}
+use Rattle.publication.proofs.{Beginnings.begins_self, Beginnings.begins_trans, Places.at_set}
 use Rattle.forwarder.specs.Ports.{AreLater}
 
 pub later_set : (views : List Known) (i : ℕ) (v w : Known) → slice_get views i ≡ Some v → Begins v w → AreLater views (set views i w)

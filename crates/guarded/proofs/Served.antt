@@ -1,9 +1,7 @@
 -- What a fabric under a lock can have become: nothing at first, then step after step; and what the sum of its journal tells.
 use Rattle.std.proofs.Common.{inl, inr, refl, sym, ap, subst, ◌∙◌, ◌≡◌, ◌≢◌, ◌⊎◌, ℕ, ◌+◌, ◌≤◌, Bool, true, false, not, find, map, if◌then◌else◌, List, [], ◌∷◌, ◌++◌, Option, Some, None, nat_lt, ltb-false, is_none, is_some, length, slice_get, option_and_then, Result, Ok, Err, append_assoc, append-nil}
 use Rattle.network_model.proofs.Common.{option_map_or, false≢true, most_steps, first_cause, is_lawful, next_step, Lawful_to_refusal, None_not_Some, Some_injective, option_map_or-ind, slice_get-changed_at_other, routers-changed_link, range_with_len, Router, World, degree_of, Patch, Lawful, next, refusal, is_due, ripe_front, changed_link, with_cost, with_delivered, with_front_taken, with_message, with_noticed, with_released, front_at, notice_at, release_at, router_accepting, router_at_home, router_publishing, router_releasing, Runs, Fits}
-use Rattle.network_model.specs.declared.step.Refusal.{Refusal}
-use Rattle.network_model.specs.declared.step.Refusal.TheVariants.{UnknownRouter, NothingDue, NothingRipe}
-use Rattle.network_model.specs.declared.step.Step.{Step}
+use Rattle.network_model.specs.{declared.step.Refusal.Refusal, declared.step.Refusal.TheVariants.UnknownRouter, declared.step.Refusal.TheVariants.NothingDue, declared.step.Refusal.TheVariants.NothingRipe, declared.step.Step.Step}
 use Rattle.network_model.specs.declared.step.Step.TheVariants.{SetCost, Deliver, Publish, Release}
 use Rattle.world.specs.Steps.{CanBeRefused, IsDoneOr}
 use Rattle.fabric.specs.Fabric.{next_fabric_step as next_turn, Fabric, after_step, awaits_writer, count_lent, fabric_refusal, is_lent, lent_at, with_lent}

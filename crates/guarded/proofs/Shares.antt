@@ -2,15 +2,12 @@
 use Rattle.std.specs.Prelude.{◌≡◌, ℕ, suc, ◌+◌, ◌<◌, ◌⊎◌, None, Ok, MatchResult, IfSome, Bool, List, [], ◌∷◌, ◌++◌, length, sum_by, get_or, if◌then◌else◌, ◌==◌, Option, Some, Result, Err, ⊤}
 use Rattle.std.proofs.Common.{refl, sym, ap, subst, ◌∙◌, arith, inl, inr}
 use Rattle.std.proofs.lemmas.List.Sums.{sum_by-cons}
-use Rattle.network_model.specs.declared.step.Step.{Step}
-use Rattle.network_model.specs.declared.step.Refusal.{Refusal}
+use Rattle.network_model.specs.{declared.step.Step.Step, declared.step.Refusal.Refusal, declared.step.Step.TheVariants.Publish}
 use Rattle.publication.specs.Lists.{EachAt}
 use Rattle.publication.proofs.Places.{each-push}
-use Rattle.network_model.specs.declared.step.Step.TheVariants.{Publish}
 use Rattle.world.specs.Steps.{CanBeRefused}
 use Rattle.fabric.specs.Fabric.{Fabric, fabric_refusal, next_fabric_step}
-use Rattle.guarded.specs.declared.share.Share.{Share}
-use Rattle.guarded.specs.Served.{IsFound, IsTurn, IsTurnRefused}
+use Rattle.guarded.specs.{declared.share.Share.Share, Served.IsFound, Served.IsTurn, Served.IsTurnRefused}
 use Rattle.guarded.specs.Shares.{AreNew, HaveServed, KeptTickets, OweAsBefore, owes}
 
 pub new_more : {N : Type 0} (sum : ℕ) (ss ts : List (Share N)) (s : Share N) (n : ℕ) → AreNew sum ss → ts ≡ ss ++ s ∷ [] → length ss ≡ n → s.number ≡ n → s.sum ≡ (if n == 0 then sum else 0) → owes s ≡ 0 → AreNew sum ts

@@ -1,9 +1,7 @@
 -- Writers that are out: how their number changes, and when they are the same as before.
 use Rattle.std.proofs.Common.{refl, sym, ap, subst, ◌∙◌, arith, ◌≡◌, ℕ, zero, suc, ◌+◌, ◌≤◌, ◌⊎◌, Bool, true, false, List, [], ◌∷◌, set, Option, Some, None, Result, Ok, Err, is_some, inl, inr}
 use Rattle.network_model.proofs.Common.{false≢true, None_not_Some, Patch}
-use Rattle.network_model.specs.declared.step.Refusal.{Refusal}
-use Rattle.network_model.specs.declared.step.Step.{Step}
-use Rattle.network_model.specs.declared.step.Step.TheVariants.{Publish}
+use Rattle.network_model.specs.{declared.step.Refusal.Refusal, declared.step.Step.Step, declared.step.Step.TheVariants.Publish}
 use Rattle.world.specs.Steps.{CanBeRefused}
 use Rattle.fabric.specs.Fabric.{Fabric, count_lent, fabric_refusal, is_lent, lent_at, next_fabric_step as next_turn}
 use Rattle.guarded.specs.Served.{AreBack, CanFailOutside, HasSameOut, IsServed}

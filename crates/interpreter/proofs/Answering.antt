@@ -1,9 +1,7 @@
 -- What a router answers, told by an image in force.
 use Rattle.std.proofs.Common.{◌≡◌, ◌∙◌, ℕ, Bool, true, false, Option, Some, None, length, option_map, slice_get, nat_lt, if◌then◌else◌, refl, sym, ap, ltb-true, arith}
 use Rattle.std.proofs.lemmas.Option.{slice_get_within}
-use Rattle.network_model.specs.declared.route.Answer.{Answer}
-use Rattle.network_model.specs.declared.step.Refusal.TheVariants.{UnknownRouter}
-use Rattle.network_model.specs.Publication.{Image, answer_of}
+use Rattle.network_model.specs.{declared.route.Answer.Answer, declared.step.Refusal.TheVariants.UnknownRouter, Publication.Image, Publication.answer_of}
 use Rattle.network_model.proofs.ListLaws.{None_not_Some, Some_injective, element_there}
 use Rattle.simulation.specs.Simulation.{Simulation, ForwardsAsPublished, answer_at as answer_there}
 use Rattle.lines.specs.Report.{unknown_router}

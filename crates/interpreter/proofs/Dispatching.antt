@@ -2,11 +2,9 @@
 use Rattle.std.proofs.Common.{◌≡◌, List, [], Option, Some, ap, inl, inr}
 use Rattle.std.specs.Option.{option_map_or}
 use Rattle.faults.specs.declared.kind.FaultKind.{FaultKind}
-use Rattle.network_model.specs.declared.step.Refusal.{Refusal}
-use Rattle.worker_pool.specs.declared.fault.PoolFault.{PoolFault}
-use Rattle.network_model.specs.Kinds.{refusal_kind}
+use Rattle.network_model.specs.{declared.step.Refusal.Refusal, Kinds.refusal_kind}
+use Rattle.worker_pool.specs.{declared.fault.PoolFault.PoolFault, Faults.IsBeginFault, Faults.IsInjectFault, Faults.pool_kind}
 use Rattle.world.specs.Steps.{CanBeRefused}
-use Rattle.worker_pool.specs.Faults.{IsBeginFault, IsInjectFault, pool_kind}
 use Rattle.interpreter.specs.Dispatching.{CannotInject, CannotWork}
 
 -- what waits with workers who are there

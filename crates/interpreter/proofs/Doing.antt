@@ -1,15 +1,13 @@
 -- Commands done one after another.
 use Rattle.std.specs.Prelude.{⊤}
 use Rattle.faults.specs.declared.kind.FaultKind.{FaultKind}
-use Rattle.network_model.specs.declared.step.Refusal.{Refusal}
-use Rattle.network_model.specs.Kinds.{refusal_kind}
+use Rattle.network_model.specs.{declared.step.Refusal.Refusal, Kinds.refusal_kind}
 use Rattle.std.proofs.Common.{◌≡◌, List, [], ◌∷◌, ◌++◌, Option, Result, Ok, Err, IsOk, IfErr, OnErr, MatchResult, refl, sym, subst, true≢false}
 use Rattle.world.specs.Steps.{CanBeRefused, IsDoneOr}
 use Rattle.course.proofs.Courses.{refused_as}
 use Rattle.script.specs.declared.command.Command.{Command}
 use Rattle.plans.specs.Faults.{OfRefusal}
-use Rattle.interpreter.specs.Commands.{IsDone, AreDone}
-use Rattle.interpreter.specs.Nets.{Meaning}
+use Rattle.interpreter.specs.{Commands.IsDone, Commands.AreDone, Nets.Meaning}
 
 module _ {S : Type 0} (k : Meaning S) where
   pub one_done : (cs : List Command) (c : Command) (f g h : S) → AreDone k cs f g → IsDone k c g h → AreDone k (cs ++ c ∷ []) f h

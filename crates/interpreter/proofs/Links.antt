@@ -2,9 +2,7 @@
 use Rattle.std.proofs.Common.{refl, ◌≡◌, ◌≢◌, ◌⊎◌, inl, inr, ◌∙◌, ℕ, zero, suc, ◌<◌, Bool, true, false, ◌&&◌, ◌||◌, nat_eq, List, [], ◌∷◌, slice_get, ap, arith}
 use Rattle.std.specs.Option.{option_map_or}
 use Rattle.std.proofs.lemmas.Bool.{cases_eq}
-use Rattle.network_model.specs.Machine.{changed_at}
-use Rattle.network_model.specs.World.{Link, World}
-use Rattle.network_model.specs.Step.{link_come_up, link_gone_down, next}
+use Rattle.network_model.specs.{Machine.changed_at, World.Link, World.World, Step.link_come_up, Step.link_gone_down, Step.next}
 use Rattle.network_model.proofs.ListLaws.{slice_get-changed_at_other}
 use Rattle.interpreter.specs.Commands.{ArePut, IsPutWhere, is_amiss, is_amiss_at, put}
 use Rattle.interpreter.specs.Nets.{Meaning}

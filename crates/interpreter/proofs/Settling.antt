@@ -1,14 +1,11 @@
 -- How a network stops that is let settle.
 use Rattle.std.specs.Prelude.{⊤}
 use Rattle.network_model.proofs.Common.{false≢true, None_not_Some, is_settled}
-use Rattle.network_model.specs.declared.step.Refusal.{Refusal}
-use Rattle.network_model.specs.declared.step.Refusal.TheVariants.{JournalFull, NoMemory}
-use Rattle.network_model.specs.declared.step.Step.{Step}
+use Rattle.network_model.specs.{declared.step.Refusal.Refusal, declared.step.Refusal.TheVariants.JournalFull, declared.step.Refusal.TheVariants.NoMemory, declared.step.Step.Step}
 use Rattle.std.proofs.Common.{◌≡◌, ◌⊎◌, inr, true, Option, Some, None, MatchOption, Result, Ok, Err, IfErr, ◌∙◌, ◌+◌, ℕ, inl, List, [], ◌∷◌, length, refl, ap, sym, false, arith}
 use Rattle.fabric.specs.Fabric.{Fabric}
 use Rattle.guarded.specs.Served.{IsServed, IsTurnRefused, none_asked, IsFabricStopped}
-use Rattle.simulation.specs.Simulation.{Simulation, after_step, after_steps}
-use Rattle.simulation.specs.Settling.{HasTurned}
+use Rattle.simulation.specs.{Simulation.Simulation, Simulation.after_step, Simulation.after_steps, Settling.HasTurned}
 use Rattle.interpreter.specs.Settling.{StopsSettling, StopsThere}
 
 counted : (s : Simulation) (xs : List Step) → (after_steps s xs).steps ≡ s.steps + length xs

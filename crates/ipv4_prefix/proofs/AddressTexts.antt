@@ -1,12 +1,8 @@
 -- Each address has one text, and each text spells at most one address.
 use Rattle.std.proofs.Common.{◌≡◌, ℕ, ◌+◌, ◌*◌, ◌/◌, ◌%◌, ◌^◌, ◌<◌, List, [], ◌∷◌, refl, sym, ap, subst, ◌∙◌, arith, lit≤}
-use Rattle.std.specs.Int.{w32, from_be_bytes}
-use Rattle.std.specs.Net.Grammar.{IsDotted}
-use Rattle.std.specs.Net.Text.{ipv4_text}
-use Rattle.std.proofs.NetLemmas.Ipv4.{read_ipv4_complete}
-use Rattle.std.proofs.NetLemmas.Options.{same_parts}
-use Rattle.ipv4_prefix.specs.Texts.{address_text}
-use Rattle.ipv4_prefix.specs.Faults.{SpellsAddress}
+use Rattle.std.specs.{Int.w32, Int.from_be_bytes, Net.Grammar.IsDotted, Net.Text.ipv4_text}
+use Rattle.std.proofs.{NetLemmas.Ipv4.read_ipv4_complete, NetLemmas.Options.same_parts}
+use Rattle.ipv4_prefix.specs.{Texts.address_text, Faults.SpellsAddress}
 
 -- the four octets of an address, the highest first
 abbrev pub octets_of : ℕ → List ℕ

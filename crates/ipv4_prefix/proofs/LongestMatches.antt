@@ -1,10 +1,8 @@
 -- `longest_match` gives a longest match, none only where no row covers, and where the rows have distinct prefixes it gives the only one.
 use Rattle.std.proofs.Common.{refl, sym, ap, subst, ◌∙◌, arith, inl, inr, eqb-true, ◌≡◌, ◌⊎◌, ℕ, zero, suc, ◌-◌, ◌/◌, ◌%◌, ◌^◌, ◌<◌, ◌≤◌, Bool, true, false, cond, nat_lt, List, [], ◌∷◌, length, Option, Some, None, Contains}
 use Rattle.std.specs.List.{slice_index_or}
-use Rattle.std.proofs.Math.Nat.{div-add-mod}
+use Rattle.std.proofs.{Math.Nat.div-add-mod, lemmas.Option.same_Some, lemmas.Option.none-some, lemmas.List.Elements.All-contains, lemmas.List.Elements.at_from_Contains}
 use Rattle.std.proofs.lemmas.Bool.{true≢false, ltb-true, ltb-false, cases_order}
-use Rattle.std.proofs.lemmas.Option.{same_Some, none-some}
-use Rattle.std.proofs.lemmas.List.Elements.{All-contains, at_from_Contains}
 use Rattle.ipv4_prefix.specs.Prefix.{Prefix, IsPrefix, covers}
 use Rattle.ipv4_prefix.specs.LongestMatch.{longer_row, longest_match, IsLongestMatch, HasDistinctPrefixes, HasWritablePrefixes}
 

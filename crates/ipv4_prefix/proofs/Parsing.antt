@@ -2,9 +2,7 @@
 use Rattle.std.proofs.Common.{◌≡◌, ℕ, ◌-◌, ◌%◌, ◌^◌, ◌<◌, ◌≤◌, ◌↔◌, List, length, Result, Ok, Err, IfOk, IsOk, refl, sym, subst, inl, inr}
 use Rattle.std.specs.List.{position_or_len}
 use Rattle.std.proofs.lemmas.Bool.{cases_eq, false≢true}
-use Rattle.ipv4_prefix.specs.declared.fault.PrefixFault.{PrefixFault}
-use Rattle.ipv4_prefix.specs.declared.fault.PrefixFault.TheVariants.{BadAddress, BadLength, HostBits}
-use Rattle.ipv4_prefix.specs.Prefix.{Prefix, IsPrefix}
+use Rattle.ipv4_prefix.specs.{declared.fault.PrefixFault.PrefixFault, declared.fault.PrefixFault.TheVariants.BadAddress, declared.fault.PrefixFault.TheVariants.BadLength, declared.fault.PrefixFault.TheVariants.HostBits, Prefix.Prefix, Prefix.IsPrefix}
 use Rattle.ipv4_prefix.specs.Faults.{block, SetsHostBits, SpellsAddress, IsAddressText, SpellsLength, IsLengthText, SpellsPrefix, is_slash, address_part, length_part, IsFirstFault}
 use Rattle.ipv4_prefix.proofs.PrefixTexts.{Contains-slash, SpellsPrefix-parts, IsRightAnswer}
 

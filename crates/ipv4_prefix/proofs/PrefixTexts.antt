@@ -1,16 +1,10 @@
 -- Each prefix has one text. A text spells a prefix, or it has one first fault.
 use Rattle.std.proofs.Common.{◌≡◌, ℕ, zero, suc, ◌/◌, ◌%◌, ◌^◌, ◌<◌, Bool, true, false, List, ◌∷◌, ◌++◌, length, get_or, codes, decimal, Contains, Result, Ok, Err, refl, sym, ap, ◌∙◌, arith, append_assoc, eqb-true, eq-eqb, ne_eqb, length-append, IfOk, IfErr, true≢false}
 use Rattle.std.specs.List.{All, before_first, after_first, position_or_len}
-use Rattle.std.proofs.Math.Seq.{take-append_seam, drop-append-add, get_or-append_seam}
-use Rattle.std.proofs.lemmas.List.{get_or_append_left, get_or_default}
-use Rattle.std.proofs.lemmas.List.Elements.{All-append}
+use Rattle.std.proofs.{Math.Seq.take-append_seam, Math.Seq.drop-append-add, Math.Seq.get_or-append_seam, lemmas.List.get_or_append_left, lemmas.List.get_or_default, lemmas.List.Elements.All-append, lemmas.Fmt.decimal_is_IsNumeral, lemmas.Str.Parse.digit_at}
 use Rattle.std.proofs.lemmas.List.Sums.{position_or_len_is, fails_before_first, passes_at_first, split_at_first}
-use Rattle.std.proofs.lemmas.Fmt.{decimal_is_IsNumeral}
-use Rattle.std.proofs.lemmas.Str.Parse.{digit_at}
-use Rattle.ipv4_prefix.specs.declared.fault.PrefixFault.{PrefixFault}
+use Rattle.ipv4_prefix.specs.{declared.fault.PrefixFault.PrefixFault, Prefix.Prefix, Prefix.IsPrefix, Texts.address_text}
 use Rattle.ipv4_prefix.specs.declared.fault.PrefixFault.TheVariants.{NoSlash, BadAddress, BadLength, HostBits}
-use Rattle.ipv4_prefix.specs.Prefix.{Prefix, IsPrefix}
-use Rattle.ipv4_prefix.specs.Texts.{address_text}
 use Rattle.ipv4_prefix.specs.Faults.{block, SpellsAddress, SpellsLength, SpellsPrefix, slash, is_slash, address_part, length_part, IsFirstFault}
 use Rattle.ipv4_prefix.proofs.AddressTexts.{SpellsAddress_unique}
 use Rattle.texts.proofs.Numbers.{Spells_unique}

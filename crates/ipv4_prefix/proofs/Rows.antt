@@ -1,10 +1,7 @@
 -- The longest match and the texts at work.
 use Rattle.std.proofs.Common.{refl, ◌≡◌, ℕ, List, [], ◌∷◌, Some, None, map, option_map, codes}
 use Rattle.std.specs.Fmt.{digits}
-use Rattle.ipv4_prefix.specs.Prefix.{Prefix}
-use Rattle.ipv4_prefix.specs.Faults.{block}
-use Rattle.ipv4_prefix.specs.LongestMatch.{longest_match}
-use Rattle.ipv4_prefix.specs.Texts.{prefix_text}
+use Rattle.ipv4_prefix.specs.{Prefix.Prefix, Faults.block, LongestMatch.longest_match, Texts.prefix_text}
 
 -- 192.0.0.0/3, 192.0.0.0/4, 192.0.2.224/27, 192.0.2.240/28, 192.0.2.254/31 and 192.0.2.255/32, each with its length
 rows : List (Prefix × ℕ)

@@ -1,13 +1,8 @@
 -- Rows in the order of their keys.
 use Rattle.std.proofs.Common.{◌≡◌, Bool, false, refl, ℕ, zero, suc, ◌<◌, true, List, [], ◌∷◌, length, get_or, sym, ap, ◌∙◌, arith, T}
-use Rattle.std.specs.declared.cmp.Ordering.{Ordering}
-use Rattle.std.specs.declared.cmp.Ordering.TheVariants.{Less, Equal}
-use Rattle.std.specs.FinMap.{is_sorted}
-use Rattle.std.specs.FinMap.Entries.{below_all}
-use Rattle.std.proofs.lemmas.Bool.{and_parts}
-use Rattle.std.proofs.lemmas.Cmp.{tied_itself}
-use Rattle.ipv4_prefix.specs.Prefix.{Prefix, prefix_cmp}
-use Rattle.ipv4_prefix.specs.LongestMatch.{HasDistinctPrefixes}
+use Rattle.std.specs.{declared.cmp.Ordering.Ordering, declared.cmp.Ordering.TheVariants.Less, declared.cmp.Ordering.TheVariants.Equal, FinMap.is_sorted, FinMap.Entries.below_all}
+use Rattle.std.proofs.{lemmas.Bool.and_parts, lemmas.Cmp.tied_itself}
+use Rattle.ipv4_prefix.specs.{Prefix.Prefix, Prefix.prefix_cmp, LongestMatch.HasDistinctPrefixes}
 use Rattle.ipv4_prefix.proofs.PrefixOrder.{prefix_cmp_total, less_from_test}
 
 -- a key before all rows is before each

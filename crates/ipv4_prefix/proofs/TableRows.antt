@@ -1,16 +1,12 @@
 -- The rows of a table that is given by the entry of each prefix: they are in order, each prefix finds its entry among them, and no other rows in order do so.
 use Rattle.std.proofs.Common.{refl, sym, ap, subst, ◌∙◌, arith, inl, inr, ◌≡◌, ◌⊎◌, ℕ, zero, suc, ◌+◌, ◌-◌, ◌*◌, ◌/◌, ◌%◌, ◌^◌, ◌<◌, ◌≤◌, Bool, true, false, cond, ◌&&◌, ◌==◌, nat_lt, nat_le, T, List, [], Option, Some, None, get_or}
-use Rattle.std.specs.FinMap.{find as row_of, put, is_sorted}
-use Rattle.std.specs.FinMap.Entries.{is_sorted-put, find-put, same_entries}
+use Rattle.std.specs.{FinMap.find as row_of, FinMap.put, FinMap.is_sorted, FinMap.Entries.is_sorted-put, FinMap.Entries.find-put, FinMap.Entries.same_entries}
 use Rattle.std.proofs.lemmas.Bool.{cases_eq, and_parts, and_from, eqb-true, eq-eqb, ltb-true, lt-ltb, leb-true, le-leb, true≢false}
-use Rattle.std.proofs.lemmas.Option.{none-some}
-use Rattle.std.proofs.lemmas.List.Elements.{Contains-get_or}
+use Rattle.std.proofs.{lemmas.Option.none-some, lemmas.List.Elements.Contains-get_or}
 use Rattle.ipv4_prefix.specs.Prefix.{Prefix, IsPrefix, prefix_cmp, prefix_eq}
 use Rattle.ipv4_prefix.specs.LongestMatch.{longest_match, IsLongestIn, HasWritablePrefixes}
 use Rattle.ipv4_prefix.specs.Tables.{is_writable, numbered, with_entry, rows_below, table_rows}
-use Rattle.ipv4_prefix.proofs.PrefixOrder.{prefix_cmp_total, prefix_cmp-tied, prefix_eq-Decides}
-use Rattle.ipv4_prefix.proofs.SortedRows.{distinct_from_sorted, from_T}
-use Rattle.ipv4_prefix.proofs.Tables.{row_found, longest_in_rows}
+use Rattle.ipv4_prefix.proofs.{PrefixOrder.prefix_cmp_total, PrefixOrder.prefix_cmp-tied, PrefixOrder.prefix_eq-Decides, SortedRows.distinct_from_sorted, SortedRows.from_T, Tables.row_found, Tables.longest_in_rows}
 
 -- ---- prefixes that can be written
 

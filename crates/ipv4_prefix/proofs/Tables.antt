@@ -1,9 +1,7 @@
 -- Rows as a table: the entry of each prefix, and the longest match by those entries.
 use Rattle.std.proofs.Common.{refl, sym, ap, subst, ◌∙◌, arith, inl, inr, ◌≡◌, ℕ, Bool, true, false, cond, List, [], ◌∷◌, Option, Some, None, Contains}
 use Rattle.std.specs.FinMap.{find as row_of}
-use Rattle.std.proofs.lemmas.Bool.{cases_lt}
-use Rattle.std.proofs.lemmas.Option.{same_Some, none-some}
-use Rattle.std.proofs.lemmas.List.Elements.{All-contains}
+use Rattle.std.proofs.{lemmas.Bool.cases_lt, lemmas.Option.same_Some, lemmas.Option.none-some, lemmas.List.Elements.All-contains}
 use Rattle.ipv4_prefix.specs.Prefix.{Prefix, IsPrefix, prefix_cmp, prefix_eq}
 use Rattle.ipv4_prefix.specs.LongestMatch.{longest_match, IsLongestIn, HasDistinctPrefixes, HasWritablePrefixes}
 use Rattle.ipv4_prefix.proofs.PrefixOrder.{prefix_eq-Decides}

@@ -1,12 +1,9 @@
 -- The lines of a journal, read one after another.
 use Rattle.std.proofs.Common.{◌≡◌, ◌≢◌, ℕ, ◌+◌, List, [], ◌∷◌, ◌++◌, length, codes, decimal, arith, refl, sym, ap, subst, ◌∙◌, inl, inr, false, bytes_eq, append_assoc}
 use Rattle.script.proofs.Common.{decimal_injective, all_zipped_more, Prefix, SpellsPrefix, IsFirstFault, PrefixFault, IsFirstFault-spelled, LinkSpec, Step, LinkUp, LinkDown, SetCost, Deliver, Publish, Release, Attach, Detach, Text, IsCost, NamesTextAndNumber, NamesBadPrefix, AsksStep, AsksBadStep, AsksNoStep, AsksBadCost}
-use Rattle.script.specs.declared.fault.LineFault.{LineFault}
-use Rattle.script.specs.declared.fault.LineFault.TheVariants.{BadCost, Prefix as OfPrefix, BadCommand}
+use Rattle.script.specs.{declared.fault.LineFault.LineFault, declared.fault.LineFault.TheVariants.BadCost, declared.fault.LineFault.TheVariants.Prefix as OfPrefix, declared.fault.LineFault.TheVariants.BadCommand}
 use Rattle.script.proofs.StepTexts.{clash, parts_unique, text_unique}
-use Rattle.journal.specs.declared.read.Version.{Version}
-use Rattle.journal.specs.Steps.{SaysStep}
-use Rattle.journal.specs.Journal.{ending, HasSteps, IsBadAt}
+use Rattle.journal.specs.{declared.read.Version.Version, Steps.SaysStep, Journal.ending, Journal.HasSteps, Journal.IsBadAt}
 
 -- past one step more
 pub steps_more : (names : List Text) (links : List LinkSpec) (attachments : List (Prefix × ℕ × ℕ)) (text : Text) (version : Version) (steps new : List Step) (lines rest : List Text) (line : Text) (s : Step)

@@ -6,14 +6,9 @@ use Rattle.machine_laws.specs.Laws.{is_up_at, reported_at}
 use Rattle.loop_freedom.specs.Network.{Topology, IsEdgeWalk, next_hop_of}
 use Rattle.loop_freedom.proofs.Walks.{walk_map}
 use Rattle.least_cost.specs.Quiet.{LeadsHome, Follows, IsQuiet, IsHome, IsRouted, HasNoWayOut, IsOptimal, OptimalAtQuiet, walk_end, edges_cost}
-use Rattle.machine_laws.proofs.Distances.{distance_cases, least_below}
-use Rattle.machine_laws.proofs.Successors.{port_successor_is, port_successor_none, port_successor_home}
-use Rattle.machine_laws.proofs.Lists.{append_within, append_last}
-use Rattle.least_cost.proofs.Replay.{replay, cost_of}
-use Rattle.least_cost.proofs.Told.{last_held}
+use Rattle.machine_laws.proofs.{Distances.distance_cases, Distances.least_below, Successors.port_successor_is, Successors.port_successor_none, Successors.port_successor_home, Lists.append_within, Lists.append_last}
+use Rattle.least_cost.proofs.{Replay.replay, Replay.cost_of, Told.last_held, Runs.kept_run, Below.count_below, Below.below_at_most, Below.below_gains}
 use Rattle.least_cost.proofs.Kept.{pending, port_at, line, held, Kept}
-use Rattle.least_cost.proofs.Runs.{kept_run}
-use Rattle.least_cost.proofs.Below.{count_below, below_at_most, below_gains}
 
 -- the distance plus a cost is at most their sum
 plus_under : (a c : ℕ) → plus a c ≤ a + c

@@ -4,9 +4,8 @@ use Rattle.network_model.proofs.Common.{both_ways, infinity, LinkEnd, UpNotice, 
 use Rattle.loop_freedom.specs.Network.{Topology, LinkUp, LinkDown, SetCost, IsEnd, notices}
 use Rattle.loop_freedom.proofs.Ends.{place_cases, end_cases, end_far, end_near, end_valid, ends_agree}
 use Rattle.least_cost.proofs.Replay.{Fits, Alike, replay, port_after, replay_append, fits_append, notices_alike, notices_fit}
-use Rattle.least_cost.proofs.Told.{last_held, expected_past}
+use Rattle.least_cost.proofs.{Told.last_held, Told.expected_past, Releases.line_gains}
 use Rattle.least_cost.proofs.Kept.{LineKept, pending, line, held, AllRecent, recent_more, Sees, Kept, seen_past, line_same, sees_same, port_same, held_same, kept_links, ends_up_same, ends_session_same}
-use Rattle.least_cost.proofs.Releases.{line_gains}
 
 -- ---- the ends of a link
 

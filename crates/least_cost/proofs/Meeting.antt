@@ -4,9 +4,7 @@ use Rattle.network_model.proofs.Common.{cases_eq, Machine, reaction, LinkEnd, Se
 use Rattle.network_model.specs.declared.machine.Event.{Event}
 use Rattle.machine_laws.specs.Laws.{sent_to, is_up_at, Meets, IsSound}
 use Rattle.loop_freedom.specs.Network.{Topology, held_for}
-use Rattle.machine_laws.proofs.Sends.{EachSend}
-use Rattle.machine_laws.proofs.Sending.{sends_distance}
-use Rattle.machine_laws.proofs.Soundness.{stays_sound}
+use Rattle.machine_laws.proofs.{Sends.EachSend, Sending.sends_distance, Soundness.stays_sound}
 use Rattle.loop_freedom.proofs.Meeting.{Met}
 use Rattle.least_cost.proofs.Told.{last_held, last_sent, last_append, each_sent, expected, told_after, told_more}
 use Rattle.least_cost.proofs.Kept.{LineKept, pending, line, held, AllRecent, recent_append, recent_sent, Sees, Kept, current_up, seen_past, sees_same, ends_up_same, ends_session_same}

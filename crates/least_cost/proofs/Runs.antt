@@ -4,13 +4,8 @@ use Rattle.network_model.proofs.Common.{both_ways, cases_eq, LinkEnd, State}
 use Rattle.network_model.specs.declared.machine.Neighbour.{Neighbour}
 use Rattle.machine_laws.specs.Laws.{test_at, is_up_at}
 use Rattle.loop_freedom.specs.Network.{Topology, Publish, Skip, Step, Takes, TakesAtHome, Publishes, Releases, LinkComes, LinkGoes, CostChanges, Skips, Run, Start, Then, OpeningPorts, Opening}
-use Rattle.machine_laws.proofs.Distances.{AllSound}
-use Rattle.machine_laws.proofs.Opened.{opened_sound}
-use Rattle.least_cost.proofs.Kept.{held, Kept, kept_same}
-use Rattle.least_cost.proofs.Takes.{kept_take}
-use Rattle.least_cost.proofs.TakesAtHome.{kept_take_at_home}
-use Rattle.least_cost.proofs.Releases.{kept_release}
-use Rattle.least_cost.proofs.Links.{kept_up, kept_down, kept_cost}
+use Rattle.machine_laws.proofs.{Distances.AllSound, Opened.opened_sound}
+use Rattle.least_cost.proofs.{Kept.held, Kept.Kept, Kept.kept_same, Takes.kept_take, TakesAtHome.kept_take_at_home, Releases.kept_release, Links.kept_up, Links.kept_down, Links.kept_cost}
 
 -- a publication keeps the state
 kept_publish : (t : Topology) (old new : State) → Kept t old → Publish t old new → Kept t new

@@ -5,13 +5,9 @@ use Rattle.machine_laws.specs.Laws.{IsSound, is_active, is_up_at, awaits, owes_p
 use Rattle.machine_laws.proofs.MachineLaws.{machine_laws}
 use Rattle.loop_freedom.specs.Network.{Topology}
 use Rattle.loop_freedom.specs.Facts.{End, pipe, is_current, end_at}
-use Rattle.loop_freedom.proofs.Link.{EndInvariant, Answered}
-use Rattle.loop_freedom.proofs.Invariant.{Invariant}
-use Rattle.loop_freedom.proofs.Opened.{opening_keeps}
-use Rattle.loop_freedom.proofs.Walks.{run_keeps}
+use Rattle.loop_freedom.proofs.{Link.EndInvariant, Link.Answered, Invariant.Invariant, Opened.opening_keeps, Walks.run_keeps}
 use Rattle.least_cost.specs.Settled.{NothingOnTheWay, PassiveOnceSettled}
-use Rattle.least_cost.proofs.Kept.{Kept}
-use Rattle.least_cost.proofs.Runs.{kept_run}
+use Rattle.least_cost.proofs.{Kept.Kept, Runs.kept_run}
 
 -- where nothing is on the way between two ends, one that is awaited owes a reply
 pub owed : (x y : End) → Answered x y → pipe x ≡ [] → pipe y ≡ [] → x.awaits ≡ true → y.owes ≡ true

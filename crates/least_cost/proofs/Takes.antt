@@ -5,13 +5,10 @@ use Rattle.network_model.specs.declared.machine.Event.{Event}
 use Rattle.machine_laws.specs.Laws.{sent_to, is_up_at, Meets}
 use Rattle.loop_freedom.specs.Network.{Topology, Take, event_of, seen_after}
 use Rattle.machine_laws.proofs.Keeping.{keeps_records}
-use Rattle.loop_freedom.proofs.Ends.{place_cases}
-use Rattle.loop_freedom.proofs.Meeting.{met_item}
-use Rattle.loop_freedom.proofs.Ports.{ports_length}
+use Rattle.loop_freedom.proofs.{Ends.place_cases, Meeting.met_item, Ports.ports_length}
 use Rattle.least_cost.proofs.Replay.{Fits, replay, port_after, port_taken, port_other, meets_item, session_one}
-use Rattle.least_cost.proofs.Told.{last_sent, told_up}
+use Rattle.least_cost.proofs.{Told.last_sent, Told.told_up, Meeting.kept_met}
 use Rattle.least_cost.proofs.Kept.{LineKept, pending, port_at, line, Kept, place_same}
-use Rattle.least_cost.proofs.Meeting.{kept_met}
 
 -- an item that begins a session at a port has the machine tell its distance there
 comes_one : (m : Machine) (q seen : ℕ) (x : SeenItem) → seen < seen_after x seen → last_sent infinity (sent_to q (reaction m (event_of q x)).sends) ≡ (reaction m (event_of q x)).machine.rd

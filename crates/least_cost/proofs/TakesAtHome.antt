@@ -3,8 +3,7 @@ use Rattle.std.proofs.Common.{◌≡◌, ◌⊎◌, ℕ, true, refl, ap, sym, in
 use Rattle.network_model.proofs.Common.{cases_eq, event_at_home, LinkEnd, State}
 use Rattle.machine_laws.proofs.MachineLaws.{machine_laws}
 use Rattle.loop_freedom.specs.Network.{Topology, TakeAtHome}
-use Rattle.loop_freedom.proofs.Meeting.{met_notice}
-use Rattle.loop_freedom.proofs.TakingAtHome.{meets_home, ports_home}
+use Rattle.loop_freedom.proofs.{Meeting.met_notice, TakingAtHome.meets_home, TakingAtHome.ports_home}
 use Rattle.least_cost.proofs.Kept.{LineKept, pending, line, Kept}
 use Rattle.least_cost.proofs.Meeting.{kept_met}
 

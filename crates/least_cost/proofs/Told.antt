@@ -1,12 +1,10 @@
 -- What a neighbour was told last: the distance, once it has taken all that is sent to it.
 use Rattle.std.proofs.Common.{◌≡◌, ◌≢◌, ◌⊎◌, ℕ, zero, suc, ◌<◌, ◌≤◌, Bool, true, false, List, [], ◌∷◌, ◌++◌, Some, refl, ap, sym, inl, inr, arith, ◌∙◌, eqb-true, eq-eqb, ne_eqb, ◌==◌, if◌then◌else◌}
 use Rattle.network_model.proofs.Common.{cases_eq, none-some, Update, Machine, one_to, greeting, reaction, SeenHeld, infinity}
-use Rattle.network_model.specs.declared.machine.Event.{Event}
-use Rattle.network_model.specs.declared.machine.Outgoing.{Outgoing}
+use Rattle.network_model.specs.{declared.machine.Event.Event, declared.machine.Outgoing.Outgoing}
 use Rattle.machine_laws.specs.Laws.{sent_to, is_up_at, Meets, IsSound}
 use Rattle.loop_freedom.specs.Network.{held_for}
-use Rattle.machine_laws.proofs.Sends.{EachSend, eqb_same}
-use Rattle.machine_laws.proofs.Sending.{sends_distance, tells_all}
+use Rattle.machine_laws.proofs.{Sends.EachSend, Sends.eqb_same, Sending.sends_distance, Sending.tells_all}
 
 -- the last value that is sent, after v
 abbrev pub last_sent : ℕ → List Outgoing → ℕ

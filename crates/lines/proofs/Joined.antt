@@ -1,8 +1,7 @@
 -- Texts put together piece by piece, and the one of a format.
 use Rattle.std.proofs.Common.{◌≡◌, List, [], ◌∷◌, ◌++◌, refl, sym, ap, ◌∙◌, append_assoc, append-nil}
 use Rattle.texts.specs.Words.{Text}
-use Rattle.command_line.specs.declared.format.Format.{Format}
-use Rattle.command_line.specs.declared.format.Format.TheVariants.{Text as ForPeople, Json}
+use Rattle.command_line.specs.{declared.format.Format.Format, declared.format.Format.TheVariants.Text as ForPeople, declared.format.Format.TheVariants.Json}
 use Rattle.lines.specs.Formats.{in_format}
 
 -- a text, and pieces behind it, one after another

@@ -1,12 +1,9 @@
 -- Worked examples: lines for people and as objects of JSON.
 use Rattle.std.proofs.Common.{◌≡◌, true, false, [], ◌∷◌, Some, None, codes, refl}
 use Rattle.std.specs.Fmt.{digits}
-use Rattle.network_model.specs.declared.route.Entry.TheVariants.{Local, Via}
-use Rattle.network_model.specs.declared.trace.Ending.{Ending}
+use Rattle.network_model.specs.{declared.route.Entry.TheVariants.Local, declared.route.Entry.TheVariants.Via, declared.trace.Ending.Ending}
 use Rattle.script.specs.Directories.{Directory}
-use Rattle.lines.specs.Texts.{asked_text, trace_text}
-use Rattle.lines.specs.Objects.{asked_json, trace_json}
-use Rattle.lines.specs.declared.answers.Asked.TheVariants.{Lookup, Packet}
+use Rattle.lines.specs.{Texts.asked_text, Texts.trace_text, Objects.asked_json, Objects.trace_json, declared.answers.Asked.TheVariants.Lookup, declared.answers.Asked.TheVariants.Packet}
 
 -- a to b, b to c, a to c
 abbrev directory : Directory

@@ -1,12 +1,8 @@
 -- What a call on a link answers, by what its tests found.
 use Rattle.std.proofs.Common.{◌≡◌, ℕ, zero, suc, ◌<◌, Bool, List, [], ◌∷◌, arith, Result, Ok, Err, length, sym, subst, IfSome, MatchBool, OnOk, OnErr, IfNone, Option, Some, None, slice_get}
 use Rattle.std.specs.Option.{ok_or}
-use Rattle.network_model.specs.World.{Link}
-use Rattle.network_model.specs.Step.{is_up_in}
-use Rattle.link_fifo.specs.declared.refusal.LinkRefusal.{LinkRefusal}
-use Rattle.link_fifo.specs.declared.refusal.Put.{Put}
-use Rattle.link_fifo.specs.declared.refusal.Put.TheVariants.{Stale}
-use Rattle.link_fifo.specs.Refusals.{IsQueuedUnlessFull, AnswersPut}
+use Rattle.network_model.specs.{World.Link, Step.is_up_in}
+use Rattle.link_fifo.specs.{declared.refusal.LinkRefusal.LinkRefusal, declared.refusal.Put.Put, declared.refusal.Put.TheVariants.Stale, Refusals.IsQueuedUnlessFull, Refusals.AnswersPut}
 
 -- what holds anyway holds on Ok
 pub OnOk-always : {T E : Type 0} (r : Result T E) {P : Type 0} → P → OnOk r P

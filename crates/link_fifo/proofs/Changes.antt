@@ -2,14 +2,9 @@
 use Rattle.std.proofs.Common.{◌≡◌, ℕ, zero, suc, ◌<◌, Bool, false, List, [], ◌∷◌, map, Option, Some, None, Result, Ok, Err, length, get_or, set, refl, sym, ap, subst, ◌∙◌, arith, IfSome, slice_get, if◌then◌else◌}
 use Rattle.std.specs.Option.{ok_or}
 use Rattle.std.proofs.lemmas.Option.{slice_get_read}
-use Rattle.network_model.specs.declared.item.Item.{Item}
-use Rattle.network_model.specs.declared.item.Held.{Held}
-use Rattle.network_model.specs.declared.network.End.{End}
-use Rattle.network_model.specs.Machine.{changed_at}
-use Rattle.network_model.specs.World.{Link, other, side}
+use Rattle.network_model.specs.{declared.item.Item.Item, declared.item.Held.Held, declared.network.End.End, Machine.changed_at, World.Link, World.other, World.side}
 use Rattle.network_model.proofs.ListLaws.{changed_at-set}
-use Rattle.link_fifo.specs.declared.refusal.LinkRefusal.{LinkRefusal}
-use Rattle.link_fifo.specs.Refusals.{front_of}
+use Rattle.link_fifo.specs.{declared.refusal.LinkRefusal.LinkRefusal, Refusals.front_of}
 use Rattle.network_model.specs.Step.{with_message, with_item, changed_side, is_up_in}
 
 -- the element x of xs at place i, written back as f x, changes the list ys that xs is

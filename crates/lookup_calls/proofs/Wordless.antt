@@ -2,20 +2,16 @@
 use Rattle.std.proofs.Common.{ℕ, ◌≡◌, ◌∙◌, true, List, [], ◌∷◌, length, map, not, replicate, Option, None, Some, Result, Ok, Err, OnOk, OnErr, option_map, refl, ap, sym, subst}
 use Rattle.std.specs.FinMap.{put, is_sorted}
 use Rattle.ipv4_prefix.specs.Prefix.{Prefix, prefix_cmp, prefix_eq}
-use Rattle.network_model.specs.Publication.{Image, image_answer, with_rows}
-use Rattle.network_model.specs.declared.route.Entry.{Entry}
+use Rattle.network_model.specs.{Publication.Image, Publication.image_answer, Publication.with_rows, declared.route.Entry.Entry}
 use Rattle.network_model.proofs.RowLaws.{map-put, with_rows-sorted}
 use Rattle.array_bitmap.specs.Removal.{without_row}
-use Rattle.c_interface.specs.Rows.{row_entry, answer_row}
-use Rattle.c_interface.specs.declared.row.Row.{Row}
+use Rattle.c_interface.specs.{Rows.row_entry, Rows.answer_row, declared.row.Row.Row}
 use Rattle.row_words.specs.Rows.{WordTable, with_marked, without_marked, word_or_none}
 use Rattle.row_words.specs.declared.cells.Marked.{Marked}
 use Rattle.row_words.proofs.Marks.{longest_under, filter_under, sorted_with}
-use Rattle.lookup_calls.specs.Kept.{form_table}
+use Rattle.lookup_calls.specs.{Kept.form_table, declared.kept.Form.Form, declared.kept.Form.TheVariants.Plain, declared.kept.Form.TheVariants.Words}
 use Rattle.lookup_calls.specs.Rows.{answer_rows, answer_words, entry_answer, image_rows}
 use Rattle.lookup_calls.specs.Tables.{no_word, wordless, wordless_rows, wordless_table, plain_rows}
-use Rattle.lookup_calls.specs.declared.kept.Form.{Form}
-use Rattle.lookup_calls.specs.declared.kept.Form.TheVariants.{Plain, Words}
 
 -- rows of C without words are their entries without words
 pub plain_are : (rows : List Row) → wordless_rows (map row_entry rows) ≡ plain_rows rows

@@ -20,8 +20,7 @@ use denote.Steps.{owned}
 use denote.Struct.Laws.{RawPtr-plain, bool-plain, field_plain}
 use denote.Struct.Owning.{shape, to}
 use denote.Struct.Struct.{Struct, Struct-Makes}
-use Rattle.core.proofs.atomic.Steps.{Ptr-Good}
-use Rattle.core.proofs.cell.Inside.{Good}
+use Rattle.core.proofs.{atomic.Steps.Ptr-Good, cell.Inside.Good}
 use Rattle.std_alloc.proofs.ResultValues.{and_tt}
 use Rattle.std_heap.specs.contracts.Global as global
 use Rattle.std_heap.proofs.Global.TheLaws as global_laws

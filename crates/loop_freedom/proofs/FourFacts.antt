@@ -4,11 +4,7 @@ use Rattle.network_model.proofs.Common.{Reply, LinkEnd, State, one_if}
 use Rattle.machine_laws.proofs.MachineLaws.{machine_laws}
 use Rattle.loop_freedom.specs.Network.{HoldsInEveryState, Topology}
 use Rattle.loop_freedom.specs.Facts.{End, count, pipe, LinkFacts, HasFacts, end_at}
-use Rattle.loop_freedom.proofs.Lists.{one_if_at_most_one}
-use Rattle.loop_freedom.proofs.Link.{EndInvariant}
-use Rattle.loop_freedom.proofs.Invariant.{Invariant}
-use Rattle.loop_freedom.proofs.Opened.{opening_keeps}
-use Rattle.loop_freedom.proofs.Walks.{run_keeps}
+use Rattle.loop_freedom.proofs.{Lists.one_if_at_most_one, Link.EndInvariant, Invariant.Invariant, Opened.opening_keeps, Walks.run_keeps}
 
 -- where nothing is awaited, or there is a reply, there are as many replies as are awaited
 answer : (awaits : Bool) (replies : ℕ) → (awaits ≡ false) ⊎ (0 < replies) → one_if awaits ≤ replies

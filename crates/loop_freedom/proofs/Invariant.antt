@@ -4,9 +4,7 @@ use Rattle.network_model.proofs.Common.{both_ways, Machine, SeenHeld, SeenItem, 
 use Rattle.machine_laws.specs.Laws.{IsSound, is_up_at}
 use Rattle.loop_freedom.specs.Network.{Topology}
 use Rattle.loop_freedom.specs.Facts.{AtLeast, AtLeastFromLastQuery, End, pipe, messages, live, is_next_hop, end_of, end_at}
-use Rattle.loop_freedom.proofs.Lists.{at_least_left}
-use Rattle.loop_freedom.proofs.Link.{EndInvariant, Answered}
-use Rattle.loop_freedom.proofs.Notices.{IsLawfulInbox, IsLawfullyHeld}
+use Rattle.loop_freedom.proofs.{Lists.at_least_left, Link.EndInvariant, Link.Answered, Notices.IsLawfulInbox, Notices.IsLawfullyHeld}
 
 -- the items that an end has yet to take lead from what its router has seen to the link as it is
 abbrev pub IsLawfulAt : State → LinkEnd → Type 0

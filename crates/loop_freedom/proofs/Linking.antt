@@ -4,9 +4,8 @@ use Rattle.network_model.proofs.Common.{both_ways, and_left, and_right, false_fr
 use Rattle.machine_laws.specs.Laws.{is_up_at, awaits, owes_port}
 use Rattle.loop_freedom.specs.Network.{Topology, LinkUp, LinkDown, IsEnd}
 use Rattle.loop_freedom.proofs.Ends.{end_cases, end_far, end_near, end_valid, ends_agree}
-use Rattle.loop_freedom.proofs.Link.{EndInvariant, Answered}
+use Rattle.loop_freedom.proofs.{Link.EndInvariant, Link.Answered, OnTheWay.messages-append}
 use Rattle.loop_freedom.specs.Facts.{pipe, messages, live, is_current, is_next_hop, end_at}
-use Rattle.loop_freedom.proofs.OnTheWay.{messages-append}
 use Rattle.loop_freedom.proofs.Notices.{IsLawfulInbox, lawful_seen, lawful_up, lawful_down, lawful_empty, nothing_held_later, lawfully_held_later}
 use Rattle.loop_freedom.proofs.Invariant.{Invariant, IsLawfulAt, end_at_cong, end_invariant_same, answered_same, end_invariant_new}
 

@@ -1,17 +1,11 @@
 -- A router whose machine meets an event keeps the invariant, whether it took an item or a notice of its attachment.
 use Rattle.std.proofs.Common.{refl, sym, ◌∙◌, ap, subst, arith, append_assoc, inl, inr, ◌≡◌, ℕ, suc, ◌<◌, ◌≤◌, Bool, true, false, ◌==◌, if◌then◌else◌, List, [], ◌∷◌, ◌++◌, Option, Some, None, length, slice_get}
 use Rattle.network_model.proofs.Common.{cases_eq, Machine, reaction, event_at_home, Report, LinkEnd, State, infinity}
-use Rattle.network_model.specs.declared.machine.Event.{Event}
-use Rattle.network_model.specs.declared.machine.Outgoing.{Outgoing}
+use Rattle.network_model.specs.{declared.machine.Event.Event, declared.machine.Outgoing.Outgoing}
 use Rattle.machine_laws.specs.Laws.{IsSound, Meets, MachineLaws, is_up_at, sent_to}
 use Rattle.loop_freedom.specs.Network.{Topology, SameLinks, SameCosts, SamePublished, Take, TakeAtHome, event_of, held_for}
-use Rattle.loop_freedom.proofs.Lists.{front}
+use Rattle.loop_freedom.proofs.{Lists.front, Link.Answered, Link.EndStep, Link.EndInvariant, Notices.lawful_seen, Notices.IsLawfullyHeld, Notices.lawfully_held_append, Reacts.PortStep, Reacts.reacts, Reacts.rests, LinkSteps.LinkStep, LinkSteps.step_keeps, LinkSteps.step_answered, Invariant.Invariant, Invariant.IsLawfulAt, Invariant.end_cong}
 use Rattle.loop_freedom.specs.Facts.{End, messages, live, end_of, end_at}
-use Rattle.loop_freedom.proofs.Link.{Answered, EndStep, EndInvariant}
-use Rattle.loop_freedom.proofs.Notices.{lawful_seen, IsLawfullyHeld, lawfully_held_append}
-use Rattle.loop_freedom.proofs.Reacts.{PortStep, reacts, rests}
-use Rattle.loop_freedom.proofs.LinkSteps.{LinkStep, step_keeps, step_answered}
-use Rattle.loop_freedom.proofs.Invariant.{Invariant, IsLawfulAt, end_cong}
 
 -- router i's machine reacts to the event, and what it sends is held, unripe; nothing else changes but what its own ends see and have yet to take
 pub record Met (old new : State) (i : ℕ) (ev : Event) : Type 0 where

@@ -1,8 +1,7 @@
 -- The items towards a port: they lead from what its router has seen of the link to the link as it is.
 use Rattle.std.proofs.Common.{refl, arith, ◌≡◌, ℕ, suc, ◌<◌, ◌≤◌, Bool, true, false, List, [], ◌∷◌, ◌++◌, ne_eqb}
 use Rattle.network_model.proofs.Common.{false≢true, infinity, Report, SeenHeld, SeenItem, UpNotice, DownNotice, CostNotice, Reported}
-use Rattle.loop_freedom.specs.Network.{notices}
-use Rattle.loop_freedom.specs.Facts.{messages, live}
+use Rattle.loop_freedom.specs.{Network.notices, Facts.messages, Facts.live}
 
 -- the items lead from a port that is up or not (u), which saw session s, to a link that is up or not, in session n
 abbrev pub IsLawfulInbox : Bool → ℕ → Bool → ℕ → List SeenItem → Type 0

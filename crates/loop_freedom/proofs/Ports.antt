@@ -1,13 +1,10 @@
 -- What an item that is taken does to the ports of a machine: to the one where it is taken, and to the others.
 use Rattle.std.proofs.Common.{refl, sym, ◌∙◌, ap, subst, arith, ◌≡◌, ℕ, zero, suc, ◌+◌, ◌<◌, Bool, true, false, ◌&&◌, ◌==◌, List, [], ◌∷◌, Option, Some, None, length, slice_get, option_map, eq-eqb, ne_eqb}
 use Rattle.network_model.proofs.Common.{both_ways, and_from, and_left, false≢true, Kind, Reply, infinity, Machine, records_after, reaction, length-changed_at, slice_get-changed_at, slice_get-changed_at_other, Report, SeenItem, UpNotice, DownNotice, CostNotice, Reported, one_if}
-use Rattle.network_model.specs.declared.machine.Event.TheVariants.{Message}
-use Rattle.network_model.specs.declared.machine.Neighbour.{Neighbour}
+use Rattle.network_model.specs.{declared.machine.Event.TheVariants.Message, declared.machine.Neighbour.Neighbour}
 use Rattle.machine_laws.specs.Laws.{released, is_kind, is_up_at, reported_at, reported_by, test_at, is_message, is_down, Meets, MachineLaws}
-use Rattle.loop_freedom.specs.Network.{event_of, seen_after}
-use Rattle.loop_freedom.specs.Facts.{is_current}
-use Rattle.loop_freedom.proofs.Notices.{IsLawfulInbox, lawful_later}
-use Rattle.loop_freedom.proofs.Reacts.{PortStep}
+use Rattle.loop_freedom.specs.{Network.event_of, Network.seen_after, Facts.is_current}
+use Rattle.loop_freedom.proofs.{Notices.IsLawfulInbox, Notices.lawful_later, Reacts.PortStep}
 
 -- an item leaves the number of ports
 pub ports_length : (p : ℕ) (item : SeenItem) (ns : List Neighbour) → length (records_after (event_of p item) ns) ≡ length ns

@@ -2,8 +2,7 @@
 use Rattle.std.proofs.Common.{refl, sym, ◌∙◌, ap, subst, arith, ◌≡◌, ℕ, ◌≤◌, true, List, [], ◌++◌, append-nil}
 use Rattle.network_model.proofs.Common.{Query, Reply, Report, infinity}
 use Rattle.loop_freedom.specs.Facts.{count, AtLeast, AtLeastFromLastQuery, End, pipe}
-use Rattle.loop_freedom.proofs.Lists.{count-append, at_least_left}
-use Rattle.loop_freedom.proofs.Link.{EndInvariant, Answered}
+use Rattle.loop_freedom.proofs.{Lists.count-append, Lists.at_least_left, Link.EndInvariant, Link.Answered}
 
 -- the end once its router has put the row that it chose in force: what is on its way stays, and may be released or not. What the end
 -- keeps of the other may change where it is not in the session

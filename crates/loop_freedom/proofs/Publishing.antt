@@ -4,11 +4,9 @@ use Rattle.network_model.proofs.Common.{cases_eq, false≢true, and_parts, and-t
 use Rattle.machine_laws.specs.Laws.{is_up_at}
 use Rattle.machine_laws.proofs.Successors.{port_successor_from, is_port_successor}
 use Rattle.loop_freedom.specs.Network.{Topology, Publish, next_hop_of}
-use Rattle.loop_freedom.proofs.Link.{EndInvariant, Answered}
+use Rattle.loop_freedom.proofs.{Link.EndInvariant, Link.Answered, OnTheWay.live-append, Notices.lawful_seen, Notices.lawfully_held_append}
 use Rattle.loop_freedom.proofs.Published.{shown_as_chosen, shown_published, invariant_here, invariant_there, answered_here, answered_there}
 use Rattle.loop_freedom.specs.Facts.{messages, live, is_current, is_next_hop, end_of, end_at}
-use Rattle.loop_freedom.proofs.OnTheWay.{live-append}
-use Rattle.loop_freedom.proofs.Notices.{lawful_seen, lawfully_held_append}
 use Rattle.loop_freedom.proofs.Invariant.{Invariant, end_at_cong, end_invariant_same, answered_same}
 
 -- a published successor is port q in session n exactly where q is the machine's successor and knows of session n

@@ -4,9 +4,8 @@ use Rattle.network_model.proofs.Common.{and_parts, infinity, SeenHeld, SeenItem,
 use Rattle.machine_laws.specs.Laws.{is_up_at}
 use Rattle.loop_freedom.specs.Network.{Topology, SameLinks, SameMachines, SamePublished, Skip, SetCost, Release}
 use Rattle.loop_freedom.specs.Facts.{messages, live, end_at}
-use Rattle.loop_freedom.proofs.OnTheWay.{messages-append}
+use Rattle.loop_freedom.proofs.{OnTheWay.messages-append, Ends.place_cases}
 use Rattle.loop_freedom.proofs.Notices.{IsLawfulInbox, lawful_cost, lawful_message, IsLawfullyHeld}
-use Rattle.loop_freedom.proofs.Ends.{place_cases}
 use Rattle.loop_freedom.proofs.Invariant.{Invariant, IsLawfulAt, end_at_cong, end_invariant_same, answered_same}
 
 -- a step keeps the invariant where it leaves machines, publications, links, and what is on its way as a whole

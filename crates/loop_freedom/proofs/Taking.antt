@@ -1,17 +1,11 @@
 -- A router that takes an item keeps the invariant.
 use Rattle.std.proofs.Common.{refl, sym, ◌∙◌, ap, subst, inl, inr, ◌≡◌, ℕ, ◌<◌, true, ◌∷◌, ◌++◌, None, length, slice_get, List}
 use Rattle.network_model.proofs.Common.{cases_eq, Machine, SeenItem, UpNotice, LinkEnd, State, at_port}
-use Rattle.network_model.specs.declared.machine.Event.{Event}
-use Rattle.network_model.specs.declared.machine.Neighbour.{Neighbour}
+use Rattle.network_model.specs.{declared.machine.Event.Event, declared.machine.Neighbour.Neighbour}
 use Rattle.machine_laws.specs.Laws.{Meets, MachineLaws, is_up_at, test_at}
-use Rattle.loop_freedom.specs.Network.{Topology, Take, event_of}
-use Rattle.loop_freedom.proofs.Lists.{front}
-use Rattle.loop_freedom.specs.Facts.{messages}
-use Rattle.loop_freedom.proofs.Notices.{IsLawfulInbox}
+use Rattle.loop_freedom.specs.{Network.Topology, Network.Take, Network.event_of, Facts.messages}
+use Rattle.loop_freedom.proofs.{Lists.front, Notices.IsLawfulInbox, Ends.place_cases, Invariant.Invariant, Invariant.IsLawfulAt, Meeting.Taken, Meeting.met_item, Meeting.meeting_keeps}
 use Rattle.loop_freedom.proofs.Ports.{ports_length, ports_other, port_step_other, port_step_same, meets_item, lawful_after, message_of}
-use Rattle.loop_freedom.proofs.Ends.{place_cases}
-use Rattle.loop_freedom.proofs.Invariant.{Invariant, IsLawfulAt}
-use Rattle.loop_freedom.proofs.Meeting.{Taken, met_item, meeting_keeps}
 
 -- the messages among items are the one at the front, if it is one, then those of the rest
 front_item : (item : SeenItem) (rest : List SeenItem) → messages (item ∷ rest) ≡ front (message_of item) ++ messages rest

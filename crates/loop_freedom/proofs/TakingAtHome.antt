@@ -3,11 +3,8 @@ use Rattle.std.proofs.Common.{refl, sym, ◌∙◌, ap, subst, inl, inr, ◌≡�
 use Rattle.network_model.proofs.Common.{cases_eq, both_ways, false≢true, Machine, reaction, event_at_home, LinkEnd, State}
 use Rattle.network_model.specs.declared.machine.Neighbour.{Neighbour}
 use Rattle.machine_laws.specs.Laws.{Meets, MachineLaws, is_up_at, reported_by, test_at}
-use Rattle.loop_freedom.specs.Network.{Topology, TakeAtHome}
-use Rattle.loop_freedom.specs.Facts.{messages, is_current}
-use Rattle.loop_freedom.proofs.Reacts.{PortStep}
-use Rattle.loop_freedom.proofs.Invariant.{Invariant, IsLawfulAt}
-use Rattle.loop_freedom.proofs.Meeting.{met_notice, meeting_keeps}
+use Rattle.loop_freedom.specs.{Network.Topology, Network.TakeAtHome, Facts.messages, Facts.is_current}
+use Rattle.loop_freedom.proofs.{Reacts.PortStep, Invariant.Invariant, Invariant.IsLawfulAt, Meeting.met_notice, Meeting.meeting_keeps}
 
 -- a machine may be told of its attachment at any time, at a cost that is not 0
 pub meets_home : (m : Machine) (o : Option ℕ) → ((c : ℕ) → o ≡ Some c → 0 < c) → Meets m (event_at_home o)

@@ -5,13 +5,7 @@ use Rattle.network_model.proofs.Common.{and_from, or_from, is_port, LinkEnd, Sta
 use Rattle.machine_laws.specs.Laws.{MachineLaws, is_up_at}
 use Rattle.loop_freedom.specs.Network.{Topology, Step, Takes, TakesAtHome, Publishes, Releases, LinkComes, LinkGoes, CostChanges, Skips, Run, Start, Then, PublishedEdge, ControlEdge, IsEdgeWalk, met, is_met, meets_twice, HoldsInEveryState, PublishedLoopFree, MixedLoopFree}
 use Rattle.loop_freedom.specs.Facts.{is_current, is_next_hop}
-use Rattle.loop_freedom.proofs.Invariant.{Invariant}
-use Rattle.loop_freedom.proofs.Taking.{take_keeps}
-use Rattle.loop_freedom.proofs.TakingAtHome.{take_at_home_keeps}
-use Rattle.loop_freedom.proofs.Publishing.{publish_keeps}
-use Rattle.loop_freedom.proofs.StillMachines.{release_keeps, set_cost_keeps, skip_keeps}
-use Rattle.loop_freedom.proofs.Linking.{link_up_keeps, link_down_keeps}
-use Rattle.loop_freedom.proofs.Opened.{opening_keeps}
+use Rattle.loop_freedom.proofs.{Invariant.Invariant, Taking.take_keeps, TakingAtHome.take_at_home_keeps, Publishing.publish_keeps, StillMachines.release_keeps, StillMachines.set_cost_keeps, StillMachines.skip_keeps, Linking.link_up_keeps, Linking.link_down_keeps, Opened.opening_keeps}
 
 pub steps_keep : MachineLaws → (t : Topology) (old new : State) → Invariant t old → Step t old new → Invariant t new
 steps_keep laws t old new I (Takes s) = take_keeps laws t old new I s

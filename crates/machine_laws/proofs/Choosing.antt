@@ -1,13 +1,10 @@
 -- When the feasible distance rises, and what the successor reported.
 use Rattle.std.proofs.Common.{◌≡◌, ◌⊎◌, ℕ, ◌<◌, ◌≤◌, min, Bool, true, false, List, [], Option, Some, refl, ap, sym, inl, inr, arith, subst, ◌∙◌, slice_get}
 use Rattle.network_model.proofs.Common.{both_ways, none-some, Machine, Reaction, chosen_successor, least, ways, port_count, home_ways, records_after, attachment_after, with_records, reaction, infinity, slice_get-changed_at_other}
-use Rattle.network_model.specs.declared.machine.Event.{Event}
-use Rattle.network_model.specs.declared.machine.Event.TheVariants.{Up}
-use Rattle.network_model.specs.declared.machine.Neighbour.{Neighbour}
+use Rattle.network_model.specs.{declared.machine.Event.Event, declared.machine.Event.TheVariants.Up, declared.machine.Neighbour.Neighbour}
 use Rattle.machine_laws.specs.Laws.{released, test_at, is_up_at, reported_by, reported_at, awaits, is_active, Meets, IsSound, RisesAtCompletion, KeepsOrChooses}
-use Rattle.machine_laws.proofs.Lists.{append_within, test_within}
+use Rattle.machine_laws.proofs.{Lists.append_within, Lists.test_within, Events.sound_after, Events.attachment_sound_after, Events.successor_kept}
 use Rattle.machine_laws.proofs.Distances.{AllSound, chosen_feasible, feasible_below_least, ways_sound}
-use Rattle.machine_laws.proofs.Events.{sound_after, attachment_sound_after, successor_kept}
 use Rattle.machine_laws.proofs.Outcomes.{Decision, Outcome, came_up, goes_on, settles, asks, is_alone, outcome, test_nowhere}
 
 -- the law of the rising feasible distance for one reaction and one port

@@ -1,9 +1,7 @@
 -- Queries and replies are counted exactly: what is awaited and what is owed, at each port.
 use Rattle.std.proofs.Common.{◌≡◌, ℕ, zero, suc, ◌+◌, Bool, true, false, List, [], ◌∷◌, ◌++◌, Option, Some, None, map, refl, ap, sym, arith, ◌∙◌, slice_get, ◌==◌, if◌then◌else◌}
 use Rattle.network_model.proofs.Common.{option_map_or, list_any, and-true, both_ways, false_from_ne_true, Kind, Update, Query, Reply, Machine, Computation, Reaction, is_port, via_successor, ways, records_after, with_records, one_to, all_from, changed_at, news_to_others, least, awaited_after, greeting, reaction, one_if, infinity}
-use Rattle.network_model.specs.declared.machine.Event.{Event}
-use Rattle.network_model.specs.declared.machine.Neighbour.{Neighbour}
-use Rattle.network_model.specs.declared.machine.Outgoing.{Outgoing}
+use Rattle.network_model.specs.{declared.machine.Event.Event, declared.machine.Neighbour.Neighbour, declared.machine.Outgoing.Outgoing}
 use Rattle.machine_laws.specs.Laws.{released, is_kind, sent_to, count_kind, test_at, is_up_at, awaits, owes_port, is_message, is_down, IsSound, CountsQueries, CountsReplies}
 use Rattle.machine_laws.proofs.Sends.{sent_append, count_append, count_one, count_all}
 use Rattle.machine_laws.proofs.Events.{is_port-Some, replied_by, released_by}

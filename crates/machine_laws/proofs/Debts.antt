@@ -1,13 +1,10 @@
 -- A machine that is active after an event sends no reply to the successor that it has kept.
 use Rattle.std.proofs.Common.{refl, sym, ◌∙◌, arith, inl, inr, ◌≡◌, ℕ, Bool, true, false, if◌then◌else◌, List, ◌++◌, Option, Some, None, ne_eqb}
 use Rattle.network_model.proofs.Common.{list_any, cases_Bool, false≢true, eqb-false, Query, Reply, Machine, Computation, Reaction, decision, with_records, new_computation, started_computation, completion, passive_result, with_first, one_to, answers_at_once, asker, awaited_after, debt_after, condition_holds, passive_reaction, active_reaction, is_port, via_successor, ways}
-use Rattle.network_model.specs.declared.machine.Event.{Event}
+use Rattle.network_model.specs.{declared.machine.Event.Event, declared.machine.Neighbour.Neighbour, declared.machine.Outgoing.Outgoing}
 use Rattle.network_model.specs.declared.machine.Event.TheVariants.{Message, Up, Down, Cost, Attached, Detached}
-use Rattle.network_model.specs.declared.machine.Neighbour.{Neighbour}
-use Rattle.network_model.specs.declared.machine.Outgoing.{Outgoing}
 use Rattle.machine_laws.specs.Laws.{is_active, sent_to, count_kind, KeepsDebt}
-use Rattle.machine_laws.proofs.Sends.{count_all}
-use Rattle.machine_laws.proofs.Counting.{count_both, greeting_count}
+use Rattle.machine_laws.proofs.{Sends.count_all, Counting.count_both, Counting.greeting_count}
 
 -- no reply to port p among the messages
 abbrev Silent : ℕ → List Outgoing → Type 0

@@ -1,12 +1,10 @@
 -- Events: whom each one asks for, releases or takes away, and what it leaves of ports and successor.
 use Rattle.std.proofs.Common.{◌≡◌, ℕ, zero, suc, ◌<◌, Bool, true, false, List, [], ◌∷◌, Option, Some, None, length, refl, ap, sym, arith, subst, ◌∙◌, eqb-true, eq-eqb, ne_eqb, is_some, slice_get, ◌==◌, if◌then◌else◌}
 use Rattle.network_model.proofs.Common.{and-true, and-false, and_parts, both_ways, false≢true, eqb-false, same_Some, none-some, Update, Query, Reply, Machine, changed_at, is_port, records_after, attachment_after, successor_after, with_records, asker, infinity, slice_get-changed_at_other, length-changed_at, changed_keeps}
-use Rattle.network_model.specs.declared.machine.Event.{Event}
+use Rattle.network_model.specs.{declared.machine.Event.Event, declared.machine.Neighbour.Neighbour}
 use Rattle.network_model.specs.declared.machine.Event.TheVariants.{Message, Up, Down, Cost, Attached, Detached}
-use Rattle.network_model.specs.declared.machine.Neighbour.{Neighbour}
 use Rattle.machine_laws.specs.Laws.{released, test_at, is_up_at, is_message, is_down, Meets, IsSoundPort}
-use Rattle.machine_laws.proofs.Distances.{AllSound}
-use Rattle.machine_laws.proofs.Sends.{eqb_sym, eqb_same}
+use Rattle.machine_laws.proofs.{Distances.AllSound, Sends.eqb_sym, Sends.eqb_same}
 
 -- a port that passes the test is the port
 pub is_port-Some : (p : ℕ) (o : Option ℕ) → is_port p o ≡ true → o ≡ Some p

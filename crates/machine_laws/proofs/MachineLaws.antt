@@ -1,11 +1,6 @@
 -- All laws of a machine, together.
 use Rattle.machine_laws.specs.Laws.{MachineLaws}
-use Rattle.machine_laws.proofs.Keeping.{keeps_records, keeps_attachment}
-use Rattle.machine_laws.proofs.Counting.{counts_queries, counts_replies}
-use Rattle.machine_laws.proofs.Sending.{sends_distance, goes_on_or_asks, tells_all}
-use Rattle.machine_laws.proofs.Debts.{keeps_debt}
-use Rattle.machine_laws.proofs.Choosing.{rises_at_completion, keeps_or_chooses}
-use Rattle.machine_laws.proofs.Soundness.{stays_sound}
+use Rattle.machine_laws.proofs.{Keeping.keeps_records, Keeping.keeps_attachment, Counting.counts_queries, Counting.counts_replies, Sending.sends_distance, Sending.goes_on_or_asks, Sending.tells_all, Debts.keeps_debt, Choosing.rises_at_completion, Choosing.keeps_or_chooses, Soundness.stays_sound}
 
 -- all that a network of machines rests on
 pub machine_laws : MachineLaws

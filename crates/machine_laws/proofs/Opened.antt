@@ -3,8 +3,7 @@ use Rattle.std.proofs.Common.{◌≡◌, ◌⊎◌, ℕ, zero, suc, ◌+◌, ◌
 use Rattle.network_model.proofs.Common.{false≢true, same_Some, none-some, infinity, distance, least, at_home, home_ways, least-append, distance-bounded}
 use Rattle.network_model.specs.declared.machine.Neighbour.{Neighbour}
 use Rattle.machine_laws.specs.Laws.{IsSound, IsSoundPort, NothingHeard, OpensSound}
-use Rattle.machine_laws.proofs.Lists.{append_last, test_within}
-use Rattle.machine_laws.proofs.Distances.{distance_cases}
+use Rattle.machine_laws.proofs.{Lists.append_last, Lists.test_within, Distances.distance_cases}
 
 -- the distance by way of a neighbour that has reported nothing is infinity
 distance_unheard : (n : Neighbour) → n.reported ≡ infinity → distance n ≡ infinity

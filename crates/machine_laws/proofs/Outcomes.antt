@@ -1,12 +1,10 @@
 -- The ways in which a machine can react to an event, with the facts that each of them comes with.
 use Rattle.std.proofs.Common.{◌≡◌, ◌⊎◌, ℕ, ◌+◌, ◌<◌, ◌≤◌, Bool, true, false, List, [], ◌++◌, Option, Some, None, map, refl, ap, sym, inl, inr, arith, subst, ◌∙◌, slice_get, if◌then◌else◌}
 use Rattle.network_model.proofs.Common.{option_map_or, list_any, cases_eq, both_ways, false_from_ne_true, same_Some, none-some, Update, Query, Reply, Machine, Computation, Reaction, ways, port_count, is_port, condition_holds, via_successor, records_after, with_records, asker, one_to, all_from, passive_result, new_computation, with_first, started_computation, passive_reaction, completion, awaited_after, debt_after, answers_at_once, active_reaction, greeting, decision, reaction, changed_at, infinity, slice_get-changed_at_other, one_if}
-use Rattle.network_model.specs.declared.machine.Event.{Event}
+use Rattle.network_model.specs.{declared.machine.Event.Event, declared.machine.Neighbour.Neighbour}
 use Rattle.network_model.specs.declared.machine.Event.TheVariants.{Message, Up, Down, Cost, Attached, Detached}
-use Rattle.network_model.specs.declared.machine.Neighbour.{Neighbour}
 use Rattle.machine_laws.specs.Laws.{released, test_at, is_up_at, awaits, owes_port, is_active, is_message, is_down, Meets, IsSound}
-use Rattle.machine_laws.proofs.Lists.{list_any_nowhere, test_within}
-use Rattle.machine_laws.proofs.Sends.{eqb_same}
+use Rattle.machine_laws.proofs.{Lists.list_any_nowhere, Lists.test_within, Sends.eqb_same}
 use Rattle.machine_laws.proofs.Events.{is_port-Some, is_port_same, asked_by, asked_event, asker_up, released_alone, successor_stays, stays_up}
 
 -- what is owed after an event and what it answers are, together, what was owed and what the event asks

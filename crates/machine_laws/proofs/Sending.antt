@@ -1,15 +1,11 @@
 -- What is sent: the distance alone, a query last to everyone who is asked, and news to everyone who is up.
 use Rattle.std.proofs.Common.{◌≡◌, ◌≢◌, ◌⊎◌, ℕ, Bool, true, false, not, List, [], ◌∷◌, ◌++◌, Option, Some, None, refl, ap, sym, inl, inr, subst, ◌∙◌, eqb-true, slice_get, ◌==◌, if◌then◌else◌}
 use Rattle.network_model.proofs.Common.{both_ways, false≢true, same_Some, none-some, Update, Query, Reply, Machine, Reaction, is_port, via_successor, least, ways, records_after, with_records, one_to, all_from, news_to_others, reaction, infinity}
-use Rattle.network_model.specs.declared.machine.Event.{Event}
-use Rattle.network_model.specs.declared.machine.Event.TheVariants.{Up}
-use Rattle.network_model.specs.declared.machine.Neighbour.{Neighbour}
-use Rattle.network_model.specs.declared.machine.Outgoing.{Outgoing}
+use Rattle.network_model.specs.{declared.machine.Event.Event, declared.machine.Event.TheVariants.Up, declared.machine.Neighbour.Neighbour, declared.machine.Outgoing.Outgoing}
 use Rattle.machine_laws.specs.Laws.{sent_to, count_kind, test_at, is_up_at, is_active, Meets, IsSound, SendsDistance, GoesOnOrAsks, TellsAll}
 use Rattle.machine_laws.proofs.Sends.{EachSend, each_append, each_one, each_all, sent_append, sent_one, sent_all, count_one}
-use Rattle.machine_laws.proofs.Events.{up_at_up}
+use Rattle.machine_laws.proofs.{Events.up_at_up, Counting.greeting_count}
 use Rattle.machine_laws.proofs.Outcomes.{Outcome, came_up, goes_on, settles, asks, is_alone, outcome, test_nowhere}
-use Rattle.machine_laws.proofs.Counting.{greeting_count}
 
 -- a message with the machine's distance, to a port that is up
 abbrev IsRight : Machine → Outgoing → Type 0

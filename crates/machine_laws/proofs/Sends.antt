@@ -1,8 +1,7 @@
 -- What one port gets of the messages that a machine sends, and what holds of each of them.
 use Rattle.std.proofs.Common.{◌≡◌, ◌⊎◌, ℕ, zero, suc, ◌+◌, ◌<◌, Bool, true, false, not, ◌&&◌, List, [], ◌∷◌, ◌++◌, Option, Some, None, refl, ap, sym, inl, inr, arith, subst, ◌∙◌, eq-eqb, ne_eqb, slice_get, ◌==◌, if◌then◌else◌}
 use Rattle.network_model.proofs.Common.{cases_eq, and_parts, same_Some, none-some, Kind, is_port, one_to, all_from, one_if}
-use Rattle.network_model.specs.declared.machine.Neighbour.{Neighbour}
-use Rattle.network_model.specs.declared.machine.Outgoing.{Outgoing}
+use Rattle.network_model.specs.{declared.machine.Neighbour.Neighbour, declared.machine.Outgoing.Outgoing}
 use Rattle.machine_laws.specs.Laws.{is_kind, sent_to, count_kind, test_at}
 
 -- the test of equality does not mind the order

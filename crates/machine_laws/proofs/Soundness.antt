@@ -1,16 +1,12 @@
 -- A sound machine stays sound.
 use Rattle.std.proofs.Common.{◌≡◌, ℕ, min, ◌<◌, ◌≤◌, Bool, true, false, List, Option, Some, refl, ap, sym, arith, subst, ◌∙◌, slice_get, length, is_some, true≢false}
 use Rattle.network_model.proofs.Common.{list_any, both_ways, false≢true, false_from_ne_true, same_Some, Machine, Computation, Reaction, condition_holds, distance, via_successor, least, ways, port_count, home_ways, records_after, attachment_after, with_records, awaited_after, passive_result, reaction, infinity, least_bounded, least-append, least_ways-none_up}
-use Rattle.network_model.specs.declared.machine.Event.{Event}
-use Rattle.network_model.specs.declared.machine.Event.TheVariants.{Up}
-use Rattle.network_model.specs.declared.machine.Neighbour.{Neighbour}
+use Rattle.network_model.specs.{declared.machine.Event.Event, declared.machine.Event.TheVariants.Up, declared.machine.Neighbour.Neighbour}
 use Rattle.machine_laws.specs.Laws.{released, test_at, is_up_at, awaits, is_down, Meets, IsSound, StaysSound}
-use Rattle.machine_laws.proofs.Lists.{list_any_place, append_within, changed_append_other}
+use Rattle.machine_laws.proofs.{Lists.list_any_place, Lists.append_within, Lists.changed_append_other, Opened.nowhere_sound, Counting.awaited_up, Counting.awaited_off}
 use Rattle.machine_laws.proofs.Distances.{AllSound, chosen_feasible, chosen_none, condition_fails, via_range, least_came_up, least_positive, way_within, way_last}
 use Rattle.machine_laws.proofs.Events.{sound_after, attachment_sound_after, successor_kept, attachment_kept, ports_length, stays_up, is_port-Some, down_released}
-use Rattle.machine_laws.proofs.Opened.{nowhere_sound}
 use Rattle.machine_laws.proofs.Outcomes.{Account, Decision, Outcome, came_up, goes_on, settles, asks, is_alone, waiting, asked, alone, outcome, active_awaits, awaited_kept}
-use Rattle.machine_laws.proofs.Counting.{awaited_up, awaited_off}
 use Rattle.machine_laws.proofs.Choosing.{settled_reported, ways_sound_after, reported_other, up_other, successor_other}
 
 -- a test that passes in a list passes at some place

@@ -1,7 +1,6 @@
 -- Worked examples.
 use Rattle.std.proofs.Common.{refl, ◌≡◌, ℕ, [], ◌∷◌, Option, Some, None}
-use Rattle.minima.specs.declared.due.Due.{Due}
-use Rattle.minima.specs.Trees.{lesser, moments_of}
+use Rattle.minima.specs.{declared.due.Due.Due, Trees.lesser, Trees.moments_of}
 
 abbrev due : ℕ → ℕ → Option Due
 due moment router = Some (record { moment = moment; router = router })

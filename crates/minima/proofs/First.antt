@@ -1,8 +1,6 @@
 -- The root is the first of all leaves.
 use Rattle.std.proofs.Common.{refl, sym, ap, subst, ◌∙◌, arith, inl, inr, ◌≡◌, ◌⊎◌, ℕ, zero, suc, ◌+◌, ◌-◌, ◌/◌, ◌<◌, ◌≤◌, List, ◌∷◌, length, map, replicate, Option, Some, None, IfNone, IfSome, option_map, slice_get}
-use Rattle.std.proofs.lemmas.Bool.{cases_lt}
-use Rattle.std.proofs.lemmas.List.{drop-replicate, length-replicate}
-use Rattle.std.proofs.lemmas.Option.{slice_get_within}
+use Rattle.std.proofs.{lemmas.Bool.cases_lt, lemmas.List.drop-replicate, lemmas.List.length-replicate, lemmas.Option.slice_get_within}
 use Rattle.network_model.specs.Network.{most_routers}
 use Rattle.network_model.proofs.ListLaws.{None_not_Some, Some_injective}
 use Rattle.minima.specs.declared.due.Due.{Due}

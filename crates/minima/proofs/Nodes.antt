@@ -1,11 +1,8 @@
 -- Nodes that are read and written, and the leaves among them.
 use Rattle.std.proofs.Common.{refl, sym, ap, ◌∙◌, arith, inl, inr, ◌≡◌, ◌≢◌, ◌⊎◌, ℕ, zero, suc, ◌+◌, ◌/◌, ◌%◌, ◌<◌, ◌≤◌, List, [], ◌∷◌, drop, length, set, Option, Some, None, option_map, option_and_then, slice_get}
-use Rattle.std.proofs.lemmas.List.{length-drop, length-map}
-use Rattle.std.proofs.lemmas.Nat.{div-add-mod', mod_below}
-use Rattle.std.proofs.lemmas.Option.{slice_get-map}
+use Rattle.std.proofs.{lemmas.List.length-drop, lemmas.List.length-map, lemmas.Nat.div-add-mod', lemmas.Nat.mod_below, lemmas.Option.slice_get-map}
 use Rattle.network_model.proofs.ListLaws.{None_not_Some, element_there}
-use Rattle.minima.specs.declared.due.Due.{Due}
-use Rattle.minima.specs.Trees.{moments_of, node_at}
+use Rattle.minima.specs.{declared.due.Due.Due, Trees.moments_of, Trees.node_at}
 
 -- the half of a number, with what is left
 pub halves : (n : ℕ) → (n ≡ n / 2 + n / 2) ⊎ (n ≡ n / 2 + n / 2 + 1)

@@ -2,8 +2,7 @@
 use Rattle.std.proofs.Common.{refl, sym, ◌∙◌, arith, inl, inr, true≢false, ltb-true, ltb-false, eqb-true, eq-eqb, ◌≡◌, ◌⊎◌, ◌<◌, ◌≤◌, Bool, true, false, ◌==◌, ◌&&◌, ◌||◌, nat_lt, if◌then◌else◌, Option, Some, None}
 use Rattle.std.specs.Prelude.{⊤}
 use Rattle.std.proofs.lemmas.Bool.{and_parts, cases_lt}
-use Rattle.minima.specs.declared.due.Due.{Due}
-use Rattle.minima.specs.Trees.{is_sooner, lesser}
+use Rattle.minima.specs.{declared.due.Due.Due, Trees.is_sooner, Trees.lesser}
 
 -- the one is no later than the other, by its moment and then by its router. What is not there is later than anything
 abbrev pub NoLater : Option Due → Option Due → Type 0

@@ -1,7 +1,6 @@
 -- A leaf that is written, and the nodes above it one after another.
 use Rattle.std.proofs.Common.{refl, sym, ap, ◌∙◌, arith, inl, inr, ◌≡◌, ◌≢◌, ◌⊎◌, ℕ, ◌+◌, ◌<◌, ◌≤◌, List, drop, length, map, set, Option, Some, None, option_map}
-use Rattle.std.proofs.lemmas.Bool.{cases_eq}
-use Rattle.std.proofs.lemmas.List.{drop-set-add, map-set}
+use Rattle.std.proofs.{lemmas.Bool.cases_eq, lemmas.List.drop-set-add, lemmas.List.map-set}
 use Rattle.network_model.proofs.ListLaws.{None_not_Some, Some_injective}
 use Rattle.minima.specs.declared.due.Due.{Due}
 use Rattle.minima.specs.Trees.{HasLeast, HasLeastBut, IsTree, lesser, moments_of, node_at, pair_of}

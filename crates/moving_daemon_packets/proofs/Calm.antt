@@ -4,15 +4,11 @@ use Rattle.no_packet_loops.proofs.Common.{prefix_eq, Prefix, prefix_cmp, covers,
 use Rattle.no_packet_loops.proofs.Walks.{match_is_row}
 use Rattle.all_packets.proofs.Matches.{GoesBefore, found}
 use Rattle.moving_packets.proofs.Returns.{IsLow, stays_low as low_next, IsOn, Descends, first_on, goes_on, comes_back}
-use Rattle.daemon_laws.specs.Processes.{Processes}
-use Rattle.daemon_laws.specs.Packets.{rows_in_force, session_leads, unmarked_leads}
+use Rattle.daemon_laws.specs.{Processes.Processes, Packets.rows_in_force, Packets.session_leads, Packets.unmarked_leads, Facts.fd_then, Moments.fds_reached, Rest.entry_in_force}
 use Rattle.daemon_laws.specs.Happenings.{Happening, Publishes, PublishesSome, Forgets, BeginsAnew, CanHappen, MayRewire, AreReached}
 use Rattle.network_model.proofs.Common.{cases_eq, find as row_of}
 use Rattle.router_core.specs.Alone.{may_forget}
 use Rattle.single_router.specs.Openings.{made_router}
-use Rattle.daemon_laws.specs.Facts.{fd_then}
-use Rattle.daemon_laws.specs.Moments.{fds_reached}
-use Rattle.daemon_laws.specs.Rest.{entry_in_force}
 use Rattle.daemon_laws.proofs.Always.{Always, always, always_next, always_rewired}
 use Rattle.daemon_laws.proofs.Ways.{in_order, falls, bounded, has_row}
 use Rattle.daemon_laws.proofs.Walks.{unmarked}

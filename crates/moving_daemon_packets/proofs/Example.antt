@@ -2,12 +2,9 @@
 use Rattle.std.proofs.Common.{refl, arith, ◌<◌, ◌≡◌, ℕ, Bool, true, false, not, ◌==◌, List, [], ◌∷◌, zero, suc}
 use Rattle.no_packet_loops.proofs.Common.{false≢true, Prefix, Via, IsCost, Topology, LinkEnd, at_port}
 use Rattle.single_router.specs.declared.input.Input.TheVariants as input
-use Rattle.single_router.specs.declared.opening.Attachment.{Attachment}
-use Rattle.single_router.specs.Openings.{made_router}
-use Rattle.daemon_laws.specs.Processes.{Processes}
-use Rattle.daemon_laws.specs.Packets.{is_in_session, session_leads}
+use Rattle.single_router.specs.{declared.opening.Attachment.Attachment, Openings.made_router}
+use Rattle.daemon_laws.specs.{Processes.Processes, Packets.is_in_session, Packets.session_leads, Moments.fds_reached}
 use Rattle.daemon_laws.specs.Happenings.{Happening, Tells, Takes, Publishes, Releases, AllCanHappen, IsMade, IsOpening, AreReached, Begun, Happened, MayRewire, is_new_link, after_happening, after_happenings}
-use Rattle.daemon_laws.specs.Moments.{fds_reached}
 use Rattle.moving_daemon_packets.specs.Moving.{Moment, moment_next, moment_rewired, moment_after, LeadsOn, StaysNearAtDaemons, doing, SomeComesBack}
 
 -- ---- links

@@ -3,19 +3,13 @@ use Rattle.std.proofs.Common.{refl, sym, ap, subst, ◌∙◌, inl, inr, arith, 
 use Rattle.no_packet_loops.proofs.Common.{option_map_or, false≢true, and_parts, and_from, Prefix, Via, Port, Router, Topology, LinkEnd, at_port, None_not_Some, session_at, next_hop, next_hop_at, is_next_hop, router_publishing, router_releasing, changed_at}
 use Rattle.network_model.proofs.Common.{cases_eq}
 use Rattle.router_core.specs.Alone.{router_publishing_some}
-use Rattle.single_router.specs.declared.input.Input.{Input}
+use Rattle.single_router.specs.{declared.input.Input.Input, Inputs.told_fault, Inputs.router_after, Openings.made_router}
 use Rattle.single_router.specs.declared.input.Input.TheVariants as input
-use Rattle.single_router.specs.Inputs.{told_fault, router_after}
-use Rattle.single_router.specs.Openings.{made_router}
-use Rattle.daemon_laws.specs.Processes.{Processes}
-use Rattle.daemon_laws.specs.Packets.{is_in_session, session_leads, lets_in}
+use Rattle.daemon_laws.specs.{Processes.Processes, Packets.is_in_session, Packets.session_leads, Packets.lets_in}
 use Rattle.daemon_laws.specs.Happenings.{Happening, Tells, Takes, Loses, Publishes, PublishesSome, Forgets, Releases, BeginsAnew, CanHappen, with_process, told_router, forgotten, after_happening, link_stays, MayRewire}
 use Rattle.daemon_laws.proofs.Anew.{Anew, Here, Across, Away, anew_at}
-use Rattle.daemon_laws.proofs.Cases.{by_take, by_release}
-use Rattle.daemon_laws.proofs.Numbers.{forgotten_ports}
+use Rattle.daemon_laws.proofs.{Cases.by_take, Cases.by_release, Numbers.forgotten_ports, Steps.router_here, Steps.router_away, Walks.row_reached, Walks.let_in}
 use Rattle.daemon_laws.proofs.Rewiring.{Stays, stays_far, stays_at, same_at}
-use Rattle.daemon_laws.proofs.Steps.{router_here, router_away}
-use Rattle.daemon_laws.proofs.Walks.{row_reached, let_in}
 use Rattle.moving_daemon_packets.specs.Moving.{Moment, moment_next, moment_rewired, moment_after, HoldsAtEveryMoment, DaemonEvent, Goes, Does, Rewires}
 use Rattle.moving_daemon_packets.specs.Flights.{Survives, IsOnLink, HopsAtOnce, UnmarkedHopsAtOnce}
 use Rattle.moving_daemon_packets.proofs.Calm.{IsKept, kept_next, kept_rewired, now, kept}

@@ -9,8 +9,7 @@ use Rattle.daemon_laws.specs.Packets.{is_in_session, session_leads, unmarked_lea
 use Rattle.daemon_laws.specs.Happenings.{Happening, after_happening, AreReached, Happened, HoldsAlways}
 use Rattle.daemon_laws.proofs.Always.{always_no_circles, always_no_unmarked_circles}
 use Rattle.daemons_come_to_rest.specs.Rest.{AllAlone, HasMostHappenings}
-use Rattle.daemons_come_to_rest.proofs.Bounds.{alone_can}
-use Rattle.daemons_come_to_rest.proofs.Resting.{always_bounded}
+use Rattle.daemons_come_to_rest.proofs.{Bounds.alone_can, Resting.always_bounded}
 use Rattle.moving_daemon_packets.specs.Moving.{DaemonEvent, Goes, Does, Rewires, LeadsOn}
 use Rattle.moving_daemon_packets.specs.Hops.{IsMoving, hops, HopsEnd}
 

@@ -2,14 +2,10 @@
 use Rattle.std.proofs.Common.{refl, ap, arith, ◌≤◌, ◌≡◌, ℕ, ◌+◌, Bool, true, false, ◌&&◌, ◌==◌, if◌then◌else◌, List, [], ◌∷◌, take, is_none}
 use Rattle.no_packet_loops.proofs.Common.{Prefix, prefix_cmp, prefix_eq, infinity, Router, router_publishing, router_releasing, or_parts, changed_rows, machine_of, find as row_of}
 use Rattle.router_core.specs.Alone.{may_forget, router_publishing_some}
-use Rattle.single_router.specs.declared.input.Input.{Input}
+use Rattle.single_router.specs.{declared.input.Input.Input, Inputs.told_fault, Inputs.router_after as router_told, Openings.made_router}
 use Rattle.single_router.specs.declared.input.Input.TheVariants as input
-use Rattle.single_router.specs.Inputs.{told_fault, router_after as router_told}
-use Rattle.single_router.specs.Openings.{made_router}
-use Rattle.daemon_laws.specs.Packets.{rows_in_force, session_leads, unmarked_leads}
-use Rattle.daemon_laws.specs.Facts.{fd_then}
+use Rattle.daemon_laws.specs.{Packets.rows_in_force, Packets.session_leads, Packets.unmarked_leads, Facts.fd_then, Rest.entry_in_force}
 use Rattle.daemon_laws.specs.Happenings.{Happening, Tells, Takes, Loses, Publishes, PublishesSome, Forgets, Releases, BeginsAnew, with_process, told_router, forgotten}
-use Rattle.daemon_laws.specs.Rest.{entry_in_force}
 use Rattle.daemon_laws.proofs.Cases.{by_take, by_release}
 use Rattle.moving_packets.proofs.Returns.{SameShown, shows_same, none_better, Where, spare, leaves, hop_counts, wait_counts, count_hop, count_wait}
 use Rattle.moving_daemon_packets.specs.Moving.{Moment, moment_next, moment_rewired, HoldsAtEveryMoment, DaemonEvent, Goes, Does, Rewires, moment_after, LeadsOn, StaysNearAtDaemons, happening_publishes, publishes_meanwhile, ComesBackOncePublishedAtDaemons, visits_meanwhile, publications_meanwhile, ComesBackSeldomAtDaemons}

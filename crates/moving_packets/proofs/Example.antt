@@ -1,9 +1,8 @@
 -- Two packets that come back in a triangle: one for a better way, and one after a computation that ended where it was.
 use Rattle.std.proofs.Common.{refl, sym, subst, inl, inr, arith, ◌<◌, ◌≡◌, ℕ, Bool, true, false, cond, List, [], ◌∷◌, All, zero, suc, Some, None, IsSome}
 use Rattle.no_packet_loops.proofs.Common.{false≢true, Prefix, IsPrefix, IsCost, prefix_eq, Entry, Via, World, Network, opening, LinkSpec, HasCosts, IsNetwork, next, Runs, run, run-Runs, History, history, with_step, Step, LinkUp, LinkDown, Deliver, Publish, Release}
-use Rattle.no_packet_loops.proofs.Machines.{prefix_same}
+use Rattle.no_packet_loops.proofs.{Machines.prefix_same, Runs.history_world}
 use Rattle.all_packets.specs.Journeys.{Event, Does}
-use Rattle.no_packet_loops.proofs.Runs.{history_world}
 use Rattle.moving_packets.specs.Moving.{fd_published, router_at_end, history_after, StaysNear, IsMoving, HasBetter, SomeComesBackForBetter, SomeComesBackAfterRise}
 
 -- ---- a packet that waits

@@ -5,8 +5,7 @@ use Rattle.no_packet_loops.specs.Packets.{HoldsInEveryWorld}
 use Rattle.no_packet_loops.proofs.WorldLaws.{runs_more, next-shape}
 use Rattle.all_packets.specs.Packets.{IsMovingWay}
 use Rattle.all_packets.specs.Journeys.{is_taking, Event, Goes, Does, routers_met}
-use Rattle.all_packets.proofs.Ways.{always_ways_end, always_matches_last, by_published}
-use Rattle.all_packets.proofs.Journeys.{none_later, way_before}
+use Rattle.all_packets.proofs.{Ways.always_ways_end, Ways.always_matches_last, Ways.by_published, Journeys.none_later, Journeys.way_before}
 use Rattle.coming_to_rest.specs.Worlds.{AllOwn, HasBound}
 use Rattle.coming_to_rest.proofs.AllWorlds.{all_have_bounds}
 use Rattle.moving_packets.specs.Moving.{IsMoving, takings, HopsAreFew, OwnAlone, HopsEnd}

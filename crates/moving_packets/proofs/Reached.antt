@@ -2,12 +2,8 @@
 use Rattle.std.proofs.Common.{refl, sym, ap, subst, ◌∙◌, inl, inr, arith, ◌<◌, ◌≤◌, ◌≡◌, ◌⊎◌, ℕ, zero, suc, true, length, List, [], ◌∷◌, ◌++◌, Option, Some, None, slice_get, slice_set, option_and_then}
 use Rattle.no_packet_loops.proofs.Common.{option_map_or, Prefix, prefix_cmp, covers, longest_match, infinity, Entry, Router, World, Network, IsForwarded, opening, machine_of, Lawful, Runs, History, history, history_from, with_step, with_steps, published_after, None_not_Some, Some_injective, IsNetwork, find as row_of, longest_match-found, Step, Publish}
 use Rattle.no_packet_loops.specs.Packets.{DistancesFall, published_entry}
-use Rattle.no_packet_loops.proofs.Wiring.{IsWired, wired}
-use Rattle.no_packet_loops.proofs.Runs.{Reached, reached, history_world}
-use Rattle.no_packet_loops.proofs.Walks.{distances_fall, match_is_row}
-use Rattle.no_packet_loops.proofs.WorldLaws.{runs_more}
-use Rattle.all_packets.proofs.Matches.{GoesBefore, found}
-use Rattle.all_packets.proofs.Known.{always_shown}
+use Rattle.no_packet_loops.proofs.{Wiring.IsWired, Wiring.wired, Runs.Reached, Runs.reached, Runs.history_world, Walks.distances_fall, Walks.match_is_row, WorldLaws.runs_more}
+use Rattle.all_packets.proofs.{Matches.GoesBefore, Matches.found, Known.always_shown}
 use Rattle.moving_packets.specs.Moving.{fd_chosen, fd_published}
 
 -- the history is one that lawful steps make from the opening of a network

@@ -2,9 +2,7 @@
 use Rattle.std.proofs.Common.{refl, sym, ap, subst, ◌∙◌, inl, inr, arith, ◌<◌, ◌≤◌, ◌≡◌, ◌⊎◌, ℕ, true, nat_lt, List, Option, slice_get, slice_set, ltb-true}
 use Rattle.no_packet_loops.proofs.Common.{option_map_or, cases_eq, Prefix, infinity, Machine, reaction, event_at_home, Router, World, machine_of, changed_link, router_publishing, router_releasing, router_accepting, router_at_home, with_cost, with_front_taken, with_message, with_delivered, with_noticed, with_released, front_at, notice_at, release_at, Lawful, next, History, with_step, published_after, option_map_or-ind, routers-changed_link, machine_laws, State, Topology, event_of, is_active, is_up_at, Invariant, meets_item, meets_home, Step, SetCost, Deliver, Publish, Release, MachineLaws}
 use Rattle.loop_freedom.specs.Network.{Step as NetStep, Takes, TakesAtHome, Publishes, Releases, LinkComes, LinkGoes, CostChanges, Skips}
-use Rattle.no_packet_loops.proofs.View.{on_router-miss, on_router-same}
-use Rattle.no_packet_loops.proofs.Runs.{fd_is, stepped}
-use Rattle.no_packet_loops.proofs.Places.{topology}
+use Rattle.no_packet_loops.proofs.{View.on_router-miss, View.on_router-same, Runs.fd_is, Runs.stepped, Places.topology}
 use Rattle.moving_packets.specs.Moving.{HoldsAfterEveryRun, RisesComeFrom, fd_chosen, fd_published}
 use Rattle.moving_packets.proofs.Reached.{IsMade, made, set_or_not, wired_is, here}
 

@@ -5,10 +5,8 @@ use Rattle.no_packet_loops.specs.Packets.{published_entry}
 use Rattle.no_packet_loops.proofs.View.{on_router-miss, on_router-same}
 use Rattle.all_packets.specs.Journeys.{Event, Goes, Does}
 use Rattle.moving_packets.specs.Moving.{HoldsAfterEveryRun, fd_published, history_after, StaysNear, publishes, has_published, ComesBackOncePublished, visits, publications, ComesBackSeldom}
-use Rattle.moving_packets.proofs.Rises.{same_published}
-use Rattle.moving_packets.proofs.Reached.{IsMade, made, made_more}
+use Rattle.moving_packets.proofs.{Rises.same_published, Reached.IsMade, Reached.made, Reached.made_more, Calm.descends, Calm.always_for_better}
 use Rattle.moving_packets.proofs.Returns.{SameShown, shows_same, none_better, Where, spare, leaves, hop_counts, wait_counts, count_hop, count_wait}
-use Rattle.moving_packets.proofs.Calm.{descends, always_for_better}
 
 -- the published rows of a router, if it is there
 abbrev rows_of : Option Router → List (Prefix × Entry)

@@ -1,10 +1,8 @@
 -- What a call answers that gives a change.
 use Rattle.std.proofs.Common.{◌≡◌, Bool, true, false, Result, Ok, Err, Some, None, if◌then◌else◌, MatchBool, IsOkUnless, inl, inr, refl, ap}
 use Rattle.network_model.specs.declared.step.Refusal.{Refusal}
-use Rattle.timed_simulation.specs.declared.fault.TimeFault.{TimeFault}
-use Rattle.timed_simulation.specs.declared.fault.TimeFault.TheVariants.{PastMoment, Refused}
-use Rattle.network_calls.specs.Failures.{failure_number, IsStatusByFailure}
-use Rattle.network_calls.specs.declared.failure.Failure.TheVariants.{Time}
+use Rattle.timed_simulation.specs.{declared.fault.TimeFault.TimeFault, declared.fault.TimeFault.TheVariants.PastMoment, declared.fault.TimeFault.TheVariants.Refused}
+use Rattle.network_calls.specs.{Failures.failure_number, Failures.IsStatusByFailure, declared.failure.Failure.TheVariants.Time}
 
 -- by whether the moment is past
 abbrev pub IsTakenOr : Bool → Result (Unit {0}) TimeFault → Type 0

@@ -1,17 +1,12 @@
 -- What goes on is written over the first of the spells that are there.
 use Rattle.std.proofs.Common.{refl, sym, ap, min, ◌∙◌, arith, subst, ◌≡◌, ℕ, zero, suc, ◌+◌, ◌<◌, ◌≤◌, List, [], ◌∷◌, length, take, drop, map, set, length-set, Bool, true, false, slice_get, Some, nat_lt, is_some, take_all, le-ltb, lt-ltb}
-use Rattle.std.proofs.Math.ListN.{drop_of_length-le}
-use Rattle.std.proofs.Math.Seq.{drop-length}
+use Rattle.std.proofs.{Math.ListN.drop_of_length-le, Math.Seq.drop-length, lemmas.List.Filters.length-filter_more, lemmas.Option.get_or_from_slice_get, lemmas.Option.slice_get_within, lemmas.Option.none-some}
 use Rattle.std.specs.List.{filter}
-use Rattle.std.proofs.lemmas.List.Filters.{length-filter_more}
-use Rattle.std.proofs.lemmas.Option.{get_or_from_slice_get, slice_get_within, none-some}
 use Rattle.single_router.specs.States.{flag}
-use Rattle.network_calls.specs.Shown.{AreShownOver}
+use Rattle.network_calls.specs.{Shown.AreShownOver, declared.spells.SpellParts.SpellParts, Spells.going_on, Spells.going_shown}
 use Rattle.network_calls.proofs.Items.{AreFirst}
 use Rattle.network_calls.proofs.Items as items
 use Rattle.timed_reports.specs.declared.spells.Watched.{Watched}
-use Rattle.network_calls.specs.declared.spells.SpellParts.{SpellParts}
-use Rattle.network_calls.specs.Spells.{going_on, going_shown}
 
 -- what is left of a list from a place on, or from its end on where the place is behind that
 pub from_min : {X : Type 0} (n : ℕ) (xs : List X) → drop (min n (length xs)) xs ≡ drop n xs

@@ -1,18 +1,11 @@
 -- The first element of a list that has a fault, as a loop finds it.
 use Rattle.std.proofs.Common.{refl, sym, ap, subst, ◌∙◌, inl, ◌≡◌, ℕ, ◌+◌, ◌<◌, ◌≤◌, List, [], ◌∷◌, length, drop, get_or, Option, Some, None, option_map}
 use Rattle.std.specs.Option.{option_map_or}
-use Rattle.std.proofs.lemmas.List.{drop_all, drop_more}
-use Rattle.std.proofs.lemmas.Option.{none-some}
-use Rattle.c_interface.specs.Faults.{first_of}
-use Rattle.c_interface.specs.declared.fault.CallFault.{CallFault}
+use Rattle.std.proofs.{lemmas.List.drop_all, lemmas.List.drop_more, lemmas.Option.none-some}
+use Rattle.c_interface.specs.{Faults.first_of, declared.fault.CallFault.CallFault, declared.fault.CallFault.TheVariants.NoMemory}
 use Rattle.single_router.specs.Openings.{first_fault_in}
 use Rattle.network_calls.specs.Parts.{attachment_parts_fault, first_place, link_fault, list_fault, failure_in_list, IsOpeningFault}
-use Rattle.network_calls.specs.declared.failure.Failure.{Failure}
-use Rattle.network_calls.specs.declared.failure.Failure.TheVariants.{Given}
-use Rattle.c_interface.specs.declared.fault.CallFault.TheVariants.{NoMemory}
-use Rattle.network_calls.specs.declared.parts.LinkParts.{LinkParts}
-use Rattle.network_calls.specs.declared.parts.AttachmentParts.{AttachmentParts}
-use Rattle.network_calls.specs.declared.parts.FaultPlace.{FaultPlace}
+use Rattle.network_calls.specs.{declared.failure.Failure.Failure, declared.failure.Failure.TheVariants.Given, declared.parts.LinkParts.LinkParts, declared.parts.AttachmentParts.AttachmentParts, declared.parts.FaultPlace.FaultPlace}
 
 module _ {X : Type 0} (fault : X → Option CallFault) (xs : List X) (i : ℕ) (x : X) (within : i < length xs) (read : x ≡ get_or xs i x) where
   here : first_place fault i (drop i xs) ≡ option_map_or (λ f. Some (f, i)) (fault x) (first_place fault (i + 1) (drop (i + 1) xs))

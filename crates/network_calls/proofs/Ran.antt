@@ -7,11 +7,7 @@ use Rattle.world.proofs.Runs.{with_last_step}
 use Rattle.simulation.specs.Simulation.{Simulation, after_step, after_steps, simulation_refusal}
 use Rattle.simulation.proofs.Simulations.{after_push}
 use Rattle.network_calls.specs.Calls.{running_fault, IsDoneOrFails, IsRanTo, StepNeedsMemory, StopsBy}
-use Rattle.network_calls.specs.Steps.{parts_of_step_fault, step_of}
-use Rattle.network_calls.specs.declared.failure.Failure.{Failure}
-use Rattle.network_calls.specs.declared.failure.Failure.TheVariants.{Given, Refused}
-use Rattle.network_calls.specs.declared.running.Going.TheVariants.{BySteps}
-use Rattle.network_calls.specs.declared.step.StepParts.{StepParts}
+use Rattle.network_calls.specs.{Steps.parts_of_step_fault, Steps.step_of, declared.failure.Failure.Failure, declared.failure.Failure.TheVariants.Given, declared.failure.Failure.TheVariants.Refused, declared.running.Going.TheVariants.BySteps, declared.step.StepParts.StepParts}
 
 -- nothing done
 pub ran_none : (parts : List StepParts) (s : Simulation) → IsRanTo parts s s 0

@@ -2,9 +2,7 @@
 use Rattle.std.proofs.Common.{refl, ◌≡◌, true}
 use Rattle.std.proofs.lemmas.Bool.{and_parts, and_from, eqb-true, eq-eqb}
 use Rattle.network_model.specs.contracts.route.EntryPartialEq.TheImpl as DerivedEq
-use Rattle.network_model.specs.declared.route.Entry.{Entry}
-use Rattle.network_model.specs.declared.route.Entry.TheVariants.{Local, Via, Unreachable}
-use Rattle.network_model.specs.Step.{entry_eq}
+use Rattle.network_model.specs.{declared.route.Entry.Entry, declared.route.Entry.TheVariants.Local, declared.route.Entry.TheVariants.Via, declared.route.Entry.TheVariants.Unreachable, Step.entry_eq}
 
 -- an entry is equal to itself by the test
 pub entry_eq-refl : (e : Entry) → entry_eq e e ≡ true

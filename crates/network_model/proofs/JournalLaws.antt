@@ -4,8 +4,7 @@ use Rattle.std.specs.List.{AllByRecursion}
 use Rattle.network_model.specs.declared.step.Step.{Step}
 use Rattle.network_model.specs.declared.step.Step.TheVariants.{LinkUp, LinkDown, SetCost, Deliver, Publish, Release, Attach, Detach}
 use Rattle.network_model.specs.Journal.{Code, IsCode, Fits, packed, step_code, step_number, journal_sum, steps_in_sum, most_steps}
-use Rattle.std.proofs.lemmas.List.Sums.{sum_by-cons}
-use Rattle.std.proofs.lemmas.Nat.{div-mul-add}
+use Rattle.std.proofs.{lemmas.List.Sums.sum_by-cons, lemmas.Nat.div-mul-add}
 
 pub packed_below : (c : Code) → IsCode c → packed c < 2 ^ 84
 packed_below c h = omega (arith, h.kind, h.subject, h.port, h.cost, h.addr, h.len)

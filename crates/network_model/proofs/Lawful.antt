@@ -1,18 +1,11 @@
 -- Lawful steps are those that can be asked and are not refused, and a run that nothing stops is lawful at each step.
 use Rattle.std.proofs.Common.{refl, sym, ap, ◌∙◌, inl, inr, ◌≡◌, ◌⊎◌, Bool, true, false, cond, not, ◌&&◌, if◌then◌else◌, nat_lt, List, [], ◌∷◌, Option, Some, None, is_none, slice_get, option_map, option_and_then}
-use Rattle.std.specs.List.{AllByRecursion}
-use Rattle.std.specs.Option.{option_map_or}
+use Rattle.std.specs.{List.AllByRecursion, Option.option_map_or}
 use Rattle.std.proofs.Math.Bool.{and-false}
 use Rattle.std.proofs.lemmas.Bool.{not-false, ltb-true, lt-ltb, true≢false}
-use Rattle.network_model.specs.declared.item.Item.{Item}
-use Rattle.network_model.specs.declared.item.Notice.{Notice}
-use Rattle.network_model.specs.declared.network.Place.{Place}
-use Rattle.network_model.specs.declared.step.Step.{Step}
+use Rattle.network_model.specs.{declared.item.Item.Item, declared.item.Notice.Notice, declared.network.Place.Place, declared.step.Step.Step, declared.step.Refusal.Refusal, declared.step.Refusal.TheVariants.UnknownLink, declared.step.Refusal.TheVariants.NothingToDeliver, Network.first_cause}
 use Rattle.network_model.specs.declared.step.Step.TheVariants.{LinkUp, LinkDown, SetCost, Deliver, Publish, Release, Attach, Detach}
-use Rattle.network_model.specs.declared.step.Refusal.{Refusal}
-use Rattle.network_model.specs.declared.step.Refusal.TheVariants.{UnknownLink, NothingToDeliver}
 use Rattle.network_model.specs.World.{Link, World, link_at, place_at, side, attachment_at}
-use Rattle.network_model.specs.Network.{first_cause}
 use Rattle.network_model.specs.Step.{Lawful, CanBeAsked, next, refusal, causes, is_up, is_due, last_session, front_at, release_at, is_at_home, notice_at}
 use Rattle.network_model.specs.Run.{Runs, Ran, run, stopped_at, one_more}
 use Rattle.network_model.proofs.ListLaws.{None_not_Some}

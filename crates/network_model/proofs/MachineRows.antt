@@ -1,9 +1,7 @@
 -- One machine at work: two ports that are up at cost 1, and what each event gives.
 use Rattle.std.proofs.Common.{refl, ◌≡◌, ℕ, Bool, true, false, List, [], ◌∷◌, Option, Some, None, map, option_and_then}
 use Rattle.std.specs.Option.{option_map_or}
-use Rattle.metric.specs.Distance.{infinity}
-use Rattle.metric.specs.declared.kind.Kind.{Kind}
-use Rattle.metric.specs.declared.kind.Kind.TheVariants.{Update, Query, Reply}
+use Rattle.metric.specs.{Distance.infinity, declared.kind.Kind.Kind, declared.kind.Kind.TheVariants.Update, declared.kind.Kind.TheVariants.Query, declared.kind.Kind.TheVariants.Reply}
 use Rattle.network_model.specs.declared.machine.Event.{Event}
 use Rattle.network_model.specs.declared.machine.Event.TheVariants.{Message, Up, Down, Cost, Attached, Detached}
 use Rattle.network_model.specs.Machine.{Machine, Reaction, reaction, opening_machine, machine_after}

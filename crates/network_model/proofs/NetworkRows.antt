@@ -1,30 +1,15 @@
 -- Networks of two to four routers at work: worked examples, each with the steps that it takes shown to be lawful.
 use Rattle.std.proofs.Common.{refl, ◌≡◌, ℕ, zero, suc, ◌+◌, ◌*◌, ◌^◌, Bool, true, false, if◌then◌else◌, List, [], ◌∷◌, ◌++◌, Option, Some, None, map, length, option_map, option_and_then, slice_get, is_some, is_none}
 use Rattle.std.specs.FinMap.{find as row_of}
-use Rattle.metric.specs.Distance.{infinity}
-use Rattle.metric.specs.declared.kind.Kind.TheVariants.{Update}
+use Rattle.metric.specs.{Distance.infinity, declared.kind.Kind.TheVariants.Update}
 use Rattle.ipv4_prefix.specs.Prefix.{Prefix, prefix_cmp}
-use Rattle.network_model.specs.declared.route.Entry.{Entry}
-use Rattle.network_model.specs.declared.route.Entry.TheVariants.{Local, Via}
-use Rattle.network_model.specs.declared.network.End.TheVariants.{A, B}
-use Rattle.network_model.specs.declared.network.Limits.{Limits}
-use Rattle.network_model.specs.declared.network.LinkSpec.{LinkSpec}
+use Rattle.network_model.specs.{declared.route.Entry.Entry, declared.route.Entry.TheVariants.Local, declared.route.Entry.TheVariants.Via, declared.network.End.TheVariants.A, declared.network.End.TheVariants.B, declared.network.Limits.Limits, declared.network.LinkSpec.LinkSpec, declared.step.Step.Step, declared.step.Refusal.Refusal, declared.trace.Ending.Ending, declared.trace.Ending.TheVariants.Delivered, declared.trace.Ending.TheVariants.DeadLink, declared.trace.Ending.TheVariants.Crossed, Machine.Machine, Network.network_fault, Network.program_limits, Network.widest_limits, Step.entry_of, Step.refusal, Step.next, Run.History, Run.history, Run.run, Turns.settling_steps, Turns.is_settled, Journal.step_number, Journal.journal_sum, Journal.steps_in_sum}
 use Rattle.network_model.specs.declared.network.NetworkFault.TheVariants.{BadRouters, BadLink, TooManyLinks, BadOwner}
-use Rattle.network_model.specs.declared.step.Step.{Step}
 use Rattle.network_model.specs.declared.step.Step.TheVariants.{LinkUp, LinkDown, SetCost, Deliver, Publish, Release, Attach, Detach}
-use Rattle.network_model.specs.declared.step.Refusal.{Refusal}
 use Rattle.network_model.specs.declared.step.Refusal.TheVariants.{AlreadyUp, IsDown, NothingToDeliver, NothingDue, NothingRipe, UnknownRouter, UnknownLink, UnknownPrefix, NotAttached}
-use Rattle.network_model.specs.declared.trace.Ending.{Ending}
-use Rattle.network_model.specs.declared.trace.Ending.TheVariants.{Delivered, DeadLink, Crossed}
-use Rattle.network_model.specs.Machine.{Machine}
 use Rattle.network_model.specs.World.{World, Network, Link, Router, opening, attachment_at}
-use Rattle.network_model.specs.Network.{network_fault, program_limits, widest_limits}
-use Rattle.network_model.specs.Step.{entry_of, refusal, next}
-use Rattle.network_model.specs.Run.{History, history, run}
-use Rattle.network_model.specs.Turns.{settling_steps, is_settled}
 use Rattle.network_model.specs.Forwarding.{Trace, trace, row_for, hop, is_quiet, walk_cost, IsWalkHome}
 use Rattle.network_model.specs.View.{SeenItem, Reported, State, at_port, destination_view}
-use Rattle.network_model.specs.Journal.{step_number, journal_sum, steps_in_sum}
 
 -- ---- scripts
 

@@ -1,11 +1,7 @@
 -- The port of a place: which of a router's ports lies at an end of a link.
 use Rattle.std.proofs.Common.{refl, sym, ap, subst, arith, ◌≡◌, ℕ, zero, suc, ◌+◌, Bool, true, false, ◌==◌, if◌then◌else◌, List, ◌∷◌, [], Some, None, slice_get, option_map, eqb-true}
 use Rattle.std.specs.List.{cons_option}
-use Rattle.network_model.specs.declared.network.End.{End}
-use Rattle.network_model.specs.declared.network.End.TheVariants.{A, B}
-use Rattle.network_model.specs.declared.network.LinkSpec.{LinkSpec}
-use Rattle.network_model.specs.declared.network.Place.{Place}
-use Rattle.network_model.specs.World.{places_from, router_end}
+use Rattle.network_model.specs.{declared.network.End.End, declared.network.End.TheVariants.A, declared.network.End.TheVariants.B, declared.network.LinkSpec.LinkSpec, declared.network.Place.Place, World.places_from, World.router_end}
 use Rattle.network_model.proofs.ListLaws.{Some_injective, None_not_Some}
 
 -- one port for a link that ends at the router

@@ -1,12 +1,10 @@
 -- A machine keeps the records that an event leaves, and the attachment.
 use Rattle.std.proofs.Common.{refl, ◌≡◌, ℕ, Bool, true, false, if◌then◌else◌, List, Option, Some, None, map, []}
 use Rattle.std.specs.List.{list_any}
-use Rattle.metric.specs.declared.kind.Kind.TheVariants.{Reply, Query}
-use Rattle.network_model.specs.declared.machine.Event.{Event}
+use Rattle.metric.specs.{declared.kind.Kind.TheVariants.Reply, declared.kind.Kind.TheVariants.Query, Distance.infinity}
+use Rattle.network_model.specs.{declared.machine.Event.Event, declared.machine.Outgoing.Outgoing}
 use Rattle.network_model.specs.declared.machine.Event.TheVariants.{Message, Up, Down, Cost, Attached, Detached}
-use Rattle.network_model.specs.declared.machine.Outgoing.{Outgoing}
 use Rattle.network_model.specs.Machine.{Machine, Computation, Reaction, condition_holds, is_port, via_successor, one_to, with_records, asker, passive_result, new_computation, with_first, started_computation, passive_reaction, completion, awaited_after, debt_after, answers_at_once, active_reaction, decision, reaction, all_from, ways}
-use Rattle.metric.specs.Distance.{infinity}
 use Rattle.network_model.proofs.ListLaws.{option_map_or-ind}
 
 -- a reaction that leaves the records as the event left them, and the attachment

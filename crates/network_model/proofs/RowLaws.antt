@@ -1,18 +1,11 @@
 -- Rows in the order of their keys: a key before all of them, values that are changed, and a row that is put.
 use Rattle.std.proofs.Common.{◌++◌, sym, append_assoc, ◌≡◌, true, false, cond, ◌&&◌, List, [], ◌∷◌, map, Some, None, refl, ap, ◌∙◌, append-nil}
-use Rattle.std.specs.declared.cmp.Ordering.{Ordering}
-use Rattle.std.specs.declared.cmp.Ordering.TheVariants.{Less, Equal, Greater}
-use Rattle.std.specs.FinMap.{find, put, is_sorted}
-use Rattle.std.specs.FinMap.Entries.{below_all, by_order, is_sorted-put}
-use Rattle.std.specs.Option.{option_map}
+use Rattle.std.specs.{declared.cmp.Ordering.Ordering, declared.cmp.Ordering.TheVariants.Less, declared.cmp.Ordering.TheVariants.Equal, declared.cmp.Ordering.TheVariants.Greater, FinMap.find, FinMap.put, FinMap.is_sorted, FinMap.Entries.below_all, FinMap.Entries.by_order, FinMap.Entries.is_sorted-put, Option.option_map}
 use Rattle.std.specs.Ordering.{is_eq, is_lt, eq_by_cmp, ordering_reverse}
 use Rattle.std.proofs.lemmas.Bool.{and_parts}
 use Rattle.ipv4_prefix.specs.Prefix.{Prefix, prefix_cmp}
-use Rattle.ipv4_prefix.proofs.SortedRows.{to_T, from_T}
-use Rattle.ipv4_prefix.proofs.PrefixOrder.{prefix_cmp_total, less_from_test}
-use Rattle.network_model.specs.declared.route.Entry.{Entry}
-use Rattle.network_model.specs.World.{rows_of}
-use Rattle.network_model.specs.Publication.{with_rows}
+use Rattle.ipv4_prefix.proofs.{SortedRows.to_T, SortedRows.from_T, PrefixOrder.prefix_cmp_total, PrefixOrder.less_from_test}
+use Rattle.network_model.specs.{declared.route.Entry.Entry, World.rows_of, Publication.with_rows}
 
 -- ---- in any order
 

@@ -1,9 +1,6 @@
 -- What a change of one part of a world leaves of the others.
 use Rattle.std.proofs.Common.{refl, ◌≡◌, ℕ}
-use Rattle.network_model.specs.declared.network.End.{End}
-use Rattle.network_model.specs.Machine.{changed_at}
-use Rattle.network_model.specs.World.{Link, World, place_at}
-use Rattle.network_model.specs.Step.{changed_link}
+use Rattle.network_model.specs.{declared.network.End.End, Machine.changed_at, World.Link, World.World, World.place_at, Step.changed_link}
 use Rattle.network_model.proofs.ListLaws.{option_map_or-ind}
 
 -- a change of the link at a port leaves the routers

@@ -2,10 +2,8 @@
 use Rattle.std.proofs.Common.{refl, sym, ap, ◌∙◌, arith, length-append, ◌≡◌, ◌≢◌, ℕ, ◌<◌, true, false, List, [], ◌++◌, length, Some, None, slice_get, option_map, get_or}
 use Rattle.no_packet_loops.proofs.Common.{option_map_or, slice_get-get_or, Prefix, prefix_cmp, prefix_eq, Machine, reaction, reactions, changed_at, Neighbour, Event, Outgoing, Message, Held, Port, Router, Network, machine_of, session_at, with_machines, router_noticing, router_meeting, router_told, length-changed_at, slice_get-changed_at, slice_get-changed_at_other, sent_to, machine_laws, event_of, seen_after, held_for, SeenItem, Reported, at_port, msg_of, kept, lay, is_sorted, ports_length as records_length}
 use Rattle.loop_freedom.proofs.Ports.{ports_length}
-use Rattle.no_packet_loops.proofs.View.{kept-append}
-use Rattle.no_packet_loops.proofs.Machines.{StaysOpened, sent}
+use Rattle.no_packet_loops.proofs.{View.kept-append, Machines.StaysOpened, Machines.sent, Kept.RouterKept}
 use Rattle.no_packet_loops.proofs.Reacting.{MetKeeping, UnmovedKeeping, machines', machine_noticed, sorted_noticed, sends_noticed, met_notice, rows, more, sorted_met, machine_met, sends_met, met_here, machine_apart, sends_apart, unmoved_apart}
-use Rattle.no_packet_loops.proofs.Kept.{RouterKept}
 
 -- nothing is sent to a port that is not there
 abbrev pub Silent : Network → ℕ → List Outgoing → Type 0

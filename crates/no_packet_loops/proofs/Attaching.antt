@@ -1,8 +1,7 @@
 -- A router that is attached to a prefix, or no longer is, leaves the view as it was until it takes the notice.
 use Rattle.std.proofs.Common.{refl, sym, ap, subst, ◌∙◌, ◌≡◌, ℕ, zero, suc, Bool, true, false, not, cond, if◌then◌else◌, List, [], ◌∷◌, ◌++◌, Option, Some, None, slice_get}
 use Rattle.no_packet_loops.proofs.Common.{find-put, find-where_key, where_key, Prefix, prefix_cmp, prefix_eq, prefix_cmp_total, IsCost, changed_at, Notice, Attach, Detach, Router, Attachments, World, Network, machine_of, next, with_attachment, without_attachment, Some_injective, None_not_Some, Skips, Equal, is_eq, find as row_of, put}
-use Rattle.no_packet_loops.proofs.Wiring.{IsWired}
-use Rattle.no_packet_loops.proofs.Machines.{prefix_same}
+use Rattle.no_packet_loops.proofs.{Wiring.IsWired, Machines.prefix_same}
 use Rattle.no_packet_loops.proofs.Kept.{AttachmentsKept, WorldKept, StepKept, attachment_then, each_changed}
 
 -- a notice at the back is taken last

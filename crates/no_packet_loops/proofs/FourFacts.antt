@@ -2,9 +2,8 @@
 use Rattle.std.proofs.Common.{sym, ap, subst, ◌∙◌, ◌≡◌, is_some, List, Some}
 use Rattle.no_packet_loops.proofs.Common.{option_map_or, Prefix, Place, Router, World, Network, History, history, LinkEnd, lay, view, LinkFacts, end_towards, end_at, facts_kept}
 use Rattle.no_packet_loops.specs.LinkEnds.{across, HasFourFacts, FourFactsAlwaysHold}
-use Rattle.no_packet_loops.proofs.Wiring.{IsWired, wired}
+use Rattle.no_packet_loops.proofs.{Wiring.IsWired, Wiring.wired, Runs.Reached, Runs.reached, Runs.history_world}
 use Rattle.no_packet_loops.proofs.Places.{far, spot, laid, far_far, topology}
-use Rattle.no_packet_loops.proofs.Runs.{Reached, reached, history_world}
 
 module _ (n : Network) (N : IsWired n) (p : Prefix) (w : World) (rs : List Router) (R : Reached n N p w rs) where
   -- the link end that lies across is the far one

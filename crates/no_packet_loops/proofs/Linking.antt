@@ -2,8 +2,7 @@
 use Rattle.std.proofs.Common.{refl, ap, ◌∙◌, arith, ◌≡◌, ℕ, ◌+◌, ◌≤◌, true, false, List, [], ◌∷◌, ◌++◌, Some, is_some, slice_get, filter}
 use Rattle.no_packet_loops.proofs.Common.{Prefix, changed_at, Item, End, A, B, Side, Link, World, Network, side, Place, next, link_come_up, link_gone_down, with_cost, is_notice, place_of, LinkEnd, SeenItem, UpNotice, DownNotice, CostNotice, view, heard, inbox_of, lay, LinkUp, LinkDown}
 use Rattle.loop_freedom.specs.Network.{LinkComes, LinkGoes, CostChanges, LinkUp as NetLinkUp, LinkDown as NetLinkDown, SetCost as NetSetCost, IsEnd, notices}
-use Rattle.no_packet_loops.proofs.Wiring.{IsWired}
-use Rattle.no_packet_loops.proofs.Places.{spot, lay-spot, topology}
+use Rattle.no_packet_loops.proofs.{Wiring.IsWired, Places.spot, Places.lay-spot, Places.topology}
 use Rattle.no_packet_loops.proofs.View.{heard-append, heard-notices, on_link-there, on_link-hit, on_link-miss, on_link-same}
 use Rattle.no_packet_loops.proofs.Kept.{WorldKept, StepKept, with_links, changed_side-ends, changed_beside, up_beside, session_beside, specified, on_link, off_link, other_end}
 

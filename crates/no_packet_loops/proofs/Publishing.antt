@@ -2,8 +2,7 @@
 use Rattle.std.proofs.Common.{refl, sym, ap, subst, ◌∙◌, arith, take_all, take-append-drop, ◌≡◌, ℕ, Bool, true, false, ◌==◌, if◌then◌else◌, List, [], ◌++◌, length, Option, Some, None, slice_get, option_map, option_and_then, unwrap_or, eq-eqb, ne_eqb}
 use Rattle.no_packet_loops.proofs.Common.{option_map_or, drop_all, Prefix, prefix_cmp, Machine, opening_machine, port_count, port_successor, Entry, Port, Router, World, Network, machine_of, neighbours, next, router_publishing, entry_of, session_at, chosen_rows, Some_injective, None_not_Some, NextHop, slice_get-changed_at, Invariant, find-map, sorted-map, LinkEnd, State, at_port, next_hop, kept, ripe_of, unripe_of, next_hop_at, view, find as row_of, is_sorted, Publish}
 use Rattle.loop_freedom.specs.Network.{Publish as NetPublish, Publishes, next_hop_of}
-use Rattle.no_packet_loops.proofs.Wiring.{IsWired}
-use Rattle.no_packet_loops.proofs.Places.{topology}
+use Rattle.no_packet_loops.proofs.{Wiring.IsWired, Places.topology}
 use Rattle.no_packet_loops.proofs.View.{kept-append, on_router-there, on_router-miss, on_router-same}
 use Rattle.no_packet_loops.proofs.Kept.{RouterKept, WorldKept, StepKept, with_router}
 

@@ -1,8 +1,7 @@
 -- A router that is quiet: its machines are passive, it holds nothing, and its published rows are those of its machines.
 use Rattle.std.proofs.Common.{refl, sym, ap, ◌∙◌, arith, ◌≡◌, ℕ, zero, suc, ◌≤◌, Bool, true, false, cond, not, ◌&&◌, ◌||◌, ◌==◌, nat_lt, if◌then◌else◌, List, [], ◌∷◌, length, take, drop, filter, Option, Some, None, slice_get, option_map, unwrap_or, is_none, is_some, eq-eqb, ltb-false, lt-ltb}
 use Rattle.no_packet_loops.proofs.Common.{list_all, option_map_or, take-nil, drop-nil, and_from, and_parts, false≢true, tied_itself, below_all, Prefix, prefix_cmp, prefix_eq, prefix_cmp_total, Machine, Computation, opening_machine, port_count, Entry, Local, Via, Unreachable, Held, Port, Router, machine_of, neighbours, entry_eq, has_row, changed_rows, chosen_rows, entry_of, session_at, is_due, ripe_front, is_empty, is_quiet_router, entry_from_eq, Some_injective, None_not_Some, is_active, find_below, ripe_of, unripe_of, find as row_of, is_sorted, is_eq}
-use Rattle.no_packet_loops.proofs.Machines.{prefix_same}
-use Rattle.no_packet_loops.proofs.Publishing.{control_row}
+use Rattle.no_packet_loops.proofs.{Machines.prefix_same, Publishing.control_row}
 
 -- ---- lists
 

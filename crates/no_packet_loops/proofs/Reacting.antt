@@ -1,8 +1,7 @@
 -- What a router does with an event, as one prefix sees it, whatever else the router keeps.
 use Rattle.std.proofs.Common.{refl, sym, ap, ◌∙◌, ◌≡◌, ℕ, ◌≤◌, Bool, true, false, cond, List, [], ◌++◌, map, length, Option, Some, None, option_map, unwrap_or, append-nil}
 use Rattle.no_packet_loops.proofs.Common.{option_map_or, None_not_Some, take-append-le, drop-append-le, Prefix, prefix_cmp, prefix_eq, Machine, Reaction, reaction, opening_machine, changed_at, Event, Held, Port, Router, neighbours, machine_of, session_at, held_of, with_machines, reactions, router_noticing, router_meeting, prefix_cmp_total, sent_to, held_for, find-map, sorted-map, sorted-put, kept, ripe_of, unripe_of, find as row_of, put, find-put, is_sorted}
-use Rattle.no_packet_loops.proofs.WorldLaws.{row_of-put_other}
-use Rattle.no_packet_loops.proofs.View.{kept-append, kept-sent, kept-other}
+use Rattle.no_packet_loops.proofs.{WorldLaws.row_of-put_other, View.kept-append, View.kept-sent, View.kept-other}
 use Rattle.no_packet_loops.proofs.Machines.{StaysOpened, prefix_same, sent, kept_reactions}
 
 -- from r to r' the machine of the prefix meets the event, what it sends is held unripe, and what is published stays.

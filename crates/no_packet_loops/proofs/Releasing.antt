@@ -2,9 +2,8 @@
 use Rattle.std.proofs.Common.{refl, sym, ap, subst, ◌∙◌, arith, inl, inr, ◌≡◌, ℕ, zero, suc, ◌-◌, Bool, true, false, ◌&&◌, ◌==◌, nat_lt, if◌then◌else◌, List, [], ◌∷◌, ◌++◌, take, drop, Some, None, is_some, slice_get, option_map, eq-eqb, ne_eqb, append-nil, length-drop}
 use Rattle.no_packet_loops.proofs.Common.{cases_eq, and_from, and_left, and_right, Prefix, prefix_eq, changed_at, opening_machine, Item, Held, End, A, B, Side, Link, Router, World, Network, other, side, machine_of, Place, session_at, changed_side, with_item, with_message, router_releasing, ripe_front, Some_injective, None_not_Some, slice_get-changed_at, LinkEnd, State, Reported, at_port, msg_of, held_as, heard, inbox_of, is_kept, kept, ripe_of, unripe_of, next_hop_at, view, lay, eqb_sym, Releases, Skips, SameLinks, SameCosts, SameMachines, SamePublished, arriving}
 use Rattle.loop_freedom.specs.Network.{Release as NetRelease, Skip}
-use Rattle.no_packet_loops.proofs.Wiring.{IsWired}
+use Rattle.no_packet_loops.proofs.{Wiring.IsWired, Places.far, Places.far_laid, Places.topology}
 use Rattle.no_packet_loops.specs.LinkEnds.{across}
-use Rattle.no_packet_loops.proofs.Places.{far, far_laid, topology}
 use Rattle.no_packet_loops.proofs.View.{heard-append, on_link-there, on_link-hit, on_link-same, on_router-there, on_router-miss, on_router-same}
 use Rattle.no_packet_loops.proofs.Kept.{ends, RouterKept, WorldKept, StepKept, with_links, with_router, changed_side-ends, changed_beside, changed_here, up_beside, session_beside, other_end}
 

@@ -1,18 +1,7 @@
 -- Every run of a network is a run of the view, which shows the feasible distances that were published last.
 use Rattle.std.proofs.Common.{refl, sym, ap, subst, ◌∙◌, arith, inl, inr, length-set, ◌<◌, zero, suc, length, slice_set, if◌then◌else◌, ◌==◌, false, ◌≡◌, ℕ, ◌≤◌, true, List, [], ◌∷◌, Option, Some, None, slice_get, option_map, option_and_then, ◌⊎◌, eq-eqb, eqb-true, ne_eqb}
 use Rattle.no_packet_loops.proofs.Common.{option_map_or, cases_eq, false≢true, slice_get_within, Prefix, Machine, opening_machine, changed_at, infinity, machine_of, Link, Router, Attachments, World, Network, side, place_at, places_from, link_at, opening, Item, Held, Notice, Place, Lawful, next, with_cost, with_front_taken, with_message, router_releasing, with_delivered, with_noticed, with_released, router_accepting, front_at, notice_at, is_at_home, release_at, ripe_front, changed_router, Runs, History, history_from, published_after, with_step, with_steps, history, option_map_or-ind, None_not_Some, listed_within, at_home_there, at_port, view, lay, fd_in, machine_laws, Run, Start, Then, Invariant, opening_keeps, steps_keep, Step, LinkUp, LinkDown, SetCost, Deliver, Publish, Release, Attach, Detach}
-use Rattle.no_packet_loops.proofs.WorldLaws.{next-shape}
-use Rattle.no_packet_loops.proofs.Wiring.{IsWired}
-use Rattle.no_packet_loops.proofs.Places.{topology, laid}
-use Rattle.no_packet_loops.proofs.View.{on_router-there}
-use Rattle.no_packet_loops.proofs.Kept.{WorldKept, StepKept, linked}
-use Rattle.no_packet_loops.proofs.Linking.{link_up, link_down, cost_set_at}
-use Rattle.no_packet_loops.proofs.Taking.{takes_item}
-use Rattle.no_packet_loops.proofs.TakingAtHome.{takes_notice}
-use Rattle.no_packet_loops.proofs.Attaching.{attaches, detaches}
-use Rattle.no_packet_loops.proofs.Publishing.{publishes}
-use Rattle.no_packet_loops.proofs.Releasing.{front_of, releases_there, releases_nowhere}
-use Rattle.no_packet_loops.proofs.Opened.{first_fd, opening_kept, opening_view}
+use Rattle.no_packet_loops.proofs.{WorldLaws.next-shape, Wiring.IsWired, Places.topology, Places.laid, View.on_router-there, Kept.WorldKept, Kept.StepKept, Kept.linked, Linking.link_up, Linking.link_down, Linking.cost_set_at, Taking.takes_item, TakingAtHome.takes_notice, Attaching.attaches, Attaching.detaches, Publishing.publishes, Releasing.front_of, Releasing.releases_there, Releasing.releases_nowhere, Opened.first_fd, Opened.opening_kept, Opened.opening_view}
 
 -- the place of a router's port in a world is that in its network
 pub place_is : (n : Network) (p : Prefix) (w : World) → WorldKept n p w → (i q : ℕ) → place_at w i q ≡ lay n (at_port i q)

@@ -1,10 +1,8 @@
 -- A router that takes an item takes it in the view too, or nothing of the prefix changes.
 use Rattle.std.proofs.Common.{refl, sym, ap, subst, ◌∙◌, arith, inl, inr, ◌≡◌, ℕ, zero, suc, ◌<◌, Bool, true, false, List, [], ◌∷◌, ◌++◌, length, drop, Option, Some, None, is_some, slice_get, option_map, option_and_then}
 use Rattle.no_packet_loops.proofs.Common.{option_map_or, cases_eq, false≢true, slice_get_within, Prefix, prefix_cmp, prefix_eq, Machine, reaction, changed_at, opening_machine, attachment_after, Neighbour, Event, Item, Message, Entry, End, Side, Link, Router, World, Network, side, machine_of, places_from, Place, Port, router_accepting, with_front_taken, session_at, Some_injective, None_not_Some, slice_get-changed_at, listed_at, LinkEnd, State, SeenItem, UpNotice, DownNotice, CostNotice, Reported, at_port, msg_of, next_hop, heard, heard_item, inbox_of, kept, ripe_of, unripe_of, next_hop_at, view, lay, Meets, IsSound, is_up_at, test_at, sent_to, machine_laws, Takes, Skips, event_of, seen_after, held_for, SameLinks, SameCosts, none_sent, IsLawfulInbox, meets_item, place_cases, Invariant, find as row_of, Take as NetTake, Skip, ports_length as records_length}
-use Rattle.no_packet_loops.proofs.Wiring.{IsWired}
-use Rattle.no_packet_loops.proofs.Places.{laid, topology}
+use Rattle.no_packet_loops.proofs.{Wiring.IsWired, Places.laid, Places.topology, Machines.up_opened, Machines.down_opened, Machines.cost_opened}
 use Rattle.no_packet_loops.proofs.View.{on_link-there, on_link-hit, on_link-same, on_router-there, on_router-miss, on_router-same}
-use Rattle.no_packet_loops.proofs.Machines.{up_opened, down_opened, cost_opened}
 use Rattle.no_packet_loops.proofs.Kept.{RouterKept, WorldKept, StepKept, with_links, with_router, changed_side-ends, changed_beside, changed_here, up_beside, session_beside, other_end}
 use Rattle.no_packet_loops.proofs.Accepting.{Silent, Reacted, Unmoved, reacts_to_notice, reacts_to_message, unmoved_by_message}
 

@@ -1,12 +1,9 @@
 -- A router that takes a notice of its attachment takes it in the view too, or nothing of the prefix changes.
 use Rattle.std.proofs.Common.{refl, sym, ap, subst, ◌∙◌, ◌≡◌, ℕ, suc, ◌<◌, Bool, true, false, if◌then◌else◌, List, [], ◌∷◌, ◌++◌, drop, Option, Some, None, slice_get, option_map, option_and_then}
 use Rattle.no_packet_loops.proofs.Common.{option_map_or, Prefix, prefix_cmp, prefix_eq, IsCost, Machine, reaction, changed_at, opening_machine, attachment_after, event_at_home, Event, Notice, Entry, Router, Attachments, World, Network, machine_of, router_at_home, with_notice_taken, session_at, Some_injective, None_not_Some, slice_get-changed_at, slice_get-changed_at_other, LinkEnd, State, next_hop, kept, ripe_of, unripe_of, next_hop_at, view, IsSound, sent_to, machine_laws, TakesAtHome, Skips, held_for, meets_home, Invariant, find as row_of}
-use Rattle.no_packet_loops.proofs.Wiring.{IsWired}
-use Rattle.no_packet_loops.proofs.Places.{topology}
-use Rattle.no_packet_loops.proofs.View.{on_router-there, on_router-miss, on_router-same}
+use Rattle.no_packet_loops.proofs.{Wiring.IsWired, Places.topology, View.on_router-there, View.on_router-miss, View.on_router-same, Taking.silent_to_none}
 use Rattle.no_packet_loops.proofs.Kept.{RouterKept, AttachmentsKept, WorldKept, StepKept, attachment_then, each_changed}
 use Rattle.no_packet_loops.proofs.Accepting.{Met, Unmoved, meets_here, unmoved_elsewhere}
-use Rattle.no_packet_loops.proofs.Taking.{silent_to_none}
 
 -- a list whose first notice is x is x, and then the rest
 front_notice : (x : Notice) (xs : List Notice) → slice_get xs 0 ≡ Some x → xs ≡ x ∷ drop 1 xs

@@ -2,12 +2,8 @@
 use Rattle.std.proofs.Common.{refl, sym, ap, subst, ◌∙◌, arith, inl, inr, eqb, ◌≡◌, ℕ, zero, suc, ◌<◌, ◌≤◌, Bool, true, false, not, ◌==◌, if◌then◌else◌, List, [], ◌∷◌, length, Option, Some, None, IsSome, eqb-true}
 use Rattle.no_packet_loops.proofs.Common.{⊤, list_any, AllByRecursion, length-le_from_distinct_below, or_parts, or_cases, false≢true, length-map-range_with_len, Prefix, prefix_eq, Entry, Local, Via, Unreachable, Ending, World, opening, row_for, entry_leads, IsForwarded, IsPacketWalk, Onward, Ends, Goes, over_link, by_entry, by_row, onward, Trace, traced_by, trace_from, trace, Some_injective, None_not_Some, history, is_met, meets_twice}
 use Rattle.std.specs.List.{IsDistinct}
-use Rattle.no_packet_loops.proofs.Wiring.{wired}
-use Rattle.no_packet_loops.proofs.WorldLaws.{Runs-shape}
+use Rattle.no_packet_loops.proofs.{Wiring.wired, WorldLaws.Runs-shape, Machines.prefix_same, Runs.reached, Walks.leads_known, Walks.always_packets_free}
 use Rattle.no_packet_loops.specs.Packets.{HoldsInEveryWorld, NoPacketLoops, TracesEnd}
-use Rattle.no_packet_loops.proofs.Machines.{prefix_same}
-use Rattle.no_packet_loops.proofs.Runs.{reached}
-use Rattle.no_packet_loops.proofs.Walks.{leads_known, always_packets_free}
 
 -- ---- of more routers than there are, one is met twice
 

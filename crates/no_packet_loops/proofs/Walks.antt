@@ -2,15 +2,9 @@
 use Rattle.std.proofs.Common.{refl, sym, ap, subst, ◌∙◌, inl, inr, arith, ◌<◌, ◌≡◌, ◌⊎◌, ℕ, Bool, true, false, cond, ◌&&◌, ◌==◌, nat_lt, if◌then◌else◌, List, [], ◌∷◌, Option, Some, None, is_some, slice_get, option_map, option_and_then, eqb-true, eq-eqb}
 use Rattle.no_packet_loops.proofs.Common.{⊤, option_map_or, and_parts, false≢true, and_from, Prefix, prefix_cmp, covers, longer_row, longest_match, Machine, opening_machine, port_successor, is_port, port_successor_from, Entry, Via, Link, Side, Router, World, Network, other, side, machine_of, opening, Place, session_at, entry_leads, IsForwarded, IsPacketWalk, Some_injective, None_not_Some, is_up_at, machine_laws, Topology, PublishedEdge, ControlEdge, IsEdgeWalk, met, meets_twice, next_hop_of, always_mixed, router_end, history, LinkEnd, State, NextHop, at_port, next_hop, next_hop_at, view, lay, fd_in, is_next_hop, is_current, find as row_of, is_sorted, below_all}
 use Rattle.no_packet_loops.specs.Packets.{HoldsInEveryWorld, NoPacketLoops, NoMixtureLoops, IsForwardedBy, IsMixtureWalk, published_entry, control_entry, DistancesAlwaysFall}
-use Rattle.no_packet_loops.proofs.Wiring.{IsWired, wired}
+use Rattle.no_packet_loops.proofs.{Wiring.IsWired, Wiring.wired, View.on_link-there, View.on_router-there, Machines.prefix_itself, Kept.specified, Kept.far_is, Publishing.control_hop, Publishing.control_sorted, Publishing.hop_chosen, Quiet.found_later, Opened.first_fd, Opened.opening_view}
 use Rattle.no_packet_loops.specs.LinkEnds.{across}
 use Rattle.no_packet_loops.proofs.Places.{laid, far, far_laid, spot_on, topology}
-use Rattle.no_packet_loops.proofs.View.{on_link-there, on_router-there}
-use Rattle.no_packet_loops.proofs.Machines.{prefix_itself}
-use Rattle.no_packet_loops.proofs.Kept.{specified, far_is}
-use Rattle.no_packet_loops.proofs.Publishing.{control_hop, control_sorted, hop_chosen}
-use Rattle.no_packet_loops.proofs.Quiet.{found_later}
-use Rattle.no_packet_loops.proofs.Opened.{first_fd, opening_view}
 use Rattle.no_packet_loops.proofs.Runs.{Reached, reached, place_is, fd_is, history_world}
 
 -- ---- routers that forward by what they published, or by what they chose since, hop by hop

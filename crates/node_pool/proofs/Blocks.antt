@@ -1,18 +1,10 @@
 -- What taking, giving back and growing a block leave in a pool.
 use Rattle.std.proofs.Common.{ℕ, ◌≡◌, ◌⊎◌, inl, inr, ⊎_elim, ◌+◌, ◌-◌, ◌<◌, ◌≤◌, List, length, get_or, set, replicate, Option, Some, None, is_some, Bool, true, false, arith, refl, sym, ap, subst, ◌∙◌, if◌then◌else◌}
-use Rattle.std.proofs.Math.Logic.{∥∥₁_elim, ∥∥₁_map}
-use Rattle.std.specs.Coded.{le_prop}
-use Rattle.std.proofs.Math.Bool.{Bool-set}
-use Rattle.std.specs.Vec.{with_items}
-use Rattle.std.specs.declared.vec.Vec.{Vec}
+use Rattle.std.proofs.{Math.Logic.∥∥₁_elim, Math.Logic.∥∥₁_map, Math.Bool.Bool-set, lemmas.Bool.cases_lt, lemmas.Bool.false≢true}
+use Rattle.std.specs.{Coded.le_prop, Vec.with_items, declared.vec.Vec.Vec}
 use Rattle.std.proofs.lemmas.List.{get_or_past, get_or_default, get_or-replicate, length-replicate, length-set, with_items_is}
-use Rattle.std.proofs.lemmas.Bool.{cases_lt, false≢true}
 use Rattle.node_pool.specs.Cell.{value_of, next_free, cell_at, at, IsFilled, IsShifted}
-use Rattle.node_pool.specs.FreeLists.{free_list, count_at, IsLinked}
-use Rattle.node_pool.specs.Pool.{IsTaken, IsGrown, IsUsedBlock}
-use Rattle.node_pool.specs.declared.cells.Cell.{Cell}
-use Rattle.node_pool.specs.declared.cells.FreeList.{FreeList}
-use Rattle.node_pool.specs.declared.cells.Cell.TheVariants.{Free, Used}
+use Rattle.node_pool.specs.{FreeLists.free_list, FreeLists.count_at, FreeLists.IsLinked, Pool.IsTaken, Pool.IsGrown, Pool.IsUsedBlock, declared.cells.Cell.Cell, declared.cells.FreeList.FreeList, declared.cells.Cell.TheVariants.Free, declared.cells.Cell.TheVariants.Used}
 use Rattle.node_pool.proofs.Writes.{cell_at-set_other}
 use Rattle.node_pool.proofs.Links.{linked_none, linked_stays, linked_pop, linked_push, few_blocks, first_within, first_free}
 

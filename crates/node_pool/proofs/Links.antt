@@ -3,9 +3,7 @@ use Rattle.std.proofs.Common.{ℕ, zero, suc, ◌≡◌, ◌≢◌, ◌⊎◌, i
 use Rattle.std.proofs.lemmas.Bool.{cases_eq, cases_lt, false≢true, eq-eqb, ne_eqb}
 use Rattle.node_pool.specs.Cell.{cell_at, at, next_free, value_of, IsFilled}
 use Rattle.node_pool.specs.FreeLists.{free_list, count_at, InBlock, IsLinked}
-use Rattle.node_pool.specs.declared.cells.Cell.{Cell}
-use Rattle.node_pool.specs.declared.cells.FreeList.{FreeList}
-use Rattle.node_pool.specs.declared.cells.Cell.TheVariants.{Free}
+use Rattle.node_pool.specs.{declared.cells.Cell.Cell, declared.cells.FreeList.FreeList, declared.cells.Cell.TheVariants.Free}
 
 -- the numbers of `f`, with `last` in place of the number `m`
 lowered : (ℕ → ℕ) → ℕ → ℕ → ℕ → ℕ

@@ -1,8 +1,6 @@
 -- What writes in a loop leave in the cells.
 use Rattle.std.proofs.Common.{ℕ, ◌≡◌, ◌≢◌, ◌+◌, ◌<◌, ◌≤◌, List, set, get_or-set_other}
-use Rattle.node_pool.specs.Cell.{cell_at}
-use Rattle.node_pool.specs.declared.cells.Cell.{Cell}
-use Rattle.node_pool.specs.declared.cells.Cell.TheVariants.{Free}
+use Rattle.node_pool.specs.{Cell.cell_at, declared.cells.Cell.Cell, declared.cells.Cell.TheVariants.Free}
 
 module _ {T : Type 0} where
   -- the other places keep theirs

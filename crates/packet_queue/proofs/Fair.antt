@@ -1,12 +1,10 @@
 -- Each move keeps the rule of the queue.
 use Rattle.std.proofs.Common.{◌≡◌, ℕ, zero, suc, ◌+◌, ◌-◌, ◌<◌, List, [], ◌∷◌, ◌++◌, length, set, get_or, sum_by, All, sym, refl, ap, ◌∙◌, arith}
-use Rattle.std.proofs.lemmas.List.Sums.{sum_by-set, sum_by-append, sum_by-cons}
-use Rattle.std.proofs.lemmas.List.Elements.{All-set, All-append}
+use Rattle.std.proofs.{lemmas.List.Sums.sum_by-set, lemmas.List.Sums.sum_by-append, lemmas.List.Sums.sum_by-cons, lemmas.List.Elements.All-set, lemmas.List.Elements.All-append}
 use mathlib.Core.Option.{some, some-injective, some-ne-none}
 use lib.ListN.{get_elem?}
 use Rattle.crossbeam_channel.specs.Fifo.{Pushes, Pops, Forks, Merges, Learns}
-use Rattle.packet_queue.specs.declared.message.Taken.{Taken}
-use Rattle.packet_queue.specs.declared.rule.Hand.{Hand}
+use Rattle.packet_queue.specs.{declared.message.Taken.Taken, declared.rule.Hand.Hand}
 use Rattle.packet_queue.specs.Hands.{hand, AreLeft, IsIdle, Balanced}
 
 module _ {B : Type 0} where

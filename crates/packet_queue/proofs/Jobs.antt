@@ -2,12 +2,8 @@
 use Rattle.std.proofs.Common.{◌≡◌, ℕ, List, [], ◌∷◌, ◌++◌, length, sum_by, refl, ap, arith}
 use Rattle.std.proofs.lemmas.List.Sums.{sum_by-cons}
 use Rattle.publication.specs.declared.job.Job.{Job}
-use Rattle.packet_queue.specs.declared.message.Taken.{Taken}
+use Rattle.packet_queue.specs.{declared.message.Taken.Taken, declared.taker.Taker.Taker, Hands.one_job, Jobs.jobs_of, Jobs.over_job, declared.injector.Injector.Injector}
 use Rattle.packet_queue.specs.declared.message.Taken.TheVariants as T
-use Rattle.packet_queue.specs.declared.taker.Taker.{Taker}
-use Rattle.packet_queue.specs.Hands.{one_job}
-use Rattle.packet_queue.specs.Jobs.{jobs_of, over_job}
-use Rattle.packet_queue.specs.declared.injector.Injector.{Injector}
 use Rattle.packet_queue.specs.Ends.{put_by, taken_by, AreJobsLeft, AreMessagesLeft}
 
 module _ {B : Type 0} where

@@ -1,7 +1,6 @@
 -- Lists and their last elements.
 use Rattle.std.proofs.Common.{◌≡◌, ℕ, zero, suc, ◌+◌, List, [], ◌∷◌, ◌++◌, length, length-append, sum_by, All, subst, sym, refl, ap, ◌∙◌, arith}
-use Rattle.std.proofs.lemmas.List.Elements.{All-push}
-use Rattle.std.proofs.lemmas.List.Sums.{sum_by-append, sum_by_push}
+use Rattle.std.proofs.{lemmas.List.Elements.All-push, lemmas.List.Sums.sum_by-append, lemmas.List.Sums.sum_by_push}
 
 module _ {X : Type 0} (P : X → Type 0) where
   front : (xs : List X) (y : X) → All P (xs ++ y ∷ []) → All P xs

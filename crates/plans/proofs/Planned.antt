@@ -1,8 +1,7 @@
 -- The plan of a text.
 use Rattle.texts.specs.Words.{Text}
 use Rattle.script.specs.Reading.{Parts}
-use Rattle.plans.specs.declared.plan.Plan.{Plan}
-use Rattle.plans.specs.Scenarios.{IsScenario, IsPlanOf}
+use Rattle.plans.specs.{declared.plan.Plan.Plan, Scenarios.IsScenario, Scenarios.IsPlanOf}
 
 -- a scenario of a text, and its plan
 abbrev pub IsPlanned : Text → Plan → Type 0

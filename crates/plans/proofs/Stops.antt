@@ -1,11 +1,9 @@
 -- Why reading a scenario stops.
 use Rattle.std.proofs.Common.{◌≡◌, ◌≤◌, ◌⊎◌, inl, inr, Option, Some, None, Result, Ok, Err, IfErr, MatchOption, length, refl, sym, subst}
 use Rattle.texts.specs.Words.{Text}
-use Rattle.script.specs.Reading.{Parts}
-use Rattle.script.specs.declared.place.Located.{Located}
+use Rattle.script.specs.{Reading.Parts, declared.place.Located.Located}
 use Rattle.network_model.specs.Network.{network_fault, program_limits}
-use Rattle.plans.specs.declared.fault.Fault.{Fault}
-use Rattle.plans.specs.Faults.{IsWantOfMemory, most_bytes}
+use Rattle.plans.specs.{declared.fault.Fault.Fault, Faults.IsWantOfMemory, Faults.most_bytes}
 use Rattle.plans.specs.Scenarios.{IsRead, IsScenarioFault, StopsReading, first_fault, network_read}
 
 -- where the fault of what was read comes first, reading stops for it

@@ -3,18 +3,10 @@ use Rattle.std.proofs.Common.{◌≡◌, ℕ, ◌≤◌, ◌⊎◌, inl, inr, Op
 use Rattle.no_packet_loops.proofs.Common.{Prefix, LinkSpec, opening, Runs, World, Step}
 use Rattle.faults.specs.declared.kind.FaultKind.{FaultKind}
 use Rattle.texts.specs.Words.{Text}
-use Rattle.journal.specs.declared.fault.JournalFault.{JournalFault}
-use Rattle.journal.specs.declared.fault.JournalFault.TheVariants.{NoMemory as NoMemoryForJournal}
-use Rattle.journal.specs.declared.read.Version.{Version}
-use Rattle.journal.specs.declared.read.Version.TheVariants.{Two}
-use Rattle.journal.specs.Journal.{IsJournal, IsJournalFault as IsJournalFault}
-use Rattle.plans.specs.declared.fault.Fault.{Fault}
-use Rattle.plans.specs.declared.plan.Plan.{Plan}
+use Rattle.journal.specs.{declared.fault.JournalFault.JournalFault, declared.fault.JournalFault.TheVariants.NoMemory as NoMemoryForJournal, declared.read.Version.Version, declared.read.Version.TheVariants.Two, Journal.IsJournal, Journal.IsJournalFault as IsJournalFault}
+use Rattle.plans.specs.{declared.fault.Fault.Fault, declared.plan.Plan.Plan, Scenarios.network_read, declared.outcome.Outcome.Outcome, declared.outcome.Outcome.TheVariants.Done, declared.outcome.Outcome.TheVariants.Refused, declared.outcome.Outcome.TheVariants.Differs}
 use Rattle.plans.specs.Faults.{journal_fault, unplaced, IsWantOfMemory, IsUnreadFrom, Gives, most_bytes, most_journal_bytes}
-use Rattle.plans.specs.Scenarios.{network_read}
 use Rattle.plans.proofs.Planned.{IsPlanned}
-use Rattle.plans.specs.declared.outcome.Outcome.{Outcome}
-use Rattle.plans.specs.declared.outcome.Outcome.TheVariants.{Done, Refused, Differs}
 use Rattle.play.specs.Replays.{IsJournalOf, Replays, RunsInPlaces, StepsReplay, StepsRun, StopsReplay}
 
 -- the journal is one of the scenario's network

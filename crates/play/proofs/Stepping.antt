@@ -2,9 +2,7 @@
 use Rattle.std.specs.Prelude.{⊤}
 use Rattle.std.proofs.Common.{◌≡◌, ◌+◌, ◌^◌, ◌<◌, ℕ, Some, if◌then◌else◌, Result, Ok, Err, IfErr, sym, subst, lt-ltb, arith}
 use Rattle.network_model.proofs.Common.{most_steps, refusal}
-use Rattle.network_model.specs.declared.step.Refusal.{Refusal}
-use Rattle.network_model.specs.declared.step.Refusal.TheVariants.{JournalFull}
-use Rattle.network_model.specs.declared.step.Step.{Step}
+use Rattle.network_model.specs.{declared.step.Refusal.Refusal, declared.step.Refusal.TheVariants.JournalFull, declared.step.Step.Step}
 use Rattle.world.specs.Steps.{CanBeRefused, IsDoneOr}
 use Rattle.course.proofs.Courses.{refused_as}
 use Rattle.simulation.specs.Simulation.{Simulation, simulation_refusal}

@@ -4,12 +4,8 @@ use Rattle.std.proofs.Common.{Result, Ok, Err, IfErr, OnOk, ◌≡◌, ◌≤◌
 use Rattle.network_model.specs.World.{Network}
 use Rattle.fabric.specs.Fabric.{Fabric, opening_fabric}
 use Rattle.texts.specs.Words.{Text}
-use Rattle.script.specs.Directories.{Directory}
-use Rattle.script.specs.declared.command.Command.{Command}
-use Rattle.plans.specs.declared.fault.Fault.{Fault}
-use Rattle.plans.specs.declared.plan.Plan.{Plan}
-use Rattle.plans.specs.Faults.{most_bytes}
-use Rattle.plans.specs.Scenarios.{network_read}
+use Rattle.script.specs.{Directories.Directory, declared.command.Command.Command}
+use Rattle.plans.specs.{declared.fault.Fault.Fault, declared.plan.Plan.Plan, Faults.most_bytes, Scenarios.network_read}
 use Rattle.plans.proofs.Planned.{IsPlanned}
 use Rattle.journal.specs.Journal.{journal_text}
 use Rattle.play.specs.Ends.{KeepsJournal}

@@ -2,8 +2,7 @@
 use Rattle.std.proofs.Common.{◌∙◌, List, [], ◌∷◌, refl}
 use Rattle.network_model.specs.Publication.{Patch}
 use Rattle.receipts.proofs.Beginnings.{prefix_self, prefix_trans}
-use Rattle.publication.specs.declared.known.Known.{Known}
-use Rattle.publication.specs.Lists.{Begins, with_publication}
+use Rattle.publication.specs.{declared.known.Known.Known, Lists.Begins, Lists.with_publication}
 
 pub begins_self : (k : Known) → Begins k k
 begins_self k = record { router = refl; publications = prefix_self k.publications }

@@ -3,11 +3,9 @@ use Rattle.std.proofs.Common.{inl, inr, refl, sym, ap, subst, ◌∙◌, ◌≡�
 use Rattle.std.specs.List.{list_any}
 use Rattle.std.proofs.lemmas.List.Folds.{list_any-append}
 use Rattle.ipv4_prefix.specs.Prefix.{Prefix, prefix_eq}
-use Rattle.network_model.specs.declared.route.Entry.{Entry}
-use Rattle.network_model.specs.Publication.{Patch}
-use Rattle.publication.specs.declared.known.Known.{Known}
+use Rattle.network_model.specs.{declared.route.Entry.Entry, Publication.Patch}
+use Rattle.publication.specs.{declared.known.Known.Known, Outings.HasPublished, Outings.IsOuting, Outings.Outing}
 use Rattle.publication.specs.Lists.{Covers, Writing, is_named, patched_prefixes}
-use Rattle.publication.specs.Outings.{HasPublished, IsOuting, Outing}
 use Rattle.publication.proofs.Waiting.{prefixes-append}
 
 -- the prefixes that some patches name, and those of one more

@@ -1,18 +1,10 @@
 -- Rows that are set, and later set again.
 use Rattle.std.proofs.Common.{◌≡◌, ◌∙◌, ◌||◌, Bool, true, false, List, [], ◌∷◌, map, refl, ap, sym}
-use Rattle.std.specs.declared.cmp.Ordering.{Ordering}
-use Rattle.std.specs.declared.cmp.Ordering.TheVariants.{Less, Equal, Greater}
-use Rattle.std.specs.Cmp.{IsTotalOrder}
-use Rattle.std.specs.FinMap.{put}
-use Rattle.std.specs.FinMap.Entries.{by_order}
-use Rattle.std.specs.List.{list_any}
-use Rattle.std.specs.Ordering.{ordering_reverse}
-use Rattle.std.proofs.lemmas.Cmp.{tied_itself}
-use Rattle.std.proofs.Math.Bool.{or-true}
+use Rattle.std.specs.{declared.cmp.Ordering.Ordering, declared.cmp.Ordering.TheVariants.Less, declared.cmp.Ordering.TheVariants.Equal, declared.cmp.Ordering.TheVariants.Greater, Cmp.IsTotalOrder, FinMap.put, FinMap.Entries.by_order, List.list_any, Ordering.ordering_reverse}
+use Rattle.std.proofs.{lemmas.Cmp.tied_itself, Math.Bool.or-true}
 use Rattle.ipv4_prefix.specs.Prefix.{Prefix, prefix_cmp, prefix_eq}
 use Rattle.ipv4_prefix.proofs.PrefixOrder.{prefix_cmp_total, prefix_cmp-tied, prefix_eq-Decides}
-use Rattle.network_model.specs.declared.route.Entry.{Entry}
-use Rattle.network_model.specs.Publication.{with_rows}
+use Rattle.network_model.specs.{declared.route.Entry.Entry, Publication.with_rows}
 
 module _ {K X : Type 0} (R : K → K → Ordering) (total : IsTotalOrder R) where
   -- what `put` does, by the order of its key and the first

@@ -4,11 +4,8 @@ use mathlib.Core.Option.{some}
 use lib.ListN.{get_elem?}
 use Rattle.atomic_table.proofs.Lists.{at_set, at_snoc}
 use Rattle.ipv4_prefix.specs.Prefix.{Prefix}
-use Rattle.network_model.specs.Publication.{Image}
-use Rattle.network_model.specs.declared.route.Entry.{Entry}
-use Rattle.publication.specs.declared.known.Known.{Known}
-use Rattle.publication.specs.Lists.{Begins, image_of}
-use Rattle.publication.specs.Views.{Keeps, Sees}
+use Rattle.network_model.specs.{Publication.Image, declared.route.Entry.Entry}
+use Rattle.publication.specs.{declared.known.Known.Known, Lists.Begins, Lists.image_of, Views.Keeps, Views.Sees}
 use Rattle.publication.proofs.Beginnings.{begins_self, begins_trans}
 
 module _ (openings : List (List (Prefix × Entry))) where

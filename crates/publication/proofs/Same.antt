@@ -6,8 +6,7 @@ use Rattle.ipv4_prefix.specs.contracts.prefix.PrefixPartialEq.TheImpl as PrefixE
 use Rattle.ipv4_prefix.specs.Prefix.{Prefix}
 use Rattle.ipv4_prefix.proofs.PrefixOrder.{prefix_eq-Decides, prefix_partial_eq}
 use Rattle.network_model.specs.contracts.route.EntryPartialEq.TheImpl as EntryEq
-use Rattle.network_model.specs.declared.route.Entry.{Entry}
-use Rattle.network_model.specs.Step.{entry_eq}
+use Rattle.network_model.specs.{declared.route.Entry.Entry, Step.entry_eq}
 use Rattle.network_model.proofs.EntryLaws.{entry_eq-refl, entry_from_eq, entry_partial_eq}
 
 -- the test tells whether two rows are equal

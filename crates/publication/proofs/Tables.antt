@@ -1,8 +1,7 @@
 -- The images of lists of patches.
 use Rattle.std.proofs.Common.{◌≡◌, ◌∙◌, ◌||◌, ℕ, ◌+◌, true, List, [], ◌∷◌, ◌++◌, length, map, refl, ap, sym, append_assoc, length-append, append-nil}
 use Rattle.std.specs.List.{list_any}
-use Rattle.std.proofs.lemmas.List.Folds.{list_any-append}
-use Rattle.std.proofs.Math.Bool.{or-true}
+use Rattle.std.proofs.{lemmas.List.Folds.list_any-append, Math.Bool.or-true}
 use Rattle.ipv4_prefix.specs.Prefix.{Prefix, prefix_eq}
 use Rattle.network_model.specs.declared.route.Entry.{Entry}
 use Rattle.network_model.specs.Publication.{Patch, with_rows, published_generation, published_table}

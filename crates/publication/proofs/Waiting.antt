@@ -1,8 +1,7 @@
 -- The prefixes that waiting patches name.
 use Rattle.std.proofs.Common.{◌≡◌, List, [], ◌∷◌, ◌++◌, map, ap, sym, ◌∙◌, append_assoc, append-nil}
 use Rattle.ipv4_prefix.specs.Prefix.{Prefix}
-use Rattle.network_model.specs.declared.route.Entry.{Entry}
-use Rattle.network_model.specs.Publication.{Patch}
+use Rattle.network_model.specs.{declared.route.Entry.Entry, Publication.Patch}
 use Rattle.image_patch.specs.declared.Patch.{Patch as PatchFields}
 use Rattle.publication.specs.Lists.{patch_of, patched_prefixes}
 

@@ -1,11 +1,8 @@
 -- In a quiet world the attachment of each machine is that of the world's record.
 use Rattle.std.proofs.Common.{refl, sym, ap, ◌∙◌, arith, ◌≡◌, ℕ, ◌<◌, true, List, [], length, Option, Some, None, slice_get, option_and_then}
 use Rattle.no_packet_loops.proofs.Common.{option_map_or, slice_get_within, Prefix, prefix_cmp, IsCost, opening_machine, Router, Attachments, World, Network, machine_of, attachment_at, is_quiet, None_not_Some, element_there, State, view, find as row_of}
-use Rattle.no_packet_loops.proofs.Wiring.{IsWired}
-use Rattle.no_packet_loops.proofs.Kept.{attachment_then}
-use Rattle.no_packet_loops.proofs.Runs.{Reached}
-use Rattle.quiet_routes.proofs.Worlds.{Good}
-use Rattle.quiet_routes.proofs.Still.{no_notice}
+use Rattle.no_packet_loops.proofs.{Wiring.IsWired, Kept.attachment_then, Runs.Reached}
+use Rattle.quiet_routes.proofs.{Worlds.Good, Still.no_notice}
 
 module _ (n : Network) (N : IsWired n) (p : Prefix) (w : World) (rs : List Router) (R : Reached n N p w rs) (G : Good p w) (quiet : is_quiet w ≡ true) (count : length w.attachments ≡ length w.routers) where
   -- the view of the world

@@ -2,19 +2,11 @@
 use Rattle.std.proofs.Common.{refl, sym, ap, ◌∙◌, inl, inr, arith, ◌≡◌, ◌⊎◌, ℕ, ◌+◌, ◌<◌, ◌≤◌, true, List, [], map, length, Option, Some, None, is_some, slice_get, option_map, option_and_then, unwrap_or}
 use Rattle.no_packet_loops.proofs.Common.{range_with_len, option_map_or, false≢true, length-map, Prefix, prefix_cmp, Machine, opening_machine, port_count, Local, Unreachable, End, A, B, Link, Router, World, Network, side, machine_of, neighbours, costs_of, opening_router_of, opening, Place, Port, entry_of, IsWalkHome, walk_cost as way_cost, is_quiet, None_not_Some, Topology, IsEdgeWalk as NetWalk, IsNetwork, history, LinkEnd, State, on_link, view, lay, walk_map, find as row_of}
 use Rattle.no_packet_loops.specs.Packets.{published_entry}
-use Rattle.no_packet_loops.proofs.Wiring.{IsWired, wired, few_routers}
-use Rattle.no_packet_loops.proofs.Places.{laid, spot, topology}
-use Rattle.no_packet_loops.proofs.Opened.{first_fd, opening_view}
-use Rattle.no_packet_loops.proofs.Publishing.{control_row}
-use Rattle.no_packet_loops.proofs.Quiet.{entry_local, entry_lost}
-use Rattle.no_packet_loops.proofs.Runs.{Reached, reached}
-use Rattle.no_packet_loops.proofs.WorldLaws.{SameShape, Runs-shape}
+use Rattle.no_packet_loops.proofs.{Wiring.IsWired, Wiring.wired, Wiring.few_routers, Places.laid, Places.spot, Places.topology, Opened.first_fd, Opened.opening_view, Publishing.control_row, Quiet.entry_local, Quiet.entry_lost, Runs.Reached, Runs.reached, WorldLaws.SameShape, WorldLaws.Runs-shape}
 use Rattle.least_cost.specs.Quiet.{LeadsHome, Follows, IsRouted as IsNetRouted, IsOptimal, walk_end, edges_cost}
 use Rattle.least_cost.proofs.AtQuiet.{optimal_at_quiet}
 use Rattle.quiet_routes.specs.Routes.{HasRoute, IsUnheard, HasBestRow, QuietRoutes}
-use Rattle.quiet_routes.proofs.Worlds.{CheapLink, Good, good}
-use Rattle.quiet_routes.proofs.Homes.{home_is, home_cost}
-use Rattle.quiet_routes.proofs.Still.{row_now, quiet_now}
+use Rattle.quiet_routes.proofs.{Worlds.CheapLink, Worlds.Good, Worlds.good, Homes.home_is, Homes.home_cost, Still.row_now, Still.quiet_now}
 use Rattle.quiet_routes.proofs.Ways.{IsUp, place_for, to_walk, to_cost, from_walk, from_cost, from_chain}
 
 module _ (n : Network) (V : IsNetwork n) (p : Prefix) (w : World) (rs : List Router) (R : Reached n (wired n V) p w rs) (G : Good p w) (quiet : is_quiet w ≡ true) (count : length w.attachments ≡ length w.routers) where

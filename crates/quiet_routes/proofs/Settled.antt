@@ -2,11 +2,7 @@
 use Rattle.std.proofs.Common.{refl, sym, ap, ◌∙◌, arith, ◌≡◌, ℕ, ◌≤◌, Bool, true, false, not, ◌&&◌, nat_lt, if◌then◌else◌, List, [], length, Some, None, is_none, slice_get, le-ltb}
 use Rattle.no_packet_loops.proofs.Common.{list_all, and_from, and_parts, false≢true, Prefix, opening_machine, Router, World, Network, machine_of, opening, changed_rows, is_due, is_empty, is_quiet_router, is_quiet_link, has_no_notice, is_quiet, is_settled, is_active, IsNetwork, Runs, history, view, lay, same_truth, Step}
 use Rattle.no_packet_loops.specs.Packets.{HoldsInEveryWorld}
-use Rattle.no_packet_loops.proofs.Wiring.{wired}
-use Rattle.no_packet_loops.proofs.Places.{topology}
-use Rattle.no_packet_loops.proofs.Opened.{first_fd, opening_view}
-use Rattle.no_packet_loops.proofs.Runs.{Reached, reached}
-use Rattle.no_packet_loops.proofs.View.{on_router-there}
+use Rattle.no_packet_loops.proofs.{Wiring.wired, Places.topology, Opened.first_fd, Opened.opening_view, Runs.Reached, Runs.reached, View.on_router-there}
 use Rattle.least_cost.proofs.Settled.{passive_once_settled}
 use Rattle.quiet_routes.specs.Settled.{SettledIsQuiet}
 use Rattle.no_packet_loops.proofs.Quiet.{empty_is, IsDone, done_of, quiet_of}

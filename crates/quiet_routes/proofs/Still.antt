@@ -1,14 +1,9 @@
 -- A quiet world is a quiet state of the view, and its published rows are those of its machines.
 use Rattle.std.proofs.Common.{refl, sym, ap, ◌∙◌, ◌≡◌, ℕ, true, false, ◌&&◌, List, [], Option, Some, None, slice_get, option_map, option_and_then}
 use Rattle.no_packet_loops.proofs.Common.{list_all, option_map_or, and_parts, Prefix, prefix_cmp, Machine, opening_machine, port_successor, Link, Router, Attachments, World, Network, machine_of, entry_of, session_at, is_quiet_router, is_quiet_link, has_no_notice, is_quiet, is_active, next_hop_of, State, at_port, next_hop, next_hop_at, view, lay, find as row_of}
-use Rattle.no_packet_loops.proofs.Wiring.{IsWired}
-use Rattle.no_packet_loops.proofs.Places.{topology}
-use Rattle.no_packet_loops.proofs.Publishing.{control_row, control_hop}
-use Rattle.no_packet_loops.proofs.Runs.{Reached}
-use Rattle.no_packet_loops.proofs.View.{on_router-there}
+use Rattle.no_packet_loops.proofs.{Wiring.IsWired, Places.topology, Publishing.control_row, Publishing.control_hop, Runs.Reached, View.on_router-there, Quiet.empty_is, Quiet.Still, Quiet.still_quiet}
 use Rattle.least_cost.specs.Quiet.{IsQuiet}
 use Rattle.quiet_routes.proofs.Worlds.{Good}
-use Rattle.no_packet_loops.proofs.Quiet.{empty_is, Still, still_quiet}
 use Rattle.quiet_routes.proofs.Silent.{all_at, inbox_none, ripe_none, unripe_none}
 
 module _ (n : Network) (N : IsWired n) (p : Prefix) (w : World) (rs : List Router) (R : Reached n N p w rs) (G : Good p w) (quiet : is_quiet w ≡ true) where

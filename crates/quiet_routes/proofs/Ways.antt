@@ -1,13 +1,9 @@
 -- Walks of the world are walks of the view, and the other way round.
 use Rattle.std.proofs.Common.{refl, sym, ap, subst, ◌∙◌, ◌≡◌, ℕ, ◌+◌, true, false, List, [], ◌∷◌, map, Option, Some, None, is_some, slice_get, option_and_then}
 use Rattle.no_packet_loops.proofs.Common.{option_map_or, false≢true, Prefix, prefix_cmp, Entry, Local, Via, Unreachable, A, Link, Router, World, Network, other, side, Place, IsWalk as IsWay, walk_cost as way_cost, Some_injective, None_not_Some, Topology, IsEdgeWalk, router_end, place_of, LinkEnd, State, NextHop, at_port, next_hop, next_hop_at, on_link, view, lay, find as row_of}
-use Rattle.no_packet_loops.specs.Packets.{published_entry}
-use Rattle.no_packet_loops.proofs.Wiring.{IsWired}
-use Rattle.no_packet_loops.specs.LinkEnds.{across}
+use Rattle.no_packet_loops.specs.{Packets.published_entry, LinkEnds.across}
+use Rattle.no_packet_loops.proofs.{Wiring.IsWired, Kept.specified, Kept.linked, Kept.far_is, View.on_link-there, Runs.Reached, Runs.place_is}
 use Rattle.no_packet_loops.proofs.Places.{laid, lay-spot, far, spot, spot_on, topology}
-use Rattle.no_packet_loops.proofs.Kept.{specified, linked, far_is}
-use Rattle.no_packet_loops.proofs.View.{on_link-there}
-use Rattle.no_packet_loops.proofs.Runs.{Reached, place_is}
 use Rattle.least_cost.specs.Quiet.{Follows, walk_end, edges_cost}
 use Rattle.quiet_routes.specs.Routes.{SendsBy, IsChain}
 

@@ -1,8 +1,7 @@
 -- What every world of a run keeps besides: costs have 16 bits, and no row is published or chosen of a prefix that was not heard of.
 use Rattle.std.proofs.Common.{refl, sym, ap, subst, ◌∙◌, ◌≡◌, ℕ, ◌≤◌, Bool, true, false, cond, List, [], ◌∷◌, map, Option, Some, None, slice_get, option_map}
 use Rattle.no_packet_loops.proofs.Common.{find-put, slice_get-map, Prefix, prefix_cmp, prefix_eq, Machine, Reaction, reaction, changed_at, event_at_home, opening_machine, Event, Item, Held, Entry, End, A, B, Side, Link, Router, World, Network, other, place_at, neighbours, machine_of, opening_link, costs_of, opening_router_of, opening, Place, Port, LinkSpec, Lawful, next, changed_side, with_item, link_come_up, link_gone_down, with_cost, with_front_taken, with_message, entry_of, reactions, router_noticing, router_meeting, router_at_home, router_accepting, router_publishing, router_releasing, changed_router, changed_link, changed_attachments, with_notice_taken, front_at, notice_at, release_at, with_delivered, with_noticed, with_released, Runs, option_map_or-ind, Some_injective, None_not_Some, listed_within, changed_keeps, prefix_cmp_total, find-map, IsNetwork, find as row_of, put, Step, LinkUp, LinkDown, SetCost, Deliver, Publish, Release}
-use Rattle.no_packet_loops.proofs.Wiring.{link_has_costs}
-use Rattle.no_packet_loops.proofs.Releasing.{by_message}
+use Rattle.no_packet_loops.proofs.{Wiring.link_has_costs, Releasing.by_message}
 
 -- ---- lists each of whose elements has a property
 

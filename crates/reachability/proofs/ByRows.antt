@@ -1,21 +1,14 @@
 -- What is marked by rows is from where they lead home.
 use Rattle.std.proofs.Common.{refl, sym, ap, subst, ◌∙◌, ◌≡◌, ℕ, ◌<◌, Bool, true, false, ◌==◌, if◌then◌else◌, set, List, [], ◌∷◌, length, Option, Some, None, is_some, slice_get, option_map, option_and_then, eqb-true, eq-eqb}
-use Rattle.std.specs.Option.{option_map_or}
-use Rattle.std.specs.FinMap.{find as row_of}
-use Rattle.std.proofs.lemmas.Bool.{and_parts, and_from, false≢true}
-use Rattle.std.proofs.lemmas.Option.{slice_get_within}
+use Rattle.std.specs.{Option.option_map_or, FinMap.find as row_of}
+use Rattle.std.proofs.{lemmas.Bool.and_parts, lemmas.Bool.and_from, lemmas.Bool.false≢true, lemmas.Option.slice_get_within}
 use Rattle.ipv4_prefix.specs.Prefix.{Prefix, prefix_cmp}
-use Rattle.network_model.specs.declared.network.Place.{Place}
-use Rattle.network_model.specs.declared.route.Entry.{Entry}
-use Rattle.network_model.specs.declared.route.Entry.TheVariants.{Local, Via}
-use Rattle.network_model.specs.Step.{is_up_in}
+use Rattle.network_model.specs.{declared.network.Place.Place, declared.route.Entry.Entry, declared.route.Entry.TheVariants.Local, declared.route.Entry.TheVariants.Via, Step.is_up_in, Forwarding.entry_leads}
 use Rattle.network_model.specs.World.{Link, Router, World, other, side, place_at, attachment_at}
-use Rattle.network_model.specs.Forwarding.{entry_leads}
 use Rattle.network_model.proofs.ListLaws.{None_not_Some, Some_injective}
 use Rattle.no_packet_loops.specs.Packets.{published_entry}
 use Rattle.quiet_routes.specs.Routes.{IsChain, SendsBy}
-use Rattle.reachability.specs.Ways.{HasWay}
-use Rattle.reachability.specs.Marks.{is_in}
+use Rattle.reachability.specs.{Ways.HasWay, Marks.is_in}
 use Rattle.reachability.specs.Rounds.{AllRouted, OnlyRouted, leads_home, row_leads}
 use Rattle.reachability.proofs.Marking.{holds_more}
 

@@ -1,11 +1,7 @@
 -- In every run the parts of the world fit together.
 use Rattle.std.proofs.Common.{sym, ap, subst, ◌∙◌, arith, ◌≡◌, ℕ, ◌<◌, List, length, Some, slice_get, option_and_then}
 use Rattle.no_packet_loops.proofs.Common.{length-map, length-map-range_with_len, slice_get_within, Place, Prefix, End, A, B, Link, LinkSpec, Network, World, place_at, side, router_end, opening, opening_link, opening_router_of, IsNetwork, Runs, at_port, Step}
-use Rattle.no_packet_loops.proofs.Kept.{specified}
-use Rattle.no_packet_loops.proofs.Places.{laid}
-use Rattle.no_packet_loops.proofs.Runs.{reached}
-use Rattle.no_packet_loops.proofs.Wiring.{IsWiredLink, few_routers, wired}
-use Rattle.no_packet_loops.proofs.WorldLaws.{Runs-shape}
+use Rattle.no_packet_loops.proofs.{Kept.specified, Places.laid, Runs.reached, Wiring.IsWiredLink, Wiring.few_routers, Wiring.wired, WorldLaws.Runs-shape}
 use Rattle.world.proofs.Degrees.{few_links}
 use Rattle.reachability.specs.Ways.{IsJoined}
 

@@ -1,14 +1,12 @@
 -- Who is cut off, of what is marked; and that nobody is where rows are best.
 use Rattle.std.proofs.Common.{sym, ◌∙◌, inl, inr, arith, ◌≡◌, ◌↔◌, ◌⊎◌, ℕ, ◌<◌, ◌≤◌, true, false, not, length}
 use Rattle.std.proofs.lemmas.Bool.{and_from, and_parts, both_ways, cases_lt, false_from_ne_true, false≢true, not-true, not_from_false}
-use Rattle.std.proofs.lemmas.List.{get_or_past}
-use Rattle.std.proofs.lemmas.Option.{slice_get_within}
+use Rattle.std.proofs.{lemmas.List.get_or_past, lemmas.Option.slice_get_within}
 use Rattle.network_model.proofs.ListLaws.{element_there}
 use Rattle.ipv4_prefix.specs.Prefix.{Prefix}
 use Rattle.network_model.specs.World.{World}
 use Rattle.quiet_routes.specs.Routes.{HasBestRow}
-use Rattle.reachability.specs.Ways.{HasWay, IsCutOff, Reaches}
-use Rattle.reachability.specs.Marks.{Marks, is_in, is_marked}
+use Rattle.reachability.specs.{Ways.HasWay, Ways.IsCutOff, Ways.Reaches, Marks.Marks, Marks.is_in, Marks.is_marked}
 
 -- a router with a way reaches the prefix: where rows are best, one that reaches it has a way
 pub way_at_best : (w : World) (p : Prefix) → ((k : ℕ) → k < length w.routers → HasBestRow w p k) → (i : ℕ) → i < length w.routers → Reaches w p i → HasWay w p i

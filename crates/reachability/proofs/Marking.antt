@@ -1,7 +1,6 @@
 -- A router more that is marked.
 use Rattle.std.proofs.Common.{sym, ap, subst, ◌∙◌, inl, inr, arith, ◌≡◌, ℕ, ◌+◌, ◌<◌, Bool, true, false, not, cond, List, length, set, get_or-set_other, get_or-set_same}
-use Rattle.std.proofs.lemmas.Bool.{cases_eq}
-use Rattle.std.proofs.lemmas.List.Sums.{sum_by-set}
+use Rattle.std.proofs.{lemmas.Bool.cases_eq, lemmas.List.Sums.sum_by-set}
 use Rattle.reachability.specs.Marks.{is_in, unmarked}
 
 -- one fewer is not marked

@@ -1,15 +1,11 @@
 -- What is marked over links is what they reach.
 use Rattle.std.proofs.Common.{refl, sym, ap, subst, ◌∙◌, inl, inr, zero-add, arith, ◌≡◌, ◌⊎◌, ℕ, ◌+◌, ◌<◌, ◌≤◌, Bool, true, false, List, [], ◌∷◌, length, Option, Some, None, is_some, option_and_then, set}
-use Rattle.std.proofs.lemmas.Bool.{cases_lt, false≢true}
-use Rattle.std.proofs.lemmas.List.{get_or_past}
-use Rattle.std.proofs.lemmas.Option.{slice_get_past, slice_get_within}
+use Rattle.std.proofs.{lemmas.Bool.cases_lt, lemmas.Bool.false≢true, lemmas.List.get_or_past, lemmas.Option.slice_get_past, lemmas.Option.slice_get_within}
 use Rattle.std.specs.FinMap.{find as row_of}
 use Rattle.ipv4_prefix.specs.Prefix.{Prefix, prefix_cmp}
-use Rattle.network_model.specs.declared.network.Place.{Place}
+use Rattle.network_model.specs.{declared.network.Place.Place, Forwarding.IsWalk, Forwarding.walk_cost}
 use Rattle.network_model.specs.World.{Attachments, World, other, side, attachment_at}
-use Rattle.network_model.specs.Forwarding.{IsWalk, walk_cost}
-use Rattle.reachability.specs.Ways.{IsJoined, Reaches}
-use Rattle.reachability.specs.Marks.{is_in}
+use Rattle.reachability.specs.{Ways.IsJoined, Ways.Reaches, Marks.is_in}
 use Rattle.reachability.specs.Rounds.{AllAttached, IsAddedBy, IsClosed, KeepsReach, OnlyReached}
 use Rattle.reachability.proofs.Marking.{holds_more, kept_by_mark}
 

@@ -1,18 +1,10 @@
 -- The changed rows: that the definition's are those that differ, and what a put row makes of them.
 use Rattle.std.proofs.Common.{◌≡◌, ℕ, suc, ◌<◌, Bool, true, false, cond, not, List, [], ◌∷◌, map, length, get_or, refl, sym, ap, ◌∙◌, arith}
-use Rattle.std.specs.declared.cmp.Ordering.TheVariants.{Less, Equal, Greater}
-use Rattle.std.specs.FinMap.{put, is_sorted}
-use Rattle.std.specs.FinMap.Entries.{below_all, by_order}
-use Rattle.std.specs.List.{filter}
-use Rattle.std.specs.Option.{option_map_or, option_and_then}
-use Rattle.std.specs.Ordering.{is_lt}
-use Rattle.std.proofs.lemmas.Bool.{and_parts, and_from}
-use Rattle.std.proofs.lemmas.Cmp.{tied_itself}
+use Rattle.std.specs.{declared.cmp.Ordering.TheVariants.Less, declared.cmp.Ordering.TheVariants.Equal, declared.cmp.Ordering.TheVariants.Greater, FinMap.put, FinMap.is_sorted, FinMap.Entries.below_all, FinMap.Entries.by_order, List.filter, Option.option_map_or, Option.option_and_then, Ordering.is_lt}
+use Rattle.std.proofs.{lemmas.Bool.and_parts, lemmas.Bool.and_from, lemmas.Cmp.tied_itself}
 use Rattle.ipv4_prefix.specs.Prefix.{Prefix, prefix_cmp}
-use Rattle.network_model.specs.declared.route.Entry.{Entry}
-use Rattle.network_model.specs.Step.{entry_eq, has_row, changed_rows}
-use Rattle.route_table.specs.declared.row.Row.{Row}
-use Rattle.route_table.specs.Place.{without}
+use Rattle.network_model.specs.{declared.route.Entry.Entry, Step.entry_eq, Step.has_row, Step.changed_rows}
+use Rattle.route_table.specs.{declared.row.Row.Row, Place.without}
 use Rattle.route_table.specs.Rows.{control_rows, published_rows, table_of, differs, differing_rows}
 use Rattle.ipv4_prefix.proofs.PrefixOrder.{prefix_cmp_total, prefix_cmp-tied}
 use Rattle.route_table.proofs.Places.{below_tied, below_less, find-at, put_here, put_past, put_below, others_here, others_past, others_below}

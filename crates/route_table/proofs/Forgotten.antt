@@ -1,15 +1,10 @@
 -- A prefix that is forgotten: without its row there, the two maps are without theirs.
 use Rattle.std.proofs.Common.{◌≡◌, ℕ, zero, suc, ◌≤◌, Bool, true, false, cond, not, List, [], ◌∷◌, map, length, drop, Option, Some, None, refl, sym, ap, ◌∙◌, arith}
-use Rattle.std.specs.FinMap.{is_sorted}
-use Rattle.std.specs.List.{filter, cons_option}
-use Rattle.std.specs.Option.{option_map}
-use Rattle.std.proofs.lemmas.Bool.{and_parts}
-use Rattle.std.proofs.lemmas.List.Filters.{length-filter_both}
+use Rattle.std.specs.{FinMap.is_sorted, List.filter, List.cons_option, Option.option_map}
+use Rattle.std.proofs.{lemmas.Bool.and_parts, lemmas.List.Filters.length-filter_both}
 use Rattle.ipv4_prefix.specs.Prefix.{Prefix, prefix_cmp, prefix_eq}
 use Rattle.network_model.specs.declared.route.Entry.{Entry}
-use Rattle.route_table.specs.declared.row.Row.{Row}
-use Rattle.route_table.specs.Parts.{without_rows}
-use Rattle.route_table.specs.Place.{without}
+use Rattle.route_table.specs.{declared.row.Row.Row, Parts.without_rows, Place.without}
 use Rattle.route_table.specs.Rows.{control_rows, published_rows, table_of, differs, differing_rows}
 
 -- the order of two tests is of no matter

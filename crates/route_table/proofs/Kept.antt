@@ -1,23 +1,16 @@
 -- That the changed rows and the room are kept: when one row is put, when the rows or some of them are published, and when a prefix is forgotten.
 use Rattle.std.proofs.Common.{◌≡◌, ℕ, ◌+◌, ◌-◌, ◌<◌, ◌≤◌, Bool, true, false, not, cond, if◌then◌else◌, List, [], length, take, drop, Some, None, refl, sym, ap, ◌∙◌, arith}
-use Rattle.std.specs.FinMap.{find, put, is_sorted}
-use Rattle.std.specs.FinMap.Entries.{length-put}
-use Rattle.std.specs.List.{filter}
+use Rattle.std.specs.{FinMap.find, FinMap.put, FinMap.is_sorted, FinMap.Entries.length-put, List.filter}
 use Rattle.std.specs.Option.{is_some, option_map, IsNone, IsSome}
-use Rattle.std.proofs.lemmas.List.{length-map}
-use Rattle.std.proofs.lemmas.List.Filters.{length-filter_both}
+use Rattle.std.proofs.{lemmas.List.length-map, lemmas.List.Filters.length-filter_both}
 use Rattle.ipv4_prefix.specs.Prefix.{Prefix, prefix_cmp}
 use Rattle.network_model.specs.declared.route.Entry.{Entry}
-use Rattle.route_table.specs.declared.row.Row.{Row}
-use Rattle.route_table.specs.Place.{without}
+use Rattle.route_table.specs.{declared.row.Row.Row, Place.without}
 use Rattle.route_table.specs.Rows.{control_rows, differs, differing_rows, with_change, with_in_force, IsTable}
-use Rattle.ipv4_prefix.proofs.SortedRows.{to_T}
+use Rattle.ipv4_prefix.proofs.{SortedRows.to_T, PrefixOrder.prefix_cmp_total}
 use Rattle.network_model.proofs.RowLaws.{find-map}
-use Rattle.ipv4_prefix.proofs.PrefixOrder.{prefix_cmp_total}
-use Rattle.route_table.proofs.Changed.{differing-put_new, differing-put_same}
-use Rattle.route_table.proofs.Publication.{marked, with_in_force-differing, differing-marked}
+use Rattle.route_table.proofs.{Changed.differing-put_new, Changed.differing-put_same, Publication.marked, Publication.with_in_force-differing, Publication.differing-marked, Forgotten.differing-without, Forgotten.length-without}
 use Rattle.route_table.proofs.PublishedInPart.{marked_first, with_in_force-first, differing-first, length-first}
-use Rattle.route_table.proofs.Forgotten.{differing-without, length-without}
 
 -- whether a row is there does not depend on what is read of it
 pub is_known : (p : Prefix) (rows : List (Prefix × Row)) → is_some (find prefix_cmp p (control_rows rows)) ≡ is_some (find prefix_cmp p rows)

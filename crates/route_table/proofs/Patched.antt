@@ -1,23 +1,14 @@
 -- The changed rows are a patch: set over the published rows, they make them the control rows.
 use Rattle.std.proofs.Common.{◌≡◌, Bool, true, false, cond, not, List, [], ◌∷◌, Option, Some, None, ℕ, refl, ap, subst, ◌∙◌}
-use Rattle.std.specs.FinMap.{put, is_sorted}
-use Rattle.std.specs.FinMap.Entries.{below_all}
-use Rattle.std.specs.List.{filter, cons_option}
-use Rattle.std.specs.Option.{option_map, option_map_or}
-use Rattle.std.proofs.lemmas.Bool.{and_parts}
-use Rattle.std.proofs.lemmas.Cmp.{tied_itself}
+use Rattle.std.specs.{FinMap.put, FinMap.is_sorted, FinMap.Entries.below_all, List.filter, List.cons_option, Option.option_map, Option.option_map_or}
+use Rattle.std.proofs.{lemmas.Bool.and_parts, lemmas.Cmp.tied_itself}
 use Rattle.ipv4_prefix.specs.Prefix.{Prefix, prefix_cmp}
 use Rattle.ipv4_prefix.proofs.PrefixOrder.{prefix_cmp_total}
-use Rattle.network_model.specs.declared.route.Entry.{Entry}
-use Rattle.network_model.specs.Step.{entry_eq, changed_rows}
-use Rattle.network_model.specs.Publication.{with_rows}
-use Rattle.network_model.proofs.EntryLaws.{entry_from_eq}
-use Rattle.network_model.proofs.RowLaws.{with_rows-past}
+use Rattle.network_model.specs.{declared.route.Entry.Entry, Step.entry_eq, Step.changed_rows, Publication.with_rows}
+use Rattle.network_model.proofs.{EntryLaws.entry_from_eq, RowLaws.with_rows-past}
 use Rattle.route_table.specs.declared.row.Row.{Row}
 use Rattle.route_table.specs.Rows.{TableAndRoom, control_rows, published_rows, table_of, differs, differing_rows}
-use Rattle.route_table.proofs.Places.{put_below, put_here}
-use Rattle.route_table.proofs.Changed.{below-differing, changed_rows-table_of}
-use Rattle.route_table.proofs.InForce.{below-published}
+use Rattle.route_table.proofs.{Places.put_below, Places.put_here, Changed.below-differing, Changed.changed_rows-table_of, InForce.below-published}
 
 -- the changed rows, set over the published ones, make the control rows
 patched : (rows : List (Prefix × Row)) → is_sorted prefix_cmp rows ≡ true → with_rows (differing_rows rows) (published_rows rows) ≡ control_rows rows

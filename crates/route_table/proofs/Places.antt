@@ -1,18 +1,10 @@
 -- Rows in the order of their keys: what a place found by a binary search says of a look-up and of a change.
 use Rattle.std.proofs.Common.{◌≡◌, ℕ, zero, suc, ◌<◌, ◌≤◌, true, false, cond, not, add-one, List, [], ◌∷◌, length, get_or, set, Some, None, refl, sym, ap, ◌∙◌, inl, inr, arith}
-use Rattle.std.specs.declared.cmp.Ordering.{Ordering}
-use Rattle.std.specs.declared.cmp.Ordering.TheVariants.{Less, Equal, Greater}
-use Rattle.std.specs.Cmp.{IsTotalOrder}
-use Rattle.std.specs.FinMap.{find, put, is_sorted}
-use Rattle.std.specs.FinMap.Entries.{below_all, by_order}
+use Rattle.std.specs.{declared.cmp.Ordering.Ordering, declared.cmp.Ordering.TheVariants.Less, declared.cmp.Ordering.TheVariants.Equal, declared.cmp.Ordering.TheVariants.Greater, Cmp.IsTotalOrder, FinMap.find, FinMap.put, FinMap.is_sorted, FinMap.Entries.below_all, FinMap.Entries.by_order, List.Sorted.IsNonDecreasingBy, List.Sorted.IsSortedBy}
 use Rattle.std.specs.List.{filter, insert, remove, AllWithin}
-use Rattle.std.specs.List.Sorted.{IsNonDecreasingBy, IsSortedBy}
 use Rattle.std.specs.Ordering.{is_lt, is_eq, eq_by_cmp, ordering_index, ordering_reverse}
-use Rattle.std.proofs.lemmas.Bool.{and_parts, and_from, cases_lt}
-use Rattle.std.proofs.lemmas.Cmp.{tied_back}
-use Rattle.std.proofs.lemmas.List.Sorted.{searchable_from_sorted}
-use Rattle.ipv4_prefix.proofs.SortedRows.{below_at}
-use Rattle.ipv4_prefix.proofs.PrefixOrder.{less_from_test}
+use Rattle.std.proofs.{lemmas.Bool.and_parts, lemmas.Bool.and_from, lemmas.Bool.cases_lt, lemmas.Cmp.tied_back, lemmas.List.Sorted.searchable_from_sorted}
+use Rattle.ipv4_prefix.proofs.{SortedRows.below_at, PrefixOrder.less_from_test}
 
 module _ {K : Type 0} {R : K → K → Ordering} (o : IsTotalOrder R) where
   turned : (x y : K) (r : Ordering) → R x y ≡ r → R y x ≡ ordering_reverse r

@@ -1,17 +1,11 @@
 -- What the place of a prefix says of a look-up and of a change.
 use Rattle.std.proofs.Common.{◌≡◌, ℕ, ◌+◌, ◌<◌, ◌≤◌, Bool, true, false, not, List, Result, Ok, Err, length, get_or, set, if◌then◌else◌, Some, None, sym, ap, ◌∙◌, arith}
-use Rattle.std.specs.declared.cmp.Ordering.TheVariants.{Equal}
-use Rattle.std.specs.FinMap.{find, put, is_sorted}
-use Rattle.std.specs.FinMap.Entries.{is_sorted-where_key}
-use Rattle.std.specs.List.{insert, remove}
-use Rattle.std.specs.List.Sorted.{IsBinarySearchResult, IsSearchInRange}
-use Rattle.std.proofs.lemmas.Cmp.{tied_itself}
-use Rattle.std.proofs.lemmas.List.Edits.{length-insert}
+use Rattle.std.specs.{declared.cmp.Ordering.TheVariants.Equal, FinMap.find, FinMap.put, FinMap.is_sorted, FinMap.Entries.is_sorted-where_key, List.insert, List.remove, List.Sorted.IsBinarySearchResult, List.Sorted.IsSearchInRange}
+use Rattle.std.proofs.{lemmas.Cmp.tied_itself, lemmas.List.Edits.length-insert}
 use Rattle.ipv4_prefix.specs.Prefix.{Prefix, prefix_cmp, prefix_eq}
-use Rattle.ipv4_prefix.proofs.SortedRows.{to_T, from_T}
+use Rattle.ipv4_prefix.proofs.{SortedRows.to_T, SortedRows.from_T, PrefixOrder.prefix_cmp_total, PrefixOrder.prefix_cmp-tied}
 use Rattle.network_model.proofs.RowLaws.{sorted-put}
 use Rattle.route_table.specs.Place.{IsPlace, without}
-use Rattle.ipv4_prefix.proofs.PrefixOrder.{prefix_cmp_total, prefix_cmp-tied}
 use Rattle.route_table.proofs.Places.{searchable, put-set, put-insert, find-at, find-between, others-remove, others-between}
 
 module _ {X : Type 0} where

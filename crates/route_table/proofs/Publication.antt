@@ -1,22 +1,14 @@
 -- To publish: each changed row is put again with its control entry in force, and then every row has its control entry in force.
 use Rattle.std.proofs.Common.{◌≡◌, ℕ, ◌+◌, ◌<◌, ◌≤◌, true, false, cond, not, List, [], ◌∷◌, map, length, get_or, drop, Option, Some, None, refl, sym, ap, ◌∙◌, arith}
-use Rattle.std.specs.declared.cmp.Ordering.TheVariants.{Less, Equal, Greater}
-use Rattle.std.specs.FinMap.{put, is_sorted}
-use Rattle.std.specs.FinMap.Entries.{below_all, by_order}
-use Rattle.std.specs.List.{filter}
-use Rattle.std.specs.Option.{option_map_or}
-use Rattle.std.proofs.lemmas.Bool.{and_parts}
-use Rattle.std.proofs.lemmas.Cmp.{tied_itself}
-use Rattle.std.proofs.lemmas.List.{drop_more}
+use Rattle.std.specs.{declared.cmp.Ordering.TheVariants.Less, declared.cmp.Ordering.TheVariants.Equal, declared.cmp.Ordering.TheVariants.Greater, FinMap.put, FinMap.is_sorted, FinMap.Entries.below_all, FinMap.Entries.by_order, List.filter, Option.option_map_or}
+use Rattle.std.proofs.{lemmas.Bool.and_parts, lemmas.Cmp.tied_itself, lemmas.List.drop_more}
 use Rattle.ipv4_prefix.specs.Prefix.{Prefix, prefix_cmp}
-use Rattle.network_model.specs.declared.route.Entry.{Entry}
-use Rattle.network_model.specs.Step.{entry_eq}
+use Rattle.network_model.specs.{declared.route.Entry.Entry, Step.entry_eq}
 use Rattle.network_model.proofs.EntryLaws.{entry_eq-refl, entry_from_eq}
 use Rattle.route_table.specs.declared.row.Row.{Row}
 use Rattle.route_table.specs.Rows.{control_rows, published_rows, table_of, differs, differing_rows, row_in_force, with_in_force}
 use Rattle.ipv4_prefix.proofs.PrefixOrder.{prefix_cmp_total}
-use Rattle.route_table.proofs.Places.{put_here, put_past, above_from_below}
-use Rattle.route_table.proofs.Changed.{below-differing}
+use Rattle.route_table.proofs.{Places.put_here, Places.put_past, Places.above_from_below, Changed.below-differing}
 
 -- the rows with each control entry in force
 abbrev pub marked : List (Prefix × Row) → List (Prefix × Row)

@@ -1,24 +1,14 @@
 -- To publish some: the first of the changed rows are put again with their control entry in force, and the others stay as they are.
 use Rattle.std.proofs.Common.{◌≡◌, ℕ, zero, suc, true, false, cond, not, List, [], ◌∷◌, length, take, drop, Option, Some, None, refl, sym, ap, ◌∙◌}
-use Rattle.std.specs.FinMap.{put, is_sorted}
-use Rattle.std.specs.FinMap.Entries.{below_all}
-use Rattle.std.specs.List.{filter, cons_option}
-use Rattle.std.specs.Option.{option_map}
-use Rattle.std.proofs.lemmas.Bool.{and_parts, and_from}
-use Rattle.std.proofs.lemmas.Cmp.{tied_itself}
-use Rattle.std.proofs.lemmas.List.{length-map}
+use Rattle.std.specs.{FinMap.put, FinMap.is_sorted, FinMap.Entries.below_all, List.filter, List.cons_option, Option.option_map}
+use Rattle.std.proofs.{lemmas.Bool.and_parts, lemmas.Bool.and_from, lemmas.Cmp.tied_itself, lemmas.List.length-map}
 use Rattle.ipv4_prefix.specs.Prefix.{Prefix, prefix_cmp}
 use Rattle.ipv4_prefix.proofs.PrefixOrder.{prefix_cmp_total}
-use Rattle.network_model.specs.declared.route.Entry.{Entry}
-use Rattle.network_model.specs.Publication.{with_rows}
-use Rattle.network_model.proofs.EntryLaws.{entry_eq-refl}
-use Rattle.network_model.proofs.RowLaws.{with_rows-past}
+use Rattle.network_model.specs.{declared.route.Entry.Entry, Publication.with_rows}
+use Rattle.network_model.proofs.{EntryLaws.entry_eq-refl, RowLaws.with_rows-past}
 use Rattle.route_table.specs.declared.row.Row.{Row}
 use Rattle.route_table.specs.Rows.{control_rows, published_rows, table_of, differs, differing_rows, row_in_force, with_in_force}
-use Rattle.route_table.proofs.Places.{put_here, put_below}
-use Rattle.route_table.proofs.Changed.{below-differing}
-use Rattle.route_table.proofs.InForce.{below-published}
-use Rattle.route_table.proofs.Publication.{with_in_force-past}
+use Rattle.route_table.proofs.{Places.put_here, Places.put_below, Changed.below-differing, InForce.below-published, Publication.with_in_force-past}
 
 -- the rows with the first n of those that differ in force
 abbrev pub marked_first : ℕ → List (Prefix × Row) → List (Prefix × Row)

@@ -1,15 +1,12 @@
 -- What the two maps have at a prefix, by the row that is kept there.
 use Rattle.std.proofs.Common.{◌≡◌, ℕ, ◌<◌, List, Option, IsNone, sym, ap, subst, ◌∙◌, true}
-use Rattle.std.specs.FinMap.{find, is_sorted}
-use Rattle.std.specs.Option.{option_map, option_and_then}
+use Rattle.std.specs.{FinMap.find, FinMap.is_sorted, Option.option_map, Option.option_and_then}
 use Rattle.ipv4_prefix.specs.Prefix.{Prefix, prefix_cmp}
-use Rattle.network_model.specs.declared.route.Entry.{Entry}
-use Rattle.network_model.specs.Step.{changed_rows}
+use Rattle.network_model.specs.{declared.route.Entry.Entry, Step.changed_rows}
 use Rattle.route_table.specs.declared.row.Row.{Row}
 use Rattle.route_table.specs.Rows.{TableAndRoom, control_rows, table_of, differing_rows}
 use Rattle.network_model.proofs.RowLaws.{find-map}
-use Rattle.route_table.proofs.InForce.{find-published}
-use Rattle.route_table.proofs.Changed.{changed_rows-table_of}
+use Rattle.route_table.proofs.{InForce.find-published, Changed.changed_rows-table_of}
 
 module _ (t : TableAndRoom) (rows : List (Prefix × Row)) (room : ℕ) (is : ◌≡◌ {A = TableAndRoom} (record { table = table_of rows; room = room }) t) where
   pub control_at : (p : Prefix) (row : Option Row) → find prefix_cmp p rows ≡ row → find prefix_cmp p (t.table).control ≡ option_map (λ r. r.control) row

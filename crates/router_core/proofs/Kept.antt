@@ -1,18 +1,12 @@
 -- What every router keeps, whatever it takes, publishes or releases.
 use Rattle.std.proofs.Common.{refl, sym, ap, ◌∙◌, ◌≡◌, ℕ, ◌≤◌, Bool, true, false, cond, if◌then◌else◌, List, [], ◌∷◌, map, length, Some, None, unwrap_or, eq-eqb}
 use Rattle.network_model.proofs.Common.{AllByRecursion, by_order, eq_by_cmp, Prefix, prefix_cmp, Machine, reaction, opening_machine, Router, machine_of, neighbours, opening_router, chosen_rows, entry_of, session_at, reactions, router_noticing, router_meeting, with_rows, map-put, sorted-map, sorted-put, find as row_of, put, is_sorted, filter, Ordering, Less, Equal, Greater}
-use Rattle.network_model.specs.declared.machine.Event.{Event}
-use Rattle.network_model.specs.declared.network.Port.{Port}
-use Rattle.network_model.specs.declared.route.Entry.TheVariants.{Local, Via}
+use Rattle.network_model.specs.{declared.machine.Event.Event, declared.network.Port.Port, declared.route.Entry.TheVariants.Local, declared.route.Entry.TheVariants.Via}
 use Rattle.route_table.specs.Place.{without}
-use Rattle.route_table.proofs.PrefixPlaces.{sorted-without}
-use Rattle.route_table.proofs.Forgotten.{map-without}
+use Rattle.route_table.proofs.{PrefixPlaces.sorted-without, Forgotten.map-without}
 use Rattle.router_core.specs.Parts.{HasPorts, IsRouter, ups, port_ups, ups_after}
 use Rattle.router_core.specs.Alone.{router_forgetting}
-use Rattle.router_core.proofs.Ports.{ups-reaction, ups-neighbours, length-ups}
-use Rattle.router_core.proofs.ControlRows.{with_rows-rows_by}
-use Rattle.router_core.proofs.Meetings.{reacted, chosen}
-use Rattle.router_core.proofs.Opening.{opening_machines, local_rows}
+use Rattle.router_core.proofs.{Ports.ups-reaction, Ports.ups-neighbours, Ports.length-ups, ControlRows.with_rows-rows_by, Meetings.reacted, Meetings.chosen, Opening.opening_machines, Opening.local_rows}
 
 -- ---- each of a list
 

@@ -1,12 +1,8 @@
 -- What a router's machines do at an event, one after another.
 use Rattle.std.proofs.Common.{refl, sym, ap, ◌∙◌, arith, append_assoc, add-one, ◌≡◌, ℕ, suc, ◌+◌, ◌*◌, ◌<◌, ◌≤◌, Bool, true, false, cond, List, [], ◌∷◌, ◌++◌, map, length, take, drop, get_or, set, Some, is_some, IsSome}
 use Rattle.network_model.proofs.Common.{find-put, map-append, Prefix, prefix_cmp, prefix_eq, Machine, reaction, reactions, held_of, chosen_rows, entry_of, with_rows, prefix_cmp_total, flat_map, find as row_of, put}
-use Rattle.network_model.specs.declared.item.Held.{Held}
-use Rattle.network_model.specs.declared.machine.Event.{Event}
-use Rattle.network_model.specs.declared.network.Port.{Port}
-use Rattle.network_model.specs.declared.route.Entry.{Entry}
-use Rattle.std.proofs.Math.Seq.{take-suc-set, drop-cons}
-use Rattle.std.proofs.Math.Nat.{mul-le-mul_right}
+use Rattle.network_model.specs.{declared.item.Held.Held, declared.machine.Event.Event, declared.network.Port.Port, declared.route.Entry.Entry}
+use Rattle.std.proofs.{Math.Seq.take-suc-set, Math.Seq.drop-cons, Math.Nat.mul-le-mul_right}
 use Rattle.dual_machine.specs.State.{MachineState}
 use Rattle.router_core.specs.Parts.{machines_of}
 

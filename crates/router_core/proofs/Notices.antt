@@ -1,18 +1,12 @@
 -- What a notice and an event of one prefix make of the parts of a router.
 use Rattle.std.proofs.Common.{refl, sym, ap, subst, ◌∙◌, arith, ◌≡◌, ℕ, zero, suc, ◌+◌, ◌<◌, ◌≤◌, Bool, true, List, [], ◌∷◌, ◌++◌, map, length, take, drop, get_or, set, Some, None, option_map, is_some, IsSome, unwrap_or, count_by}
 use Rattle.network_model.proofs.Common.{AllByRecursion, tied_itself, count_by-le-length, Prefix, prefix_cmp, Machine, reaction, changed_at, Table, Gate, Router, machine_of, chosen_rows, entry_of, held_of, router_noticing, router_meeting, with_rows, changed_at_written, map-changed_at, changed_at-map, sorted-map, find-map, prefix_cmp_total, find as row_of, put, is_sorted}
-use Rattle.network_model.specs.declared.machine.Event.{Event}
-use Rattle.network_model.specs.declared.machine.Neighbour.{Neighbour}
-use Rattle.network_model.specs.declared.network.Port.{Port}
-use Rattle.dual_machine.specs.State.{MachineState}
-use Rattle.dual_machine.specs.Event.{IsKnown, IsTimely, is_neighbour_up}
-use Rattle.dual_machine.specs.Outbox.{most_sent}
+use Rattle.network_model.specs.{declared.machine.Event.Event, declared.machine.Neighbour.Neighbour, declared.network.Port.Port}
+use Rattle.dual_machine.specs.{State.MachineState, Event.IsKnown, Event.IsTimely, Event.is_neighbour_up, Outbox.most_sent}
 use Rattle.route_table.proofs.Places.{find-at}
 use Rattle.router_core.specs.Parts.{machines_of, router_of, HasPorts, IsRouter, ups, port_ups}
 use Rattle.router_core.specs.Router.{is_port_up}
-use Rattle.router_core.proofs.Ports.{length-ups, up_at-ups}
-use Rattle.router_core.proofs.Meetings.{reacted, sent, chosen}
-use Rattle.router_core.proofs.Kept.{control-noticing, control-meeting}
+use Rattle.router_core.proofs.{Ports.length-ups, Ports.up_at-ups, Meetings.reacted, Meetings.sent, Meetings.chosen, Kept.control-noticing, Kept.control-meeting}
 
 -- ---- the machines of a router may meet the event
 

@@ -1,9 +1,7 @@
 -- A router that opens, one of its attachments after another, from the last to the first.
 use Rattle.std.proofs.Common.{refl, sym, ap, ◌∙◌, arith, ◌≡◌, ℕ, suc, ◌-◌, ◌<◌, ◌≤◌, true, List, [], ◌∷◌, map, drop, length, get_or, Some}
 use Rattle.network_model.proofs.Common.{put, is_sorted, infinity, Prefix, prefix_cmp, Machine, opening_machine, neighbours, rows_of, map-put, sorted-map}
-use Rattle.network_model.specs.declared.network.Port.{Port}
-use Rattle.network_model.specs.declared.route.Entry.{Entry}
-use Rattle.network_model.specs.declared.route.Entry.TheVariants.{Local}
+use Rattle.network_model.specs.{declared.network.Port.Port, declared.route.Entry.Entry, declared.route.Entry.TheVariants.Local}
 use Rattle.std.proofs.Math.Seq.{drop-cons}
 use Rattle.dual_machine.specs.State.{MachineState, opening_neighbours}
 use Rattle.router_core.specs.Parts.{machines_of}

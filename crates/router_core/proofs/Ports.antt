@@ -1,10 +1,8 @@
 -- The machines of a router have its ports, up and down as the notices said.
 use Rattle.std.proofs.Common.{refl, sym, ap, ◌∙◌, arith, ◌≡◌, ℕ, ◌+◌, ◌<◌, Bool, true, false, List, [], ◌∷◌, length, drop, Option, Some, None, slice_get, option_map}
 use Rattle.network_model.proofs.Common.{option_map_or, length-map, slice_get-map, Machine, records_after, reaction, neighbours, map-changed_at, changed_at-map, reaction-keeps, drop_more, slice_get_within, get_or_from_slice_get, slice_get-get_or}
-use Rattle.network_model.specs.declared.machine.Event.{Event}
+use Rattle.network_model.specs.{declared.machine.Event.Event, declared.machine.Neighbour.Neighbour, declared.network.Port.Port}
 use Rattle.network_model.specs.declared.machine.Event.TheVariants.{Message, Up, Down, Cost}
-use Rattle.network_model.specs.declared.machine.Neighbour.{Neighbour}
-use Rattle.network_model.specs.declared.network.Port.{Port}
 use Rattle.router_core.specs.Parts.{ups, port_ups, ups_after}
 
 pub ups-records_after : (e : Event) (ns : List Neighbour) → ups (records_after e ns) ≡ ups_after e (ups ns)

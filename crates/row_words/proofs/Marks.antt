@@ -1,24 +1,15 @@
 -- Rows whose values are changed, numbers of cells, and the cells that they name.
 use Rattle.std.proofs.Common.{ℕ, ◌≡◌, ◌+◌, ◌*◌, ◌/◌, ◌%◌, ◌^◌, ◌<◌, ◌≤◌, ◌-◌, zero, suc, Bool, true, false, not, cond, nat_lt, List, [], ◌∷◌, ◌++◌, length, map, filter, get_or, Option, Some, None, IfSome, option_map, arith, refl, sym, ap, subst, ◌∙◌, append_assoc, length-append, append-nil, slice_get}
-use Rattle.std.specs.Ordering.{is_lt, nat_cmp, ordering_then}
-use Rattle.std.specs.Cmp.{nat_cmp_is}
-use Rattle.std.specs.declared.cmp.Ordering.TheVariants.{Less, Equal, Greater}
-use Rattle.std.specs.FinMap.{put, is_sorted}
-use Rattle.std.specs.FinMap.Entries.{by_order, is_sorted-where_key}
-use Rattle.std.proofs.Math.ListN.{get_or-append}
-use Rattle.std.proofs.lemmas.List.{length-map}
-use Rattle.std.proofs.Math.Seq.{get_or-append_seam}
+use Rattle.std.specs.{Ordering.is_lt, Ordering.nat_cmp, Ordering.ordering_then, Cmp.nat_cmp_is, declared.cmp.Ordering.TheVariants.Less, declared.cmp.Ordering.TheVariants.Equal, declared.cmp.Ordering.TheVariants.Greater, FinMap.put, FinMap.is_sorted, FinMap.Entries.by_order, FinMap.Entries.is_sorted-where_key}
+use Rattle.std.proofs.{Math.ListN.get_or-append, lemmas.List.length-map, Math.Seq.get_or-append_seam, lemmas.Option.none-some}
 use Rattle.ipv4_prefix.specs.Prefix.{Prefix, IsPrefix, covers, prefix_cmp, prefix_eq}
 use Rattle.ipv4_prefix.specs.LongestMatch.{longest_match, longer_row}
 use Rattle.ipv4_prefix.proofs.SortedRows.{to_T, from_T}
-use Rattle.network_model.specs.Publication.{with_rows}
-use Rattle.network_model.specs.declared.route.Entry.{Entry}
+use Rattle.network_model.specs.{Publication.with_rows, declared.route.Entry.Entry}
 use Rattle.network_model.proofs.RowLaws.{map-put, sorted-put, with_rows-sorted}
-use Rattle.array_bitmap.specs.Words.{nothing, row_word, answer_word}
-use Rattle.array_bitmap.specs.Removal.{without_row}
+use Rattle.array_bitmap.specs.{Words.nothing, Words.row_word, Words.answer_word, Removal.without_row}
 use Rattle.array_bitmap.specs.Cursor.{is_before, rows_from, rows_onward, first_row_from, IsHeadFrom}
 use Rattle.array_bitmap.proofs.RowsFrom.{all_from}
-use Rattle.std.proofs.lemmas.Option.{none-some}
 use Rattle.row_words.specs.Rows.{slot_entry, slot_of, slot_word, no_mark, mark_in, marked, with_slots, with_marked, without_marked, word_or_none, IsSlot, AreSlots, AreKept}
 use Rattle.row_words.specs.declared.cells.Marked.{Marked}
 

@@ -1,16 +1,11 @@
 -- What books show.
 use Rattle.std.proofs.Common.{refl, ap, sym, subst, ◌∙◌, ◌≡◌, ◌≢◌, ◌⊎◌, inl, inr, ℕ, ◌+◌, ◌<◌, Bool, false, true, List, [], ◌∷◌, ◌++◌, Option, Some, None, length, get_or, set, slice_get, arith, slice_set}
 use Rattle.std.specs.FinMap.{find as row_of}
-use Rattle.std.proofs.lemmas.Bool.{cases_eq, false≢true}
-use Rattle.std.proofs.lemmas.List.{set-get_or}
-use Rattle.std.proofs.lemmas.Option.{get_or_from_slice_get, none-some, same_Some}
+use Rattle.std.proofs.{lemmas.Bool.cases_eq, lemmas.Bool.false≢true, lemmas.List.set-get_or, lemmas.Option.get_or_from_slice_get, lemmas.Option.none-some, lemmas.Option.same_Some}
 use Rattle.ipv4_prefix.specs.Prefix.{Prefix, prefix_cmp}
-use Rattle.network_model.specs.Machine.{Machine}
-use Rattle.network_model.specs.World.{Router}
+use Rattle.network_model.specs.{Machine.Machine, World.Router}
 use Rattle.lines.specs.States.{IsMachineState}
-use Rattle.run_states.specs.declared.shown.MachineShown.{MachineShown}
-use Rattle.run_states.specs.Shown.{AreSame, ShowsMachine}
-use Rattle.run_states.specs.Books.{ShowsPlace, ShowsUnmarked, machines_after}
+use Rattle.run_states.specs.{declared.shown.MachineShown.MachineShown, Shown.AreSame, Shown.ShowsMachine, Books.ShowsPlace, Books.ShowsUnmarked, Books.machines_after}
 use Rattle.run_states.proofs.Lists.{slice_get-set_other, slice_get-set_same}
 
 -- what shows a machine is shown of it by all that is the same

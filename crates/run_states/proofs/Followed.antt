@@ -1,7 +1,6 @@
 -- Books that are shown one after another.
 use Rattle.std.proofs.Common.{ap, sym, subst, ◌∙◌, ◌≡◌, ◌≢◌, ◌⊎◌, inl, inr, ℕ, ◌+◌, ◌<◌, ◌≤◌, Bool, false, List, [], ◌∷◌, ◌++◌, Some, length, set, slice_get, arith}
-use Rattle.std.proofs.lemmas.Bool.{cases_eq}
-use Rattle.std.proofs.lemmas.Option.{same_Some, slice_get_within}
+use Rattle.std.proofs.{lemmas.Bool.cases_eq, lemmas.Option.same_Some, lemmas.Option.slice_get_within}
 use Rattle.run_states.specs.Recorders.{BooksFollow}
 use Rattle.run_states.proofs.Lists.{slice_get-set_other, slice_get-set_same}
 

@@ -1,8 +1,7 @@
 -- Lists by place: what stands there after a write.
 use Rattle.std.proofs.Common.{refl, ap, sym, ◌∙◌, ◌≡◌, ◌≢◌, ℕ, zero, suc, ◌<◌, ◌≤◌, None, List, [], ◌∷◌, ◌++◌, Option, Some, option_map, length, map, set, take, slice_get, get_or, drop, subst, All, arith}
 use Rattle.std.proofs.lemmas.Option.{get_or_from_slice_get, none-some, same_Some, slice_get-get_or, slice_get_past, slice_get_read, slice_get_within}
-use Rattle.std.proofs.lemmas.List.{set-get_or}
-use Rattle.std.proofs.Math.Seq.{take-append_seam}
+use Rattle.std.proofs.{lemmas.List.set-get_or, Math.Seq.take-append_seam}
 
 module _ {A : Type 0} where
   -- what was written at a place stands there

@@ -1,9 +1,7 @@
 -- Lists of what is made of numbers and of elements, one more at a time.
 use Rattle.std.proofs.Common.{ap, sym, ◌∙◌, ◌≡◌, ℕ, zero, suc, ◌+◌, Bool, true, false, List, [], ◌∷◌, ◌++◌, map, take, slice_get, Some, add-one, arith, if◌then◌else◌, filter}
 use Rattle.std.specs.List.{flat_map, range_with_len}
-use Rattle.std.proofs.lemmas.List.{append-nil, map-append}
-use Rattle.std.proofs.lemmas.List.Concat.{flat_map-append}
-use Rattle.std.proofs.lemmas.List.Elements.{filter-append}
+use Rattle.std.proofs.{lemmas.List.append-nil, lemmas.List.map-append, lemmas.List.Concat.flat_map-append, lemmas.List.Elements.filter-append}
 use Rattle.network_model.proofs.Fronts.{take_next}
 
 -- n numbers and one more

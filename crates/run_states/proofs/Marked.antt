@@ -1,20 +1,12 @@
 -- MarksTouched, one after another, and that what is current stays so by a step whose link, router and machines are marked.
 use Rattle.std.proofs.Common.{refl, sym, ap, subst, ◌∙◌, ◌≡◌, ◌≢◌, ◌⊎◌, inl, inr, ℕ, ◌<◌, ◌≤◌, ◌||◌, Bool, false, true, List, All, length, get_or, set, Option, Some, None, slice_get, vec_len, Ok, Err, Result, arith, OnErr, OnOk, map}
 use Rattle.network_model.proofs.Common.{find as row_of, cases_eq, false≢true, none-some, same_Some, slice_get_read, slice_get_within, Prefix, prefix_cmp, Machine, Attachments, Network, Router, World, chosen_rows, next, element_there}
-use Rattle.network_model.specs.declared.step.Step.{Step}
-use Rattle.network_model.specs.declared.step.Step.TheVariants.{Publish, Release}
+use Rattle.network_model.specs.{declared.step.Step.Step, declared.step.Step.TheVariants.Publish, declared.step.Step.TheVariants.Release}
 use Rattle.std.specs.Vec.{with_item}
-use Rattle.no_packet_loops.proofs.Runs.{reached}
-use Rattle.no_packet_loops.proofs.Wiring.{wired}
-use Rattle.no_packet_loops.proofs.WorldLaws.{next-shape}
-use Rattle.world.specs.Headline.{IsReached}
-use Rattle.world.specs.Touched.{touched_by}
-use Rattle.run_states.specs.declared.link_book.LinkBook.{LinkBook}
-use Rattle.run_states.specs.declared.router_book.RouterBook.{RouterBook}
-use Rattle.run_states.specs.declared.shown.MachineShown.{MachineShown}
-use Rattle.run_states.specs.declared.recorder.Recorder.{Recorder}
+use Rattle.no_packet_loops.proofs.{Runs.reached, Wiring.wired, WorldLaws.next-shape}
+use Rattle.world.specs.{Headline.IsReached, Touched.touched_by}
+use Rattle.run_states.specs.{declared.link_book.LinkBook.LinkBook, declared.router_book.RouterBook.RouterBook, declared.shown.MachineShown.MachineShown, declared.recorder.Recorder.Recorder, Recorders.IsCurrent, Recorders.IsRecorderOf, Recorders.IsRouterCurrent}
 use Rattle.run_states.specs.Books.{HasPlaces, MachinesMarked, ShowsPlace, link_shows, router_shows}
-use Rattle.run_states.specs.Recorders.{IsCurrent, IsRecorderOf, IsRouterCurrent}
 use Rattle.run_states.specs.Marks.{AreCut, LinkMarked, MarksTouched, RouterMarked, StepMarked, cuts, either_of, touched_link, touched_router, may_touch}
 use Rattle.run_states.proofs.Lists.{all_at, all_from, slice_get-set_other, slice_get-set_same, written_alike}
 use Rattle.run_states.proofs.Unmet.{Remembers, SameMachine, machine_untouched, remembered, stays, stays_heard}

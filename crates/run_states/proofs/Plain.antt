@@ -1,32 +1,16 @@
 -- Values without floats: all that is written of a run.
 use Rattle.std.proofs.Common.{◌≡◌, ℕ, refl, ap, ◌∙◌, Bool, true, false, List, [], ◌∷◌, ◌++◌, Option, Some, None, map, length, nat_cmp, Ordering, Less, Equal, Greater, ◌||◌, ◌==◌, nat_lt, if◌then◌else◌, filter, codes, vec_len}
 use Rattle.std.proofs.lemmas.Bool.{or_parts}
-use Rattle.std.specs.Option.{option_map_or}
-use Rattle.std.specs.List.{flat_map, range_with_len}
+use Rattle.std.specs.{Option.option_map_or, List.flat_map, List.range_with_len, Cmp.Lexicographic.slice_cmp, Ordering.match_ordering}
 use Rattle.std.specs.FinSet as set
-use Rattle.std.specs.Cmp.Lexicographic.{slice_cmp}
-use Rattle.std.specs.Ordering.{match_ordering}
-use Rattle.ipv4_prefix.specs.Prefix.{Prefix}
-use Rattle.ipv4_prefix.specs.Texts.{prefix_text}
+use Rattle.ipv4_prefix.specs.{Prefix.Prefix, Texts.prefix_text}
 use Rattle.metric.specs.Distance.{infinity}
-use Rattle.network_model.specs.declared.item.Item.{Item}
-use Rattle.network_model.specs.declared.network.End.{End}
-use Rattle.network_model.specs.declared.network.LinkSpec.{LinkSpec}
-use Rattle.network_model.specs.declared.network.Place.{Place}
-use Rattle.network_model.specs.declared.route.Entry.{Entry}
-use Rattle.network_model.specs.declared.route.Entry.TheVariants.{Via}
-use Rattle.network_model.specs.World.{Network, World, place_at}
+use Rattle.network_model.specs.{declared.item.Item.Item, declared.network.End.End, declared.network.LinkSpec.LinkSpec, declared.network.Place.Place, declared.route.Entry.Entry, declared.route.Entry.TheVariants.Via, World.Network, World.World, World.place_at}
 use Rattle.serde_json.specs.Data.{Data, null, boolean, object, Members, no_members, member, put}
-use Rattle.serde_json.specs.View.{items_of}
-use Rattle.serde_json.specs.Written.{has_float, items_have_float, members_have_float}
+use Rattle.serde_json.specs.{View.items_of, Written.has_float, Written.items_have_float, Written.members_have_float}
 use Rattle.texts.specs.Words.{Text}
 use Rattle.script.specs.Directories.{Directory, name_text}
-use Rattle.run_states.specs.declared.link_book.LinkChange.{LinkChange}
-use Rattle.run_states.specs.declared.queue.QueueChange.{QueueChange}
-use Rattle.run_states.specs.declared.recorder.Changes.{Changes}
-use Rattle.run_states.specs.declared.router_book.RouterChange.{RouterChange}
-use Rattle.run_states.specs.declared.shown.MachineShown.{MachineShown}
-use Rattle.run_states.specs.Queues.{is_nothing}
+use Rattle.run_states.specs.{declared.link_book.LinkChange.LinkChange, declared.queue.QueueChange.QueueChange, declared.recorder.Changes.Changes, declared.router_book.RouterChange.RouterChange, declared.shown.MachineShown.MachineShown, Queues.is_nothing}
 use Rattle.run_states.specs.Values.{count_value, distance_data, entry_data, item_data, items_data, link_data, links_data, list, listed, machine_data, machine_members, machines_data, number_of_end, opening_data, port_data, ports_data, put_if, put_list, put_moment, put_step, queue_data, queue_listed, queues_data, router_data, routers_data, state_data, word}
 
 -- ---- tests

@@ -4,8 +4,7 @@ use Rattle.network_model.proofs.Common.{next, Network, World, opening}
 use Rattle.network_model.specs.declared.step.Step.{Step}
 use Rattle.world.specs.Steps.{HasRoomForSteps}
 use Rattle.world.proofs.Runs.{less_room, next-room, opening-room}
-use Rattle.run_states.specs.declared.recorder.Recorder.{Recorder}
-use Rattle.run_states.specs.Recorders.{IsCurrent, ShowsWorld}
+use Rattle.run_states.specs.{declared.recorder.Recorder.Recorder, Recorders.IsCurrent, Recorders.ShowsWorld}
 
 -- the opening has room for as many steps as a list may have
 pub room_at_opening : (w : World) (n : Network) (k : ℕ) → w ≡ opening n → k < 2 ^ 64 → HasRoomForSteps k w

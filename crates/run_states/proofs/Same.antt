@@ -1,26 +1,18 @@
 -- What `==` answers true of is one.
 use Rattle.std.proofs.Common.{refl, ap, sym, ◌∙◌, ◌≡◌, ℕ, Bool, true, false, not, List, [], ◌∷◌, ◌++◌, ◌-◌, length, take, drop, Option, Some, None, arith, length-drop, take-append-drop, take_all}
-use Rattle.std.specs.List.{starts_with}
-use Rattle.std.specs.Option.{option_eq}
-use Rattle.std.specs.Cmp.{booleans_Decides}
-use Rattle.std.specs.Cmp.Lexicographic.{pointwise}
+use Rattle.std.specs.{List.starts_with, Option.option_eq, Cmp.booleans_Decides, Cmp.Lexicographic.pointwise}
 use Rattle.std.proofs.lemmas.Bool.{and_parts, eqb-true}
 use Rattle.ipv4_prefix.proofs.PrefixOrder.{prefix_eq-Decides, prefix_partial_eq}
-use Rattle.metric.specs.declared.kind.Kind.{Kind}
-use Rattle.metric.specs.declared.kind.Kind.TheVariants.{Update, Query, Reply}
+use Rattle.metric.specs.{declared.kind.Kind.Kind, declared.kind.Kind.TheVariants.Update, declared.kind.Kind.TheVariants.Query, declared.kind.Kind.TheVariants.Reply}
 use Rattle.metric.specs.contracts.kind.KindPartialEq.TheImpl as KindEq
-use Rattle.network_model.specs.declared.item.Message.{Message}
-use Rattle.network_model.specs.declared.item.Item.{Item}
+use Rattle.network_model.specs.{declared.item.Message.Message, declared.item.Item.Item, declared.route.Entry.Entry}
 use Rattle.network_model.specs.contracts.item.MessagePartialEq.TheImpl as MessageEq
 use Rattle.network_model.specs.contracts.item.ItemPartialEq.TheImpl as ItemEq
-use Rattle.network_model.specs.declared.route.Entry.{Entry}
 use Rattle.network_model.specs.contracts.route.EntryPartialEq.TheImpl as EntryEq
 use Rattle.network_model.proofs.EntryLaws.{entry_from_eq, entry_partial_eq}
-use Rattle.lines.specs.declared.records.LinkState.{LinkState}
+use Rattle.lines.specs.{declared.records.LinkState.LinkState, declared.records.RouterState.RouterState, declared.records.MachineState.MachineState}
 use Rattle.lines.specs.contracts.records.LinkStatePartialEq.TheImpl as LinkEq
-use Rattle.lines.specs.declared.records.RouterState.{RouterState}
 use Rattle.lines.specs.contracts.records.RouterStatePartialEq.TheImpl as RouterEq
-use Rattle.lines.specs.declared.records.MachineState.{MachineState}
 use Rattle.lines.specs.contracts.records.MachineStatePartialEq.TheImpl as MachineEq
 
 -- what is not unequal is equal

@@ -3,16 +3,14 @@ use Rattle.std.proofs.Common.{◌≡◌, ℕ, suc, ◌+◌, ◌-◌, ◌%◌, �
 use Rattle.no_packet_loops.proofs.Common.{range_with_len, Appends, LinkSpec, Step, Network, World, opening, Runs, Lawful, next}
 use Rattle.std.proofs.KnownBytes.{Appends-nil}
 use Rattle.world.proofs.Runs.{with_last_step}
-use Rattle.texts.specs.Words.{Text}
-use Rattle.texts.specs.Lines.{lines_text}
+use Rattle.texts.specs.{Words.Text, Lines.lines_text}
 use Rattle.texts.proofs.Printed.{line_more}
 use Rattle.serde_json.specs.Written.{compact_text}
 use Rattle.script.specs.Directories.{Directory}
 use Rattle.journal.specs.Steps.{step_text}
-use Rattle.run_states.specs.declared.recorder.Recorder.{Recorder}
+use Rattle.run_states.specs.{declared.recorder.Recorder.Recorder, Values.opening_data}
 use Rattle.run_states.specs.Recorders.{ArePrefixesOf, IsBlank, IsRecorderOf, ShowSame}
 use Rattle.run_states.specs.Told.{IsStateLine, IsStatesText, Tell, is_told, numbers_from, step_told}
-use Rattle.run_states.specs.Values.{opening_data}
 use Rattle.network_model.proofs.Fronts.{take_next}
 
 -- ---- numbers

@@ -1,8 +1,7 @@
 -- What a step leaves a router of a prefix that it does not touch: its machine and its rows.
 use Rattle.std.proofs.Common.{refl, ap, sym, subst, ◌∙◌, ◌≡◌, ℕ, Bool, true, false, cond, not, List, [], ◌∷◌, Option, Some, None, option_map, slice_get, filter, is_some}
 use Rattle.no_packet_loops.proofs.Common.{find-map, find-put, prefix_cmp_total, option_map_or, false≢true, Prefix, prefix_cmp, prefix_eq, prefix_eq-Decides, Held, Item, Notice, Event, Port, Entry, Machine, Reaction, event_at_home, reaction, Router, World, machine_of, changed_attachments, changed_link, changed_router, changed_rows, chosen_rows, entry_eq, entry_of, front_at, has_row, next, notice_at, reactions, release_at, router_accepting, router_at_home, router_meeting, router_noticing, router_publishing, router_releasing, with_cost, with_delivered, with_front_taken, with_message, with_notice_taken, with_noticed, with_released, entry_from_eq, slice_get-changed_at, routers-changed_link, find as row_of, put, none-some, same_Some, Step, SetCost, Deliver, Publish, Release}
-use Rattle.run_states.specs.Books.{matches_prefix}
-use Rattle.run_states.specs.Marks.{message_prefix, touched_router, may_touch}
+use Rattle.run_states.specs.{Books.matches_prefix, Marks.message_prefix, Marks.touched_router, Marks.may_touch}
 
 -- what a router that has heard of a prefix has for it is what it had before
 abbrev pub SameMachine : Prefix → Router → Router → Type 0

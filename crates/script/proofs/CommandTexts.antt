@@ -1,9 +1,7 @@
 -- What a line asks for, by its first word.
 use Rattle.std.proofs.Common.{◌≡◌, ◌≢◌, ℕ, false, inl, inr, List, [], ◌∷◌, All, Contains, bytes_eq, codes, refl, sym, subst, ◌∙◌, arith}
 use Rattle.script.proofs.Common.{list_any, false≢true, bytes_eq-Decides, All-nil, All-cons, All-contains, list_any_at, Prefix, LinkSpec, Text, NamesRouter, NamesText, AsksDelivery, NamesNoAddress, NamesNoPrefix, NamesThrough, AsksNoStep, AsksNoTrace, AsksTrace, AsksBadQuestion, Asks, address_verbs, HasBadValue, AsksNothing, AsksDrawn}
-use Rattle.script.specs.declared.command.Command.{Command}
-use Rattle.script.specs.declared.fault.LineFault.{LineFault}
-use Rattle.script.specs.declared.fault.LineFault.TheVariants.{BadCommand, Prefix as OfPrefix}
+use Rattle.script.specs.{declared.command.Command.Command, declared.fault.LineFault.LineFault, declared.fault.LineFault.TheVariants.BadCommand, declared.fault.LineFault.TheVariants.Prefix as OfPrefix}
 use Rattle.script.proofs.StepTexts.{clash, first_same, rest_same, no_prefix, no_verb, other_prefix}
 
 -- the words name no router and text after a verb that takes an address

@@ -1,9 +1,7 @@
 -- One more line read.
 use Rattle.std.proofs.Common.{◌≡◌, ℕ, ◌+◌, ◌<◌, min, inl, inr, List, [], ◌∷◌, ◌++◌, length, get_or, take, Some, String, string_bytes, refl, sym, ap, ◌∙◌, arith, slice_get, None, take_all}
 use Rattle.script.proofs.Common.{cases_lt, take_more, length_push, slice_get-map, slice_get_read, slice_get_within, get_or_from_slice_get, all_zipped_more, Text, texts, ReadsFirst, StopsHere}
-use Rattle.script.specs.declared.fault.LineFault.{LineFault}
-use Rattle.script.specs.declared.place.Key.{Key}
-use Rattle.script.specs.declared.place.Located.{Located}
+use Rattle.script.specs.{declared.fault.LineFault.LineFault, declared.place.Key.Key, declared.place.Located.Located}
 
 pub reads_none : {X : Type 0} (Says : Text → X → Type 0) (lines : List Text) (items : List X) → items ≡ [] → ReadsFirst Says lines items
 reads_none Says lines items none = rw none tt

@@ -1,8 +1,7 @@
 -- Worked examples: each definition computes what it is to say.
 use Rattle.std.proofs.Common.{◌≡◌, ℕ, inl, inr, List, [], ◌∷◌, Some, None, codes, refl, ap, arith}
 use Rattle.script.proofs.Common.{Prefix, LinkSpec, LinkUp, SetCost, Deliver, Publish, Attach, Detach, Text, words_of, router_number, router_named, IsLink, IsAttachment, link_between, IsPortOn, IsCommand, IsCommandFault, Directory, neighbours_of, directory_of, source_at}
-use Rattle.script.specs.declared.command.Command.{Command}
-use Rattle.script.specs.declared.fault.LineFault.TheVariants.{BadCost}
+use Rattle.script.specs.{declared.command.Command.Command, declared.fault.LineFault.TheVariants.BadCost}
 use Rattle.std.specs.Fmt.{digits}
 use Rattle.script.proofs.StepTexts.{clash}
 

@@ -1,10 +1,8 @@
 -- What the words of a line ask for, by the first of them.
 use Rattle.std.proofs.Common.{◌≡◌, ◌≢◌, ℕ, inl, inr, subst, ◌<◌, ◌≤◌, false, List, [], ◌∷◌, Some, None, bytes_eq, codes, decimal, refl, sym, ap, ◌∙◌, arith, true≢false}
 use Rattle.script.proofs.Common.{Spells, LinkSpec, Step, LinkUp, LinkDown, SetCost, Deliver, Publish, Release, Attach, Detach, Prefix, SpellsPrefix, IsFirstFault, PrefixFault, IsCost, degree, join_with_byte, decimal_injective, bytes_eq-Decides, join_with_byte-slice_split, Text, words_of, IsName, router_number, NamesRouter, NamesText, NamesTextAndNumber, NamesTwice, NamesWay, NamesLink, NamesNumber, IsKnownPrefix, NamesNoPrefix, AsksCost, AsksNoCost, AsksDelivery, AsksBadAttachment, AsksNoAttachment, AsksStep, AsksBadStep, AsksNoStep, IsPortOn, port_on, link_between}
-use Rattle.script.specs.declared.fault.LineFault.{LineFault}
-use Rattle.script.specs.declared.fault.LineFault.TheVariants.{BadCost, BadCommand, Prefix as OfPrefix}
-use Rattle.script.proofs.NameTexts.{words-name}
-use Rattle.script.proofs.Ports.{is_port, port_is}
+use Rattle.script.specs.{declared.fault.LineFault.LineFault, declared.fault.LineFault.TheVariants.BadCost, declared.fault.LineFault.TheVariants.BadCommand, declared.fault.LineFault.TheVariants.Prefix as OfPrefix}
+use Rattle.script.proofs.{NameTexts.words-name, Ports.is_port, Ports.port_is}
 
 -- two lists that begin with different words differ
 pub clash : (v w : Text) (ws us : List Text) → bytes_eq v w ≡ false → v ∷ ws ≡ w ∷ us → ⊥

@@ -3,8 +3,7 @@ use Rattle.std.proofs.Common.{refl, ◌≡◌, List, [], ◌∷◌, Some, None}
 use Rattle.no_packet_loops.proofs.Example.{pair}
 use Rattle.network_model.specs.declared.step.Step.{Step}
 use Rattle.network_model.specs.declared.step.Step.TheVariants.{LinkUp, LinkDown, Deliver, Publish, Release}
-use Rattle.simulation.specs.Headline.{hop_by_image}
-use Rattle.simulation.specs.Simulation.{Simulation, after_steps, opening_simulation}
+use Rattle.simulation.specs.{Headline.hop_by_image, Simulation.Simulation, Simulation.after_steps, Simulation.opening_simulation}
 
 -- the link comes up, both routers hear of that, and router 0 publishes
 abbrev told : List Step

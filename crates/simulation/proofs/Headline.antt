@@ -4,8 +4,7 @@ use Rattle.no_packet_loops.proofs.Common.{slice_get-map, longest_match, entry_le
 use Rattle.all_packets.specs.Packets.{IsWay, NoPacketCircles}
 use Rattle.all_packets.proofs.Improving.{way_by}
 use Rattle.course.specs.Images.{image_in_force}
-use Rattle.simulation.specs.Simulation.{Simulation, IsSimulation}
-use Rattle.simulation.specs.Headline.{hop_by_image, IsWayByImages, NeverMeetsTwice}
+use Rattle.simulation.specs.{Simulation.Simulation, Simulation.IsSimulation, Headline.hop_by_image, Headline.IsWayByImages, Headline.NeverMeetsTwice}
 
 -- along an image in force a packet goes where it goes by what its router published
 pub hop_is : (s : Simulation) → IsSimulation s → (addr i : ℕ) → hop_by_image s addr i ≡ hop s.world addr i

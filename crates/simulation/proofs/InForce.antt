@@ -1,10 +1,8 @@
 -- What a step does to the images of the code.
 use Rattle.std.proofs.Common.{refl, sym, ap, subst, ◌∙◌, ◌≡◌, ℕ, List, set, Option, Some, IsSome, Result, Ok, Err, OnOk, OnErr, slice_get}
 use Rattle.no_packet_loops.proofs.Common.{Refusal, World, Lawful, next, Image, Step, Publish}
-use Rattle.image_patch.specs.declared.Patch.{Patch as PatchFields}
-use Rattle.image_patch.specs.Patches.{patched}
-use Rattle.course.specs.Course.{Course, course_after}
-use Rattle.course.specs.Images.{image_in_force, images_in_force}
+use Rattle.image_patch.specs.{declared.Patch.Patch as PatchFields, Patches.patched}
+use Rattle.course.specs.{Course.Course, Course.course_after, Images.image_in_force, Images.images_in_force}
 use Rattle.course.proofs.Images.{due_lawful, image_is, images_due, images_stay}
 use Rattle.simulation.specs.Patches.{IsImagePatchDue}
 

@@ -1,8 +1,7 @@
 -- A simulation is its course, with the images in force that its world says.
 use Rattle.std.proofs.Common.{refl, sym, ap, ◌∙◌, ◌≡◌, List, [], ◌∷◌, ◌++◌, map}
 use Rattle.no_packet_loops.proofs.Common.{range_with_len, World, Network, opening, Image, Step}
-use Rattle.course.specs.Course.{Course, opening_course, course_after_all}
-use Rattle.course.specs.Images.{images_in_force, chosen_image}
+use Rattle.course.specs.{Course.Course, Course.opening_course, Course.course_after_all, Images.images_in_force, Images.chosen_image}
 use Rattle.simulation.specs.Simulation.{Simulation, after_step, after_steps, course_part, opening_simulation, with_images, IsSimulation}
 use Rattle.course.proofs.Images.{chosen_published}
 

@@ -1,8 +1,7 @@
 -- Steps that routers do in turn.
 use Rattle.std.proofs.Common.{ℕ}
 use Rattle.course.specs.Turns.{HasTakenTurns}
-use Rattle.simulation.specs.Simulation.{Simulation, course_part, IsSimulation}
-use Rattle.simulation.specs.Settling.{HasTurned}
+use Rattle.simulation.specs.{Simulation.Simulation, Simulation.course_part, Simulation.IsSimulation, Settling.HasTurned}
 use Rattle.simulation.proofs.Simulations.{after_course}
 
 -- the turns of a course are those of the simulation

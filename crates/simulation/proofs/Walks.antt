@@ -2,13 +2,11 @@
 use Rattle.std.proofs.Common.{sym, ap, subst, ◌∙◌, arith, ◌≡◌, ◌≢◌, ℕ, suc, ◌<◌, ◌≤◌, List, [], ◌∷◌, ◌++◌, append_assoc, length, take, drop, Option, Some, None}
 use Rattle.no_packet_loops.proofs.Common.{Prefix, Entry, Ending, World, row_for, entry_leads, Ends, Goes, by_row, onward, Trace}
 use Rattle.no_packet_loops.proofs.Traces.{by_entry-goes}
-use Rattle.all_packets.specs.Packets.{IsWay, NoPacketCircles}
-use Rattle.all_packets.specs.Through.{through_from}
+use Rattle.all_packets.specs.{Packets.IsWay, Packets.NoPacketCircles, Through.through_from}
 use Rattle.course.specs.Links.{HasShortWays, LeadsToRouters}
 use Rattle.all_packets.proofs.Through.{is_way, long, onwards, row_ends}
-use Rattle.simulation.specs.Simulation.{Simulation, IsSimulation}
+use Rattle.simulation.specs.{Simulation.Simulation, Simulation.IsSimulation, Tracing.HasImageWays, Tracing.IsTraced, Tracing.passed}
 use Rattle.simulation.proofs.Headline.{along_images}
-use Rattle.simulation.specs.Tracing.{HasImageWays, IsTraced, passed}
 
 -- ---- where a packet goes on, and how it ends
 

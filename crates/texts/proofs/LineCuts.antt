@@ -1,14 +1,8 @@
 -- How a text falls into lines.
 use Rattle.std.proofs.Common.{◌≡◌, ◌≢◌, ℕ, ◌<◌, ◌≤◌, ◌-◌, ◌==◌, take, drop, inl, inr, Bool, false, if◌then◌else◌, [], ◌∷◌, length, Some, None, position, cond, refl, sym, ap, ◌∙◌, arith, List, take_all, length-drop}
 use Rattle.std.specs.List.{slice_split, position_or_len, before_first, after_first}
-use Rattle.std.proofs.lemmas.Bool.{cases_lt, lt-ltb}
-use Rattle.std.proofs.Math.Seq.{drop-length}
-use Rattle.std.proofs.lemmas.Option.{none-some}
-use Rattle.std.proofs.lemmas.List.Sums.{fails_before_first, position_or_len_is}
-use Rattle.std.proofs.lemmas.List.Quantifiers.{position-Some}
-use Rattle.std.proofs.lemmas.List.Splits.{slice_split_first, slice_split_none, length-slice_split}
-use Rattle.texts.specs.Words.{Text}
-use Rattle.texts.specs.Lines.{is_line_feed, but_empty_last, lines_of}
+use Rattle.std.proofs.{lemmas.Bool.cases_lt, lemmas.Bool.lt-ltb, Math.Seq.drop-length, lemmas.Option.none-some, lemmas.List.Sums.fails_before_first, lemmas.List.Sums.position_or_len_is, lemmas.List.Quantifiers.position-Some, lemmas.List.Splits.slice_split_first, lemmas.List.Splits.slice_split_none, lemmas.List.Splits.length-slice_split}
+use Rattle.texts.specs.{Words.Text, Lines.is_line_feed, Lines.but_empty_last, Lines.lines_of}
 
 parts_some : (text : Text) → slice_split is_line_feed text ≢ []
 parts_some text none = absurd (omega (arith, length-slice_split is_line_feed text, ap length none))

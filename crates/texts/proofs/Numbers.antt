@@ -1,7 +1,6 @@
 -- Each number has one decimal text without a sign or a leading zero, and `parse` reads just that text so.
 use Rattle.std.proofs.Common.{◌≡◌, ℕ, ◌^◌, ◌<◌, List, length, decimal, Result, Ok, Err, Some, IfSome, refl, sym, ap, subst, ◌∙◌, arith, inl, inr}
-use Rattle.std.specs.Str.Parse.{ParsesUnsigned, digits_value, AllDigits}
-use Rattle.std.specs.Result.{OkIff, result_ok}
+use Rattle.std.specs.{Str.Parse.ParsesUnsigned, Str.Parse.digits_value, Str.Parse.AllDigits, Result.OkIff, Result.result_ok}
 use Rattle.std.proofs.lemmas.Bool.{cases_lt}
 use Rattle.std.proofs.lemmas.Fmt.{decimal_is_IsNumeral, decimal_digit, first_decimal, decimal-digits_value, decimal_injective, parse-decimal}
 use Rattle.std.proofs.lemmas.Str.Parse.{numerals_by_value, tells_digits, digit_at, parse_plain}

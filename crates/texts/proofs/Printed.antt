@@ -1,12 +1,8 @@
 -- Lines that are written one after another.
 use Rattle.std.proofs.Common.{◌≡◌, ℕ, ◌+◌, ◌<◌, List, [], ◌∷◌, ◌++◌, length, take, Option, refl, sym, ap, subst, ◌∙◌, add-one, append_assoc, append-nil, get_or}
-use Rattle.std.specs.Io.KnownBytes.{Appends}
-use Rattle.std.specs.List.{flat_map}
-use Rattle.std.proofs.KnownBytes.{Appends-trans}
-use Rattle.std.proofs.lemmas.List.{flat_map_more}
-use Rattle.std.proofs.Math.Seq.{take-suc}
-use Rattle.texts.specs.Words.{Text}
-use Rattle.texts.specs.Lines.{lines_text}
+use Rattle.std.specs.{Io.KnownBytes.Appends, List.flat_map}
+use Rattle.std.proofs.{KnownBytes.Appends-trans, lemmas.List.flat_map_more, Math.Seq.take-suc}
+use Rattle.texts.specs.{Words.Text, Lines.lines_text}
 
 module _ {A : Type 0} (part : A → Text) where
   pub part_more : (xs : List A) (x : A) (old mid new : Option Text) → Appends old mid (flat_map part xs) → Appends mid new (part x) → Appends old new (flat_map part (xs ++ x ∷ []))

@@ -1,8 +1,7 @@
 -- How a line falls into words.
 use Rattle.std.proofs.Common.{◌≡◌, ◌≢◌, ◌<◌, ◌==◌, Bool, false, [], ◌∷◌, length, Option, Bor, IfSome, IfNone, MatchOption, Some, None, sym, ap, ◌∙◌, arith, true≢false}
 use Rattle.std.specs.List.{position_or_len, before_first, after_first}
-use Rattle.std.proofs.lemmas.List.Sums.{fails_before_first}
-use Rattle.std.proofs.lemmas.List.Splits.{slice_split_first, slice_split_none, length-slice_split}
+use Rattle.std.proofs.{lemmas.List.Sums.fails_before_first, lemmas.List.Splits.slice_split_first, lemmas.List.Splits.slice_split_none, lemmas.List.Splits.length-slice_split}
 use Rattle.texts.specs.Words.{Text, is_space, words_of}
 
 -- a cut at the first space

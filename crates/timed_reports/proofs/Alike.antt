@@ -2,14 +2,10 @@
 use Rattle.std.proofs.Common.{refl, sym, ap, subst, ◌∙◌, inl, inr, ◌≡◌, ℕ, ◌+◌, Bool, true, false, not, cond, List, [], ◌∷◌, map, Option, Some, None, option_map, option_and_then, slice_get}
 use Rattle.no_packet_loops.proofs.Common.{find-where_key, option_map_or, option_map_or-ind, map-changed_at, slice_get-map, false≢true, None_not_Some, Some_injective, prefix_cmp, prefix_eq, Prefix, Item, Held, End, A, B, Link, Router, Attachments, World, Place, side, other, changed_at, changed_side, changed_router, changed_link, changed_attachments, with_cost, with_item, with_front_taken, with_message, with_notice_taken, with_attachment, without_attachment, with_delivered, with_noticed, with_released, router_accepting, router_at_home, router_publishing, router_releasing, front_at, notice_at, release_at, place_at, next, Entry, attachment_at, IsWalk, walk_cost, Equal, is_eq, find as row_of, Step, SetCost, Deliver, Publish, Release, Attach, Detach}
 use Rattle.no_packet_loops.specs.Packets.{control_entry, published_entry}
-use Rattle.no_packet_loops.proofs.Machines.{prefix_same}
-use Rattle.no_packet_loops.proofs.Releasing.{by_message}
-use Rattle.no_packet_loops.proofs.WorldLaws.{row_of-put_other}
+use Rattle.no_packet_loops.proofs.{Machines.prefix_same, Releasing.by_message, WorldLaws.row_of-put_other}
 use Rattle.quiet_routes.specs.Routes.{IsChain}
 use Rattle.reachability.specs.Ways.{HasWay, IsCutOff}
-use Rattle.timed_reports.specs.declared.spells.Watched.{Watched}
-use Rattle.timed_reports.specs.Looks.{IsStill, MarksMoved}
-use Rattle.timed_reports.specs.Records.{MovesNoWay, moves_ways}
+use Rattle.timed_reports.specs.{declared.spells.Watched.Watched, Looks.IsStill, Looks.MarksMoved, Records.MovesNoWay, Records.moves_ways}
 
 -- what a way sees of a link: whether it is up, its session, and the routers at its ends
 pub record Shape : Type 0 where

@@ -1,17 +1,12 @@
 -- At rest nobody is cut off, and no machine is in a computation: so it is at the opening.
 use Rattle.std.proofs.Common.{refl, sym, ◌∙◌, arith, eq-eqb, ◌≡◌, ℕ, ◌<◌, true, List, []}
 use Rattle.no_packet_loops.proofs.Common.{false≢true, is_settled, Prefix, World, Network, history, is_quiet, opening, IsNetwork, Runs, Step}
-use Rattle.no_packet_loops.proofs.Wiring.{few_routers, wired}
-use Rattle.no_packet_loops.proofs.Runs.{reached}
+use Rattle.no_packet_loops.proofs.{Wiring.few_routers, Wiring.wired, Runs.reached}
 use Rattle.quiet_routes.specs.Routes.{HasBestRow}
-use Rattle.quiet_routes.proofs.Routes.{quiet_routes}
-use Rattle.quiet_routes.proofs.Settled.{settled_is_quiet}
-use Rattle.quiet_routes.proofs.Worlds.{good}
-use Rattle.quiet_routes.proofs.Still.{still}
+use Rattle.quiet_routes.proofs.{Routes.quiet_routes, Settled.settled_is_quiet, Worlds.good, Still.still}
 use Rattle.course.proofs.Idle.{router_count}
 use Rattle.world.specs.Rest.{unrest}
-use Rattle.world.proofs.Degrees.{few_links}
-use Rattle.world.proofs.Rest.{settled, watched-opening}
+use Rattle.world.proofs.{Degrees.few_links, Rest.settled, Rest.watched-opening}
 use Rattle.reachability.specs.Ways.{IsCutOff}
 use Rattle.reachability.proofs.Laws.{none_cut_off}
 use Rattle.timed_reports.specs.Going.{IsComputing}

@@ -1,8 +1,7 @@
 -- Where routers and prefixes stand that are watched in order: by prefixes, and then by routers.
 use Rattle.std.proofs.Common.{sym, ap, ◌∙◌, arith, ◌≡◌, ◌≢◌, ℕ, zero, suc, ◌+◌, ◌-◌, ◌*◌, ◌<◌, ◌≤◌, List, [], ◌∷◌, ◌++◌, flat_map, length, length-append, Option, Some, option_map, slice_get}
 use Rattle.no_packet_loops.proofs.Common.{None_not_Some, Some_injective, length-map, listed_at, slice_get-map, Prefix, length-map-range_with_len, mul-le-mul_right, suc-mul, some_pair_parts, append_within}
-use Rattle.timed_reports.specs.declared.spells.Watched.{Watched}
-use Rattle.timed_reports.specs.Records.{AreInOrder, watched_at, with_routers}
+use Rattle.timed_reports.specs.{declared.spells.Watched.Watched, Records.AreInOrder, Records.watched_at, Records.with_routers}
 
 -- an element behind the first list
 append_past : {A : Type 0} (xs ys : List A) (j : ℕ) → slice_get (xs ++ ys) (length xs + j) ≡ slice_get ys j

@@ -1,8 +1,7 @@
 -- What goes on, goes on at a router of the network and for a prefix of it.
 use Rattle.std.proofs.Common.{refl, sym, ap, subst, ◌∙◌, arith, ◌≡◌, ℕ, zero, suc, ◌<◌, Bool, true, false, cond, not, if◌then◌else◌, List, [], ◌∷◌, map, length, Option, Some, None, option_and_then, option_map, slice_get, unwrap_or}
 use Rattle.no_packet_loops.proofs.Common.{false≢true, None_not_Some, slice_get_within, slice_get-map, length-map-range_with_len, prefix_cmp, prefix_eq, Prefix, Machine, Router, Attachments, World, Network, opening, opening_router_of, costs_of, prefixes_of, option_map_or, option_map_or-ind, changed_at, changed_link, with_attachment, without_attachment, with_cost, with_front_taken, with_message, with_notice_taken, with_delivered, with_noticed, with_released, front_at, notice_at, release_at, place_at, End, Link, Place, Lawful, next, Runs, list_any, range_with_len, by_order, where_key, opening_machine, neighbours, is_active, Ordering, Less, Equal, Greater, find as row_of, put, Step, SetCost, Deliver, Release, Attach, Detach}
-use Rattle.no_packet_loops.proofs.Machines.{prefix_same}
-use Rattle.no_packet_loops.proofs.WorldLaws.{Runs-shape}
+use Rattle.no_packet_loops.proofs.{Machines.prefix_same, WorldLaws.Runs-shape}
 use Rattle.coming_to_rest.proofs.Known.{Each, IsOf, Known, RouterKnown, each_at, known_run, known_next, opening_known}
 use Rattle.reachability.specs.Ways.{IsCutOff}
 use Rattle.timed_reports.specs.Going.{IsComputing}

@@ -2,14 +2,9 @@
 use Rattle.std.proofs.Common.{refl, sym, ap, subst, ◌∙◌, inl, inr, ◌≡◌, ◌≢◌, ℕ, false, List, map, Option, Some, None, Result, Ok, Err, IfSome, option_and_then, option_map, slice_get, unwrap_or}
 use Rattle.no_packet_loops.proofs.Common.{option_map_or, option_map_or-ind, map-changed_at, routers-changed_link, slice_get-map, slice_get-changed_at_other, false≢true, prefix_eq, Prefix, Machine, Item, Place, Side, Link, Router, World, changed_at, changed_link, changed_router, side, with_cost, with_front_taken, with_message, with_delivered, with_noticed, with_released, router_accepting, router_at_home, router_publishing, router_releasing, front_at, notice_at, release_at, place_at, next, None_not_Some, Some_injective, Message, Event, opening_machine, reaction, machine_of, neighbours, is_active, Step, SetCost, Deliver, Publish, Release}
 use Rattle.no_packet_loops.proofs.WorldLaws.{row_of-put_other}
-use Rattle.link_fifo.specs.declared.refusal.LinkRefusal.{LinkRefusal}
-use Rattle.link_fifo.specs.declared.refusal.LinkRefusal.TheVariants.{UnknownLink}
-use Rattle.link_fifo.specs.Refusals.{front_of}
+use Rattle.link_fifo.specs.{declared.refusal.LinkRefusal.LinkRefusal, declared.refusal.LinkRefusal.TheVariants.UnknownLink, Refusals.front_of}
 use Rattle.link_fifo.proofs.Changes.{front_of-Some}
-use Rattle.timed_reports.specs.declared.spells.Watched.{Watched}
-use Rattle.timed_reports.specs.Going.{IsComputing}
-use Rattle.timed_reports.specs.Looks.{IsPassedBy, IsToldPrefix}
-use Rattle.timed_reports.specs.Records.{IsElsewhere}
+use Rattle.timed_reports.specs.{declared.spells.Watched.Watched, Going.IsComputing, Looks.IsPassedBy, Looks.IsToldPrefix, Records.IsElsewhere}
 
 -- router i has the same machine for the prefix in both worlds
 abbrev pub HasSame : Prefix → ℕ → World → World → Type 0

@@ -1,8 +1,7 @@
 -- Looks at one after another.
 use Rattle.std.proofs.Common.{refl, sym, ap, subst, ◌∙◌, arith, inl, inr, length-set, append-nil, append_assoc, ◌≡◌, ◌≢◌, ◌⊎◌, ◌↔◌, ℕ, zero, suc, ◌+◌, ◌-◌, ◌<◌, ◌≤◌, IsTrue, Bool, true, false, List, [], ◌∷◌, ◌++◌, take, length, set, Option, Some, None, option_map, option_to_list, slice_get}
 use Rattle.no_packet_loops.proofs.Common.{None_not_Some, Some_injective, false≢true, get_or_from_slice_get, slice_get_within, World, cases_lt, take_more}
-use Rattle.timed_reports.specs.declared.spells.Spell.{Spell}
-use Rattle.timed_reports.specs.declared.spells.Watched.{Watched}
+use Rattle.timed_reports.specs.{declared.spells.Spell.Spell, declared.spells.Watched.Watched}
 use Rattle.timed_reports.specs.Records.{AreLooked, EndByLooks, HoldsOf, IsListed, IsLooked, IsSeen, Kind, ended_by, seen, spell}
 use Rattle.timed_reports.proofs.Lists.{get_next, get_within, listed_behind, set_other, set_same}
 

@@ -1,8 +1,7 @@
 -- What one event more makes of spells.
 use Rattle.std.proofs.Common.{refl, sym, ap, subst, ◌∙◌, arith, ◌≤◌, inl, inr, ◌≡◌, ◌⊎◌, ℕ, List, [], ◌∷◌, ◌++◌, Some, None}
 use Rattle.no_packet_loops.proofs.Common.{None_not_Some, Some_injective, World, Lawful, next, Runs}
-use Rattle.timed_simulation.specs.declared.events.Event.{Event}
-use Rattle.timed_simulation.specs.Timed.{Timed, after_event}
+use Rattle.timed_simulation.specs.{declared.events.Event.Event, Timed.Timed, Timed.after_event}
 use Rattle.timed_simulation.specs.Runs.{Ascends, IsNext, LeadsTo, steps_of}
 use Rattle.timed_reports.specs.Spells.{IsSpell, Lasts}
 

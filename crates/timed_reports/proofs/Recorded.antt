@@ -1,11 +1,8 @@
 -- What a look at the world after an event leaves of an exact record.
 use Rattle.std.proofs.Common.{refl, sym, ap, subst, ◌∙◌, arith, inl, inr, ◌≡◌, ◌⊎◌, ◌↔◌, ℕ, suc, ◌<◌, IsTrue, Bool, true, false, List, [], ◌∷◌, ◌++◌, map, length, MatchOption, Option, Some, None, option_map, option_to_list, slice_get, unwrap_or, take_all}
 use Rattle.no_packet_loops.proofs.Common.{None_not_Some, false≢true, slice_get_within, list_any, Prefix, prefix_eq, World, Lawful, next, Runs}
-use Rattle.timed_simulation.specs.declared.events.Event.{Event}
-use Rattle.timed_simulation.specs.Runs.{steps_of}
-use Rattle.timed_reports.specs.declared.spells.Spell.{Spell}
-use Rattle.timed_reports.specs.declared.spells.Watched.{Watched}
-use Rattle.timed_reports.specs.Spells.{IsSpell}
+use Rattle.timed_simulation.specs.{declared.events.Event.Event, Runs.steps_of}
+use Rattle.timed_reports.specs.{declared.spells.Spell.Spell, declared.spells.Watched.Watched, Spells.IsSpell}
 use Rattle.timed_reports.specs.Records.{AreInOrder, AreLooked, AreWatched, AtFirst, EndByLooks, EndWith, HaveEnded, HoldsOf, IsListed, IsRecorded, IsSeen, Kind, OneMore, ended_by, seen, spell, watched, watched_at}
 use Rattle.timed_reports.proofs.Lists.{get_within, listed_behind, listed_either, listed_first, map_alike}
 use Rattle.timed_reports.proofs.OneByOne.{ending, is_ended}

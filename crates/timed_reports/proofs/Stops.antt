@@ -1,11 +1,7 @@
 -- What a run of at most one event has done.
 use Rattle.std.proofs.Common.{sym, ap, subst, ◌∙◌, arith, inl, inr, ◌≡◌, ◌⊎◌, ℕ, ◌<◌, ◌≤◌, List, [], ◌∷◌, length, MatchOption, Option, Some, None}
 use Rattle.no_packet_loops.proofs.Common.{Some_injective}
-use Rattle.timed_simulation.specs.declared.events.Event.{Event}
-use Rattle.timed_simulation.specs.declared.fault.TimeFault.{TimeFault}
-use Rattle.timed_simulation.specs.Timed.{Timed, after_event}
-use Rattle.timed_simulation.specs.Events.{next_event}
-use Rattle.timed_simulation.specs.Due.{IsDoneUntil}
+use Rattle.timed_simulation.specs.{declared.events.Event.Event, declared.fault.TimeFault.TimeFault, Timed.Timed, Timed.after_event, Events.next_event, Due.IsDoneUntil}
 use Rattle.timed_simulation.specs.Runs.{IsAtRest, IsNext, IsTimed, IsTimedRun, LeadsTo}
 use Rattle.timed_simulation.proofs.Runs.{due_if}
 

@@ -3,8 +3,7 @@ use Rattle.std.proofs.Common.{refl, sym, ap, subst, ◌∙◌, arith, inl, inr, 
 use Rattle.std.proofs.lemmas.List.Concat.{flat_map-append}
 use Rattle.no_packet_loops.proofs.Common.{None_not_Some, false≢true, prefix_eq, Prefix, get_or_from_slice_get, slice_get_within, list_any, cases_lt, map-append, take_all, take_more, map-range_with_len_more}
 use Rattle.no_packet_loops.proofs.Machines.{prefix_same}
-use Rattle.timed_reports.specs.declared.spells.Spell.{Spell}
-use Rattle.timed_reports.specs.declared.spells.Watched.{Watched}
+use Rattle.timed_reports.specs.{declared.spells.Spell.Spell, declared.spells.Watched.Watched}
 use Rattle.timed_reports.specs.Records.{AreInOrder, IsListed, ended_by, watched, watched_at, with_routers}
 use Rattle.timed_reports.proofs.Lists.{each_pushed, listed_first, listed_last}
 

@@ -1,30 +1,21 @@
 -- What an event leaves of a report, if what it may have moved is looked at.
 use Rattle.std.proofs.Common.{refl, sym, ap, subst, ◌∙◌, arith, append-nil, append_assoc, length-append, ◌≡◌, ℕ, ◌+◌, List, [], ◌∷◌, ◌++◌, length, Bool, true, Option, None, Some, IfSome, Result, Ok, Err, OnOk, OnErr, slice_get, ◌<◌, ◌≤◌}
 use Rattle.no_packet_loops.proofs.Common.{length-map-range_with_len, option_map_or, option_map_or-ind, slice_get_within, changed_at, changed_link, with_cost, with_front_taken, with_message, with_delivered, with_noticed, with_released, front_at, notice_at, release_at, place_at, opening_router_of, Prefix, End, Link, Place, World, Network, opening, prefixes_of, IsNetwork, Lawful, next, Runs, Step, SetCost, Deliver, Release}
-use Rattle.timed_simulation.specs.declared.events.Event.{Event}
-use Rattle.timed_simulation.specs.declared.links.LinkDelays.{LinkDelays}
+use Rattle.timed_simulation.specs.{declared.events.Event.Event, declared.links.LinkDelays.LinkDelays}
 use Rattle.timed_simulation.specs.Timed.{Timed, after_event, opening_timed, world_of}
 use Rattle.timed_simulation.specs.Runs.{Ascends, IsNext, IsTimed, LeadsTo, steps_of}
 use Rattle.simulation.specs.Simulation.{Simulation}
-use Rattle.timed_simulation.proofs.Moments.{next-after}
-use Rattle.timed_simulation.proofs.Runs.{run_more, run_none}
+use Rattle.timed_simulation.proofs.{Moments.next-after, Runs.run_more, Runs.run_none}
 use Rattle.reachability.specs.Ways.{IsCutOff, IsJoined}
 use Rattle.reachability.proofs.Joined.{joined}
 use Rattle.no_packet_loops.proofs.WorldLaws.{Runs-shape, next-shape}
-use Rattle.timed_reports.specs.declared.spells.Spell.{Spell}
-use Rattle.timed_reports.specs.declared.spells.Watched.{Watched}
-use Rattle.timed_reports.specs.Going.{IsComputing}
+use Rattle.timed_reports.specs.{declared.spells.Spell.Spell, declared.spells.Watched.Watched, Going.IsComputing}
 use Rattle.timed_reports.specs.Records.{AreInOrder, AreLooked, AreWatched, IsElsewhere, IsRecorded, MovesNoWay, moves_ways}
 use Rattle.timed_reports.specs.Looks.{IsPassedBy, IsStill, IsToldPrefix, MarksMoved}
 use Rattle.timed_reports.specs.Reports.{HasGrown, IsReport, IsReportOf, IsReportRun, RecordsEvent, Reported, reported_of}
-use Rattle.timed_reports.proofs.Lists.{prefix_further, prefix_same}
-use Rattle.timed_reports.proofs.OneMore.{ascends_all, leads_all, runs_all}
+use Rattle.timed_reports.proofs.{Lists.prefix_further, Lists.prefix_same, OneMore.ascends_all, OneMore.leads_all, OneMore.runs_all, Machines.computing_too, Machines.passed_elsewhere, Machines.same_machine, OneByOne.looked_beside_more, Known.computing_known, Known.cut_off_known, AtRest.none_computing_yet, AtRest.none_out_yet}
 use Rattle.timed_reports.proofs.Recorded.{order_after, recorded_after, recorded_opening, watched_after}
-use Rattle.timed_reports.proofs.Machines.{computing_too, passed_elsewhere, same_machine}
 use Rattle.timed_reports.proofs.Alike.{alike_after, alike_turned, cut_off_alike, none_moved}
-use Rattle.timed_reports.proofs.OneByOne.{looked_beside_more}
-use Rattle.timed_reports.proofs.Known.{computing_known, cut_off_known}
-use Rattle.timed_reports.proofs.AtRest.{none_computing_yet, none_out_yet}
 
 -- the step moves no way to its prefix
 abbrev Still : World → Step → Watched → Type 0

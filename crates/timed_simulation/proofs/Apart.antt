@@ -2,21 +2,14 @@
 use Rattle.std.proofs.Common.{refl, sym, ap, ◌∙◌, arith, inl, inr, ◌≡◌, ◌≢◌, ℕ, zero, suc, ◌≤◌, max, Bool, true, false, ◌==◌, if◌then◌else◌, List, length, Option, Some, None, option_map, option_and_then, slice_get}
 use Rattle.no_packet_loops.proofs.Common.{option_map_or, other, Held, Item, Notice, Place, Link, Router, Attachments, Side, World, side, is_due, ripe_front, front_at, notice_at, release_at, is_at_home, degree_of, place_at, next, slice_get-changed_at_other, Step, LinkUp, LinkDown, SetCost, Deliver, Publish, Release}
 use Rattle.no_packet_loops.proofs.WorldLaws.{next-shape}
-use Rattle.world.specs.Steps.{is_stale}
-use Rattle.world.specs.Touched.{LeavesOthers, touched_by}
+use Rattle.world.specs.{Steps.is_stale, Touched.LeavesOthers, Touched.touched_by}
 use Rattle.world.proofs.Untouched.{untouched}
-use Rattle.timed_simulation.specs.declared.events.Event.{Event}
-use Rattle.timed_simulation.specs.declared.events.RouterTime.{RouterTime}
-use Rattle.timed_simulation.specs.declared.links.Arrival.{Arrival}
-use Rattle.timed_simulation.specs.declared.links.Motion.{Motion}
+use Rattle.timed_simulation.specs.{declared.events.Event.Event, declared.events.RouterTime.RouterTime, declared.links.Arrival.Arrival, declared.links.Motion.Motion, Due.IsOwnDue, Runs.IsNext, Runs.IsTimed}
 use Rattle.timed_simulation.specs.declared.links.Motion.TheVariants.{Told, Cut, Put, Taken}
 use Rattle.timed_simulation.specs.Links.{TimedLink, later, links_after, motion_of, link_moved, towards}
 use Rattle.timed_simulation.specs.Timed.{Timed, after_event, begins_at, is_due_at, routers_after, world_of}
 use Rattle.timed_simulation.specs.Events.{arrival_event, arrival_moment, event_now, home_event, own_event, publication_event, publication_moment, release_event, router_event, sooner, soonest, waiting_event}
-use Rattle.timed_simulation.specs.Due.{IsOwnDue}
-use Rattle.timed_simulation.specs.Runs.{IsNext, IsTimed}
-use Rattle.timed_simulation.proofs.First.{arrives, publishes}
-use Rattle.timed_simulation.proofs.Moments.{next-after}
+use Rattle.timed_simulation.proofs.{First.arrives, First.publishes, Moments.next-after}
 
 -- what a router has to do at this moment
 abbrev own_at : Step → ℕ → Event

@@ -3,9 +3,8 @@ use Rattle.std.proofs.Common.{refl, ◌≡◌, ℕ, true, false, List, [], ◌�
 use Rattle.no_packet_loops.proofs.Example.{pair}
 use Rattle.network_model.specs.declared.step.Step.{Step}
 use Rattle.network_model.specs.declared.step.Step.TheVariants.{LinkUp, LinkDown, Deliver, Publish, Release}
-use Rattle.timed_simulation.specs.declared.events.Event.{Event}
+use Rattle.timed_simulation.specs.{declared.events.Event.Event, Events.next_event}
 use Rattle.timed_simulation.specs.Timed.{Timed, after_event, opening_timed, with_timed_change}
-use Rattle.timed_simulation.specs.Events.{next_event}
 
 -- an item takes 5 microseconds to router 0 and 7 to router 1, which publish 10 and 20 after they have something to publish; the link comes up at 3
 abbrev start : Timed

@@ -1,17 +1,10 @@
 -- What is done next is due, and nothing is due sooner.
 use Rattle.std.proofs.Common.{refl, sym, ap, subst, ◌∙◌, arith, inl, inr, ltb-true, ltb-false, ◌≡◌, ◌⊎◌, ℕ, zero, suc, ◌<◌, ◌≤◌, max, Bool, true, false, nat_lt, if◌then◌else◌, MatchBool, MatchOption, List, [], ◌∷◌, Option, Some, None, option_map, option_and_then, slice_get, length}
 use Rattle.no_packet_loops.proofs.Common.{option_map_or, false≢true, None_not_Some, Some_injective, element_there, slice_get_within, Held, Item, Notice, Place, End, A, B, Link, Router, Side, side, is_due, ripe_front, front_at, notice_at, release_at, degree_of, place_at, cases_lt, Step, LinkUp, LinkDown, SetCost, Deliver, Publish, Release, Attach, Detach}
-use Rattle.timed_simulation.specs.declared.links.Arrival.{Arrival}
-use Rattle.timed_simulation.specs.declared.events.Change.{Change}
-use Rattle.timed_simulation.specs.declared.events.Event.{Event}
-use Rattle.timed_simulation.specs.declared.events.RouterTime.{RouterTime}
-use Rattle.timed_simulation.specs.Links.{TimedLink, later, towards}
-use Rattle.timed_simulation.specs.Timed.{Timed, world_of}
+use Rattle.timed_simulation.specs.{declared.links.Arrival.Arrival, declared.events.Change.Change, declared.events.Event.Event, declared.events.RouterTime.RouterTime, Links.TimedLink, Links.later, Links.towards, Timed.Timed, Timed.world_of}
 use Rattle.timed_simulation.specs.Events.{arrival_event, arrival_moment, change_event, event_now, home_event, next_event, own_event, publication_event, publication_moment, router_event, sooner, soonest, waiting_event}
 use Rattle.timed_simulation.specs.Due.{ArrivesAt, IsChange, IsDue, IsFirst, IsOnTime, IsOwnDue, IsTimelyLink, IsToldAt, NothingIsDue, NothingIsLate, NothingIsLeftOut, PublishesAt, ReleasesAt, RisesFrom}
-use Rattle.timed_simulation.proofs.Rising.{rises_at}
-use Rattle.timed_simulation.proofs.Ports.{place_of_front, port_of_notice, port_of_place}
-use Rattle.timed_simulation.proofs.Timely.{arrival_of}
+use Rattle.timed_simulation.proofs.{Rising.rises_at, Ports.place_of_front, Ports.port_of_notice, Ports.port_of_place, Timely.arrival_of}
 
 -- ---- the soonest of several
 

@@ -2,13 +2,8 @@
 use Rattle.std.proofs.Common.{refl, sym, subst, ◌∙◌, arith, inl, inr, ◌≡◌, ◌⊎◌, ◌+◌, ◌^◌, ℕ, zero, suc, ◌<◌, max, Bool, true, false, nat_lt, if◌then◌else◌, true≢false, Option, Some, None, option_map, option_and_then, slice_get, length}
 use Rattle.no_packet_loops.proofs.Common.{option_map_or, None_not_Some, Some_injective, element_there, Lawful, Lawful_to_refusal, Refusal, Router, World, Place, Item, refusal, is_due, front_at, notice_at, degree_of, place_at, release_at, Held, Notice, Deliver, Publish, Release}
 use Rattle.simulation.specs.Simulation.{simulation_refusal}
-use Rattle.timed_simulation.specs.declared.events.Change.{Change}
-use Rattle.timed_simulation.specs.declared.events.Event.{Event}
-use Rattle.timed_simulation.specs.declared.fault.TimeFault.{TimeFault}
-use Rattle.timed_simulation.specs.declared.fault.TimeFault.TheVariants.{PastMoment, TimeSpent, Refused}
-use Rattle.timed_simulation.specs.Timed.{Timed, world_of}
+use Rattle.timed_simulation.specs.{declared.events.Change.Change, declared.events.Event.Event, declared.fault.TimeFault.TimeFault, declared.fault.TimeFault.TheVariants.PastMoment, declared.fault.TimeFault.TheVariants.TimeSpent, declared.fault.TimeFault.TheVariants.Refused, Timed.Timed, Timed.world_of, Runs.IsSpent, Runs.IsStoppedFor}
 use Rattle.timed_simulation.specs.Events.{arrival_event, arrival_moment, change_event, event_now, home_event, next_event, own_event, publication_event, publication_moment, router_event, sooner, soonest, waiting_event}
-use Rattle.timed_simulation.specs.Runs.{IsSpent, IsStoppedFor}
 
 -- the event, if there is one, is a change that was given, or lawful
 abbrev pub IsLawfulOwn : World → Option Event → Type 0

@@ -1,9 +1,7 @@
 -- Nothing is done before the present moment.
 use Rattle.std.proofs.Common.{subst, arith, ◌≡◌, ℕ, zero, suc, ◌≤◌, max, Bool, true, false, nat_lt, if◌then◌else◌, Option, Some, None, option_map, option_and_then, slice_get, length}
 use Rattle.no_packet_loops.proofs.Common.{option_map_or, Router, Place, Item, is_due, front_at, notice_at, degree_of, place_at, release_at, Held, Notice, Deliver, Publish, Release}
-use Rattle.timed_simulation.specs.declared.events.Change.{Change}
-use Rattle.timed_simulation.specs.declared.events.Event.{Event}
-use Rattle.timed_simulation.specs.Timed.{Timed, world_of}
+use Rattle.timed_simulation.specs.{declared.events.Change.Change, declared.events.Event.Event, Timed.Timed, Timed.world_of}
 use Rattle.timed_simulation.specs.Events.{arrival_event, arrival_moment, change_event, event_now, home_event, next_event, own_event, publication_event, publication_moment, router_event, sooner, soonest, waiting_event}
 
 -- what is done, if anything, is done no sooner than this

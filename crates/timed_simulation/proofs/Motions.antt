@@ -2,9 +2,7 @@
 use Rattle.std.proofs.Common.{ap, ◌∙◌, ◌≡◌, ℕ, Bool, true, false, not, if◌then◌else◌, Option, Some, None, slice_get, option_map, option_and_then}
 use Rattle.no_packet_loops.proofs.Common.{option_map_or, Held, Place, Link, World, other, place_at, release_at, is_up_in, Release}
 use Rattle.world.specs.Steps.{is_stale}
-use Rattle.timed_simulation.specs.declared.links.Motion.{Motion}
-use Rattle.timed_simulation.specs.declared.links.Motion.TheVariants.{Put}
-use Rattle.timed_simulation.specs.Links.{motion_of}
+use Rattle.timed_simulation.specs.{declared.links.Motion.Motion, declared.links.Motion.TheVariants.Put, Links.motion_of}
 
 -- a router that releases this, over a link that is there
 module _ (w : World) (i : ℕ) (h : Held) (at : release_at w i ≡ Some h) (p : Place) (there : place_at w i h.port ≡ Some p) (k : Link) (link : slice_get w.links p.link ≡ Some k) where

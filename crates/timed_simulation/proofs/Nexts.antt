@@ -1,27 +1,15 @@
 -- The moments that are kept of routers: which is first, and what is noted anew after an event.
 use Rattle.std.proofs.Common.{refl, sym, ap, subst, ◌∙◌, arith, inl, inr, ◌≡◌, ◌≢◌, ◌⊎◌, ℕ, zero, suc, ◌<◌, ◌≤◌, Bool, true, false, ◌==◌, nat_lt, if◌then◌else◌, List, [], ◌∷◌, length, replicate, set, Result, Ok, Err, OnOk, OnErr, Option, Some, None, MatchOption, option_map, option_and_then, slice_get}
 use Rattle.no_packet_loops.proofs.Common.{length-map-range_with_len, slice_get_within, Network, LinkSpec, Place, World, End, A, B, IsNetwork, opening, opening_router_of, at_port, router_end, place_at, Runs, element_there, None_not_Some, Some_injective, cases_eq, cases_lt, le-ltb, lt-ltb, length-replicate, length-set, Step, Deliver, Publish, Release, Attach, Detach}
-use Rattle.no_packet_loops.proofs.Places.{Laid, laid}
-use Rattle.no_packet_loops.proofs.WorldLaws.{Runs-shape, next-shape}
-use Rattle.world.specs.declared.touched.Touched.{Touched}
-use Rattle.world.specs.Touched.{touched_by}
+use Rattle.no_packet_loops.proofs.{Places.Laid, Places.laid, WorldLaws.Runs-shape, WorldLaws.next-shape}
+use Rattle.world.specs.{declared.touched.Touched.Touched, Touched.touched_by}
 use Rattle.world.proofs.Rest.{opening-rests, settled}
-use Rattle.minima.specs.declared.due.Due.{Due}
-use Rattle.minima.specs.Trees.{IsFirstDue, NoneDue}
-use Rattle.timed_simulation.specs.declared.events.Change.{Change}
-use Rattle.timed_simulation.specs.declared.events.Event.{Event}
-use Rattle.timed_simulation.specs.declared.fault.TimeFault.{TimeFault}
-use Rattle.timed_simulation.specs.declared.links.LinkDelays.{LinkDelays}
+use Rattle.minima.specs.{declared.due.Due.Due, Trees.IsFirstDue, Trees.NoneDue}
+use Rattle.timed_simulation.specs.{declared.events.Change.Change, declared.events.Event.Event, declared.fault.TimeFault.TimeFault, declared.links.LinkDelays.LinkDelays, Events.router_event, Events.sooner, Events.soonest, Due.IsDue}
 use Rattle.timed_simulation.specs.Timed.{Timed, after_event, opening_timed, with_timed_change, world_of}
-use Rattle.timed_simulation.specs.Events.{router_event, sooner, soonest}
-use Rattle.timed_simulation.specs.Due.{IsDue}
 use Rattle.timed_simulation.specs.Runs.{IsAtRest, IsNext, IsTimed, steps_of}
 use Rattle.timed_simulation.specs.Next.{KeepsMoments, ends_of, looked_again, looked_at, looked_ends, looked_if, next_moment, owner_of}
-use Rattle.timed_simulation.proofs.Apart.{router_same}
-use Rattle.timed_simulation.proofs.First.{router_due}
-use Rattle.timed_simulation.proofs.Moments.{NotBefore, sooner-after}
-use Rattle.timed_simulation.proofs.Rest.{rest_nothing}
-use Rattle.timed_simulation.proofs.Runs.{kept_open}
+use Rattle.timed_simulation.proofs.{Apart.router_same, First.router_due, Moments.NotBefore, Moments.sooner-after, Rest.rest_nothing, Runs.kept_open}
 
 -- ---- the first of several
 

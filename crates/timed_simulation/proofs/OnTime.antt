@@ -1,23 +1,13 @@
 -- Each event leaves the moments of what is left to do on time.
 use Rattle.std.proofs.Common.{refl, sym, ap, subst, ◌∙◌, arith, inl, ◌≡◌, ℕ, ◌<◌, ◌≤◌, Bool, true, false, if◌then◌else◌, List, [], map, drop, length, Option, Some, option_map, option_and_then, slice_get}
 use Rattle.no_packet_loops.proofs.Common.{element_there, slice_get-map, length-map, length-map-range_with_len, Prefix, Item, Place, End, A, B, Link, LinkSpec, Network, Side, World, opening, opening_link, opening_router_of, place_at, place_of, side, front_at, IsNetwork, Lawful, Runs, next, Step, Deliver, Publish}
-use Rattle.no_packet_loops.proofs.WorldLaws.{Runs-shape}
-use Rattle.no_packet_loops.proofs.Wiring.{IsWired, wired}
+use Rattle.no_packet_loops.proofs.{WorldLaws.Runs-shape, Wiring.IsWired, Wiring.wired, Kept.WorldKept, Kept.Specified, Kept.specified, Runs.reached, Runs.place_is}
 use Rattle.no_packet_loops.proofs.Places.{spot, Laid, laid, lay-spot}
-use Rattle.no_packet_loops.proofs.Kept.{WorldKept, Specified, specified}
-use Rattle.no_packet_loops.proofs.Runs.{reached, place_is}
-use Rattle.timed_simulation.specs.declared.links.Arrival.{Arrival}
-use Rattle.timed_simulation.specs.declared.links.LinkDelays.{LinkDelays}
-use Rattle.timed_simulation.specs.declared.events.Change.{Change}
-use Rattle.timed_simulation.specs.declared.events.Event.{Event}
+use Rattle.timed_simulation.specs.{declared.links.Arrival.Arrival, declared.links.LinkDelays.LinkDelays, declared.events.Change.Change, declared.events.Event.Event, Events.next_event}
 use Rattle.timed_simulation.specs.Links.{TimedLink, last_moment, later, links_after, motion_of, towards, opening_directions as opening_times}
 use Rattle.timed_simulation.specs.Timed.{Timed, begins_at, opening_router_time as opening_time, routers_after, world_of}
-use Rattle.timed_simulation.specs.Events.{next_event}
 use Rattle.timed_simulation.specs.Due.{AreTimelyLinks, AreTimelyRouters, IsFirst, IsOnTime, IsTimelyLink, RisesFrom}
-use Rattle.timed_simulation.proofs.Rising.{rises_later, rises_tail}
-use Rattle.timed_simulation.proofs.Timely.{item_of, later_timely, mapped_from}
-use Rattle.timed_simulation.proofs.Steps.{links_next, routers_next}
-use Rattle.timed_simulation.proofs.First.{next_first}
+use Rattle.timed_simulation.proofs.{Rising.rises_later, Rising.rises_tail, Timely.item_of, Timely.later_timely, Timely.mapped_from, Steps.links_next, Steps.routers_next, First.next_first}
 
 -- ---- the opening
 

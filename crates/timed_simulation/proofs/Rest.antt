@@ -3,10 +3,7 @@ use Rattle.std.proofs.Common.{refl, sym, ap, ◌∙◌, inl, inr, ◌≡◌, ℕ
 use Rattle.no_packet_loops.proofs.Common.{None_not_Some, Lawful, Step, Deliver, Publish, Release}
 use Rattle.coming_to_rest.specs.Worlds.{is_own}
 use Rattle.convergence.proofs.AtRest.{rest_settled, settled_rests}
-use Rattle.timed_simulation.specs.declared.events.Change.{Change}
-use Rattle.timed_simulation.specs.Timed.{Timed, world_of}
-use Rattle.timed_simulation.specs.Due.{IsChange, IsOwnDue, NothingIsDue}
-use Rattle.timed_simulation.specs.Runs.{steps_of, IsAtRest, IsTimed}
+use Rattle.timed_simulation.specs.{declared.events.Change.Change, Timed.Timed, Timed.world_of, Due.IsChange, Due.IsOwnDue, Due.NothingIsDue, Runs.steps_of, Runs.IsAtRest, Runs.IsTimed}
 use Rattle.timed_simulation.proofs.First.{none_left_out}
 
 -- what a router has to do is a lawful step of its own

@@ -1,9 +1,7 @@
 -- Moments that never decrease, in lists to which something is added or from which something is taken.
 use Rattle.std.proofs.Common.{refl, sym, subst, arith, ◌≡◌, ℕ, zero, suc, ◌≤◌, ◌<◌, ◌+◌, Bool, true, false, not, nat_lt, ltb-true, ltb-false, cond, List, [], ◌∷◌, ◌++◌, drop, filter, length, insert, unwrap_or, Some, None, slice_get}
 use Rattle.no_packet_loops.proofs.Common.{None_not_Some, Some_injective, prefix_len}
-use Rattle.timed_simulation.specs.declared.events.Change.{Change}
-use Rattle.timed_simulation.specs.Timed.{place_among}
-use Rattle.timed_simulation.specs.Due.{RisesFrom, UpTo}
+use Rattle.timed_simulation.specs.{declared.events.Change.Change, Timed.place_among, Due.RisesFrom, Due.UpTo}
 
 module _ {A : Type 0} (f : A → ℕ) where
   pub rises_sooner : (from mid : ℕ) (xs : List A) → from ≤ mid → RisesFrom f mid xs → RisesFrom f from xs

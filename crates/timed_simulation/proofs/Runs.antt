@@ -4,20 +4,12 @@ use Rattle.no_packet_loops.proofs.Common.{World, Network, IsNetwork, opening, La
 use Rattle.world.specs.Steps.{CanBeRefused}
 use Rattle.world.proofs.Runs.{with_last_step}
 use Rattle.simulation.specs.Simulation.{Simulation, after_step}
-use Rattle.timed_simulation.specs.declared.events.Change.{Change}
-use Rattle.timed_simulation.specs.declared.events.Event.{Event}
-use Rattle.timed_simulation.specs.declared.events.RouterTime.{RouterTime}
-use Rattle.timed_simulation.specs.declared.fault.TimeFault.{TimeFault}
-use Rattle.timed_simulation.specs.declared.links.LinkDelays.{LinkDelays}
+use Rattle.timed_simulation.specs.{declared.events.Change.Change, declared.events.Event.Event, declared.events.RouterTime.RouterTime, declared.fault.TimeFault.TimeFault, declared.links.LinkDelays.LinkDelays, Events.next_event}
 use Rattle.timed_simulation.specs.Links.{TimedLink, last_moment, links_after, motion_of}
 use Rattle.timed_simulation.specs.Timed.{Timed, after_event, after_events, begins_at, opening_timed, routers_after, timed_of, world_of}
-use Rattle.timed_simulation.specs.Events.{next_event}
 use Rattle.timed_simulation.specs.Due.{IsDue, IsFirst, NothingIsDue, RisesFrom}
 use Rattle.timed_simulation.specs.Runs.{Ascends, IsNext, IsStoppedShort, IsTimed, IsTimedRun, LeadsTo, steps_of}
-use Rattle.timed_simulation.proofs.Moments.{next-after}
-use Rattle.timed_simulation.proofs.First.{next_due, next_first, nothing_due}
-use Rattle.timed_simulation.proofs.OnTime.{on_time_after, opened}
-use Rattle.timed_simulation.proofs.Since.{none_due, since_after}
+use Rattle.timed_simulation.proofs.{Moments.next-after, First.next_due, First.next_first, First.nothing_due, OnTime.on_time_after, OnTime.opened, Since.none_due, Since.since_after}
 
 -- ---- one event more
 

@@ -4,15 +4,9 @@ use Rattle.no_packet_loops.proofs.Common.{option_map_or, cases_eq, false≢true,
 use Rattle.no_packet_loops.proofs.Wiring.{few_routers}
 use Rattle.convergence.proofs.AtRest.{settled_rests}
 use Rattle.world.specs.Rest.{unrest}
-use Rattle.world.proofs.Degrees.{few_links}
-use Rattle.world.proofs.Rest.{settled, watched-opening}
-use Rattle.timed_simulation.specs.declared.events.Event.{Event}
-use Rattle.timed_simulation.specs.declared.events.RouterTime.{RouterTime}
-use Rattle.timed_simulation.specs.Timed.{begins_at, is_due_at, routers_after}
-use Rattle.timed_simulation.specs.Since.{HoldsSince, Stays}
-use Rattle.timed_simulation.specs.Runs.{steps_of}
-use Rattle.timed_simulation.proofs.Steps.{still_due}
-use Rattle.timed_simulation.proofs.Timely.{mapped_from}
+use Rattle.world.proofs.{Degrees.few_links, Rest.settled, Rest.watched-opening}
+use Rattle.timed_simulation.specs.{declared.events.Event.Event, declared.events.RouterTime.RouterTime, Timed.begins_at, Timed.is_due_at, Timed.routers_after, Since.HoldsSince, Since.Stays, Runs.steps_of}
+use Rattle.timed_simulation.proofs.{Steps.still_due, Timely.mapped_from}
 
 -- ---- one event more
 

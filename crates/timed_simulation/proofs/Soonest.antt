@@ -1,8 +1,7 @@
 -- The soonest of several events.
 use Rattle.std.proofs.Common.{sym, ap, ◌∙◌, add-one, ◌≡◌, ℕ, ◌+◌, Option, Some}
 use Rattle.no_packet_loops.proofs.Common.{option_map_or, degree_of}
-use Rattle.timed_simulation.specs.declared.events.Event.{Event}
-use Rattle.timed_simulation.specs.Timed.{Timed, world_of}
+use Rattle.timed_simulation.specs.{declared.events.Event.Event, Timed.Timed, Timed.world_of}
 use Rattle.timed_simulation.specs.Events.{arrival_event, home_event, publication_event, sooner, soonest, waiting_event}
 
 pub soonest_more : (f : ℕ → Option Event) (n : ℕ) (a b r : Option Event) → a ≡ soonest f n → b ≡ f n → r ≡ sooner a b → r ≡ soonest f (n + 1)

@@ -3,10 +3,8 @@ use Rattle.std.proofs.Common.{refl, sym, ap, subst, ◌∙◌, arith, inl, inr, 
 use Rattle.no_packet_loops.proofs.Common.{option_map_or, or_cases, false≢true, length-changed_at, None_not_Some, Some_injective, routers-changed_link, changed_at, changed_rows, with_cost, with_delivered, with_front_taken, with_item, with_message, with_noticed, with_released, link_come_up, link_gone_down, router_accepting, router_at_home, router_publishing, router_releasing, other, place_at, front_at, notice_at, release_at, is_due, is_notice, is_up_in, next, Lawful, Held, Item, Notice, Place, End, A, B, Link, Router, World, Step, LinkUp, LinkDown, SetCost, Deliver, Publish, Release}
 use Rattle.world.specs.Steps.{is_stale}
 use Rattle.timed_simulation.specs.declared.links.Motion.TheVariants.{Told, Cut, Put, Taken}
-use Rattle.timed_simulation.specs.declared.events.RouterTime.{RouterTime}
+use Rattle.timed_simulation.specs.{declared.events.RouterTime.RouterTime, Timed.begins_at, Timed.is_due_at, Timed.routers_after, Due.IsTimelyLink, Due.AreTimelyLinks, Due.AreTimelyRouters}
 use Rattle.timed_simulation.specs.Links.{TimedLink, last_moment, later, links_after, motion_of, link_moved, without_messages}
-use Rattle.timed_simulation.specs.Timed.{begins_at, is_due_at, routers_after}
-use Rattle.timed_simulation.specs.Due.{IsTimelyLink, AreTimelyLinks, AreTimelyRouters}
 use Rattle.timed_simulation.proofs.Ports.{port_of_notice, port_of_place}
 use Rattle.timed_simulation.proofs.Timely.{put_timely, taken_timely, cut_timely, changed_both, changed_alone, changed_from}
 

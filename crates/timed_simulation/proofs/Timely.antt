@@ -1,9 +1,8 @@
 -- What is put on links, taken and lost keeps the moments of items in order, and none is late.
 use Rattle.std.proofs.Common.{refl, sym, ap, subst, ◌∙◌, arith, inl, inr, ◌≡◌, ◌≢◌, ◌⊎◌, ℕ, ◌≤◌, Bool, true, false, cond, List, [], ◌∷◌, ◌++◌, map, drop, filter, length, Option, Some, None, option_map, slice_get}
 use Rattle.no_packet_loops.proofs.Common.{cases_eq, map-append, length-changed_at, slice_get-changed_at, slice_get-changed_at_other, None_not_Some, Some_injective, changed_at, is_notice, Item, Link}
-use Rattle.timed_simulation.specs.declared.links.Arrival.{Arrival}
+use Rattle.timed_simulation.specs.{declared.links.Arrival.Arrival, Due.AreTimely, Due.IsTimelyLink, Due.AreTimelyLinks}
 use Rattle.timed_simulation.specs.Links.{Direction, TimedLink, last_moment, later, with_put, with_taken, without_messages}
-use Rattle.timed_simulation.specs.Due.{AreTimely, IsTimelyLink, AreTimelyLinks}
 use Rattle.timed_simulation.proofs.Rising.{rises_later, rises_tail, rises_push, rises_filter, up_to_later, up_to_tail, up_to_push, up_to_filter}
 
 -- ---- one direction

@@ -1,16 +1,11 @@
 -- Runs in which no change is done, and what stands before a change that is.
 use Rattle.std.proofs.Common.{◌≡◌, ◌≢◌, ◌≤◌, ◌<◌, ◌+◌, ◌-◌, ◌⊎◌, ℕ, Bool, true, false, nat_lt, ltb-true, max, if◌then◌else◌, MatchBool, MatchOption, List, [], ◌∷◌, drop, length, length-drop, Option, Some, None, option_map, slice_get, unwrap_or, inl, inr, refl, sym, ap, subst, ◌∙◌, arith}
 use Rattle.network_model.specs.declared.step.Refusal.{Refusal}
-use Rattle.timed_simulation.specs.declared.events.Change.{Change}
-use Rattle.timed_simulation.specs.declared.events.Event.{Event}
-use Rattle.timed_simulation.specs.declared.fault.TimeFault.{TimeFault}
-use Rattle.timed_simulation.specs.Timed.{Timed, after_event, world_of}
+use Rattle.timed_simulation.specs.{declared.events.Change.Change, declared.events.Event.Event, declared.fault.TimeFault.TimeFault, Timed.Timed, Timed.after_event, Timed.world_of}
 use Rattle.timed_simulation.specs.Events.{change_event, next_event, router_event, sooner, soonest}
 use Rattle.timed_simulation.specs.Due.{IsChange, IsDoneUntil, IsDue, IsOwnDue, NothingIsDue, RisesFrom}
 use Rattle.timed_simulation.specs.Runs.{Ascends, IsAtRest, IsStoppedAt, IsTimed, IsTimedRun, LeadsTo}
-use Rattle.timed_simulation.proofs.Moments.{next-after}
-use Rattle.timed_simulation.proofs.Rising.{rises_at}
-use Rattle.timed_simulation.proofs.Runs.{kept_after, run_none}
+use Rattle.timed_simulation.proofs.{Moments.next-after, Rising.rises_at, Runs.kept_after, Runs.run_none}
 use Rattle.timing.specs.declared.snapshot.Begun.{Begun}
 use Rattle.timing.specs.Runs.{ComesNext, IsBegun, IsReady, LeadsAlone}
 use Rattle.timing.proofs.Leading.{none_done}

@@ -1,8 +1,6 @@
 -- What a document's table says of times.
 use Rattle.std.proofs.Common.{◌≡◌, ◌<◌, ℕ, ℤ, List, [], Option, Some, None, option_and_then, refl, ap, codes, ne_eqb, eq-eqb, arith, Result, Ok, Err, pos, negsuc, nat_abs, SFits}
-use Rattle.std.specs.Int.{w64, FitsUnsignedBits}
-use Rattle.std.specs.Option.{option_map_or}
-use Rattle.std.specs.Result.{OkIff, result_ok}
+use Rattle.std.specs.{Int.w64, Int.FitsUnsignedBits, Option.option_map_or, Result.OkIff, Result.result_ok}
 use lib.Signed.{mag}
 use Rattle.toml.specs.Data.{Data, integer, as_integer, Members}
 use Rattle.texts.specs.Words.{Text}

@@ -1,17 +1,9 @@
 -- Runs in which changes are done, one after another.
 use Rattle.std.proofs.Common.{◌≡◌, ℕ, ◌+◌, ◌<◌, ◌≤◌, ◌⊎◌, inl, inr, zero, suc, List, [], ◌∷◌, ◌++◌, drop, get_or, length, Some, unwrap_or, refl, sym, ap, subst, ◌∙◌, arith, Result, Ok, Err, false, OnOk, true≢false}
-use Rattle.std.specs.Bool.{⊤}
-use Rattle.std.specs.Result.{is_err}
-use Rattle.timed_simulation.specs.declared.events.Change.{Change}
-use Rattle.timed_simulation.specs.declared.events.Event.{Event}
-use Rattle.timed_simulation.specs.Timed.{Timed, after_event, with_timed_change}
-use Rattle.timed_simulation.specs.Events.{next_event}
-use Rattle.timed_simulation.specs.Due.{IsDue, IsDoneUntil}
-use Rattle.timed_simulation.specs.Runs.{IsNext, IsTimedRun, LeadsTo}
+use Rattle.std.specs.{Bool.⊤, Result.is_err}
+use Rattle.timed_simulation.specs.{declared.events.Change.Change, declared.events.Event.Event, Timed.Timed, Timed.after_event, Timed.with_timed_change, Events.next_event, Due.IsDue, Due.IsDoneUntil, Runs.IsNext, Runs.IsTimedRun, Runs.LeadsTo}
 use Rattle.timed_simulation.proofs.Runs.{run_more, run_none}
-use Rattle.timed_reports.specs.declared.recording.Recording.{Recording}
-use Rattle.timed_reports.specs.declared.recording.Recording.TheVariants.{On, Off}
-use Rattle.timed_reports.specs.Recordings.{timed_in, with_timed}
+use Rattle.timed_reports.specs.{declared.recording.Recording.Recording, declared.recording.Recording.TheVariants.On, declared.recording.Recording.TheVariants.Off, Recordings.timed_in, Recordings.with_timed}
 use Rattle.timing.specs.declared.snapshot.Begun.{Begun}
 use Rattle.timing.specs.Runs.{IsBegun, Leads, LeadsAlone, with_changes}
 

@@ -1,16 +1,10 @@
 -- The steps of a run in simulated time, one after another.
 use Rattle.std.proofs.Common.{◌≡◌, ℕ, List, [], ◌∷◌, ◌++◌, Option, Some, None, refl, sym, ap, subst, ◌∙◌, append_assoc}
 use Rattle.std.proofs.lemmas.List.{map-append}
-use Rattle.network_model.specs.declared.step.Step.{Step}
-use Rattle.network_model.specs.declared.step.Refusal.{Refusal}
-use Rattle.network_model.specs.World.{Network, World, opening}
-use Rattle.network_model.specs.Run.{Runs}
-use Rattle.timed_simulation.specs.declared.events.Change.{Change}
-use Rattle.timed_simulation.specs.declared.events.Event.{Event}
+use Rattle.network_model.specs.{declared.step.Step.Step, declared.step.Refusal.Refusal, World.Network, World.World, World.opening, Run.Runs}
+use Rattle.timed_simulation.specs.{declared.events.Change.Change, declared.events.Event.Event, Runs.steps_of}
 use Rattle.timed_simulation.specs.Timed.{Timed, opening_timed, with_timed_change, world_of}
-use Rattle.timed_simulation.specs.Runs.{steps_of}
-use Rattle.timing.specs.declared.times.Times.{Times}
-use Rattle.timing.specs.Runs.{ComesNext, with_changes}
+use Rattle.timing.specs.{declared.times.Times.Times, Runs.ComesNext, Runs.with_changes}
 use Rattle.timing.specs.Steps.{AllCome, Came, IsDoneAt, RunsInSteps, done_of, if_done, event_moments}
 
 all_more : (t : Timed) (cs : List Came) (u v : Timed) (c : Came) → AllCome t cs u → ComesNext u c.event v c.refusal → AllCome t (cs ++ c ∷ []) v

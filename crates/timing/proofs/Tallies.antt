@@ -1,9 +1,8 @@
 -- Spells that are counted one after another.
 use Rattle.std.proofs.Common.{◌≡◌, ℕ, ◌+◌, ◌<◌, zero, suc, List, [], ◌∷◌, drop, get_or, length, refl, sym, ap, subst, ◌∙◌, arith}
 use Rattle.timed_reports.specs.declared.spells.Spell.{Spell}
-use Rattle.timing.specs.declared.tally.Span.{Span}
+use Rattle.timing.specs.{declared.tally.Span.Span, Tallies.tally, Tallies.with_one}
 use Rattle.lines.specs.declared.times.Tally.{Tally}
-use Rattle.timing.specs.Tallies.{tally, with_one}
 
 -- one more is counted
 one_more : (span : Span) (ss : List Spell) (i : ℕ) (d : Spell) (t : Tally) → i < length ss → tally span (drop i ss) t ≡ tally span (drop (suc i) ss) (with_one span (get_or ss i d) t)

@@ -2,15 +2,9 @@
 use Rattle.std.proofs.Common.{◌≡◌, ◌≤◌, ◌⊎◌, inr, List, Option, length, ap, subst, ◌∙◌}
 use Rattle.network_model.specs.World.{Network}
 use Rattle.texts.specs.Words.{Text}
-use Rattle.plans.specs.declared.fault.Fault.{Fault}
-use Rattle.plans.specs.declared.plan.Plan.{Plan}
-use Rattle.plans.specs.Faults.{OfBytes, most_bytes}
-use Rattle.plans.specs.Scenarios.{network_read}
+use Rattle.plans.specs.{declared.fault.Fault.Fault, declared.plan.Plan.Plan, Faults.OfBytes, Faults.most_bytes, Scenarios.network_read}
 use Rattle.plans.proofs.Planned.{IsPlanned}
-use Rattle.timing.specs.declared.times.Times.{Times}
-use Rattle.timing.specs.Runs.{IsOfEvents}
-use Rattle.timing.specs.Times.{IsOfTimes, IsTimes}
-use Rattle.timing.specs.Ends.{IsTimedToEnd, RunsTimes, StopsTime}
+use Rattle.timing.specs.{declared.times.Times.Times, Runs.IsOfEvents, Times.IsOfTimes, Times.IsTimes, Ends.IsTimedToEnd, Ends.RunsTimes, Ends.StopsTime}
 
 -- the document says the times of the scenario's network
 pub says_of : (text lines given : Text) (plan : Plan) (names : List Text) (times : Times) (planned : IsPlanned text plan) → names ≡ plan.directory.names → given ≡ lines

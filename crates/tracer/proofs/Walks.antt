@@ -6,8 +6,7 @@ use Rattle.network_model.specs.declared.trace.Trace.{Trace as Traced}
 use Rattle.fabric.specs.Fabric.{Fabric, ForwardsAsPublished}
 use Rattle.fabric.specs.Headline.{image_row, image_hop, none_published, IsImageWalk, IsImageWay}
 use Rattle.no_packet_loops.specs.Packets.{TracesEnd}
-use Rattle.all_packets.specs.Packets.{IsWay}
-use Rattle.all_packets.specs.Through.{through_from, ThroughEnds, through as trace_through}
+use Rattle.all_packets.specs.{Packets.IsWay, Through.through_from, Through.ThroughEnds, Through.through as trace_through}
 use Rattle.all_packets.proofs.Improving.{way_by}
 use Rattle.tracer.specs.Following.{FollowsEnd, followed_way, followed_from, kept_prefix}
 use Rattle.course.specs.Links.{LeadsToRouters}

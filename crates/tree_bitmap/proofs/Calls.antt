@@ -5,17 +5,13 @@ use Rattle.std.proofs.lemmas.Nat.{ones-le}
 use mathlib.Core.Path.{fun_ext}
 use Rattle.node_pool.specs.Pool.{IsGrown, IsCellWritten}
 use Rattle.bitmaps.specs.Bits.{rank}
-use Rattle.bitmaps.proofs.HighestBit.{clear_bit}
-use Rattle.tree_bitmap.specs.Bits.{nibble, path_top, internal_bit}
+use Rattle.bitmaps.proofs.{HighestBit.clear_bit, Options.Some_same}
+use Rattle.tree_bitmap.specs.{Bits.nibble, Bits.path_top, Bits.internal_bit, declared.node.Node.Node}
 use Rattle.tree_bitmap.specs.Tree.{blank, path_node, path_entry, IsLaidOut, SetsRow, with_child, with_result, IsChild, IsResult}
-use Rattle.tree_bitmap.specs.declared.node.Node.{Node}
 use Rattle.network_model.specs.declared.route.Entry.{Entry}
 use Rattle.bitmaps.proofs.Ranks.{ones-add, add_lt, bit_at-add_same, rank-add_below, ones_of_zero}
-use Rattle.bitmaps.proofs.Options.{Some_same}
-use Rattle.tree_bitmap.proofs.Paths.{child_in_block, step_yes, result_in_block}
-use Rattle.tree_bitmap.proofs.NewChild.{gap_cell, new_child}
+use Rattle.tree_bitmap.proofs.{Paths.child_in_block, Paths.step_yes, Paths.result_in_block, NewChild.gap_cell, NewChild.new_child, MovedResults.SetsBit}
 use Rattle.tree_bitmap.proofs.MovedChildren.{MovesChildren, moved_sound, moved_rows, index_on}
-use Rattle.tree_bitmap.proofs.MovedResults.{SetsBit}
 use Rattle.tree_bitmap.proofs.NewResult.{row_hit, row_miss, replace_sets, replace_sound, insert_sets, insert_sound}
 
 -- where there is room for one bit more, at most 15 are set

@@ -3,15 +3,10 @@ use Rattle.std.proofs.Common.{ℕ, zero, suc, ◌≡◌, ◌⊎◌, inl, inr, �
 use Rattle.std.specs.Int.{bit_at}
 use Rattle.std.proofs.lemmas.Bool.{cases_eq, lt-ltb, le-ltb, and_parts, eqb-true}
 use Rattle.std.proofs.lemmas.Nat.Bits.{bit_at-zero, bit_at-lt, bit_at_and, bit_at_or, bit_at-pow_same, bit_at-pow_other}
-use Rattle.bitmaps.specs.Greatest.{GreatestBelow}
-use Rattle.bitmaps.specs.Bits.{IsHighest}
+use Rattle.bitmaps.specs.{Greatest.GreatestBelow, Bits.IsHighest}
 use Rattle.bitmaps.proofs.HighestBit.{both_bits}
-use Rattle.tree_bitmap.specs.Bits.{internal_bit, length_of, lengths_within}
-use Rattle.tree_bitmap.specs.Hit.{bit_place}
-use Rattle.tree_bitmap.specs.Tree.{result_place}
-use Rattle.tree_bitmap.specs.declared.node.Node.{Node}
-use Rattle.tree_bitmap.proofs.FirstBits.{internal_bit_small}
-use Rattle.tree_bitmap.proofs.Paths.{place-set, place-clear}
+use Rattle.tree_bitmap.specs.{Bits.internal_bit, Bits.length_of, Bits.lengths_within, Hit.bit_place, Tree.result_place, declared.node.Node.Node}
+use Rattle.tree_bitmap.proofs.{FirstBits.internal_bit_small, Paths.place-set, Paths.place-clear}
 
 -- ---- bits of covering prefixes
 

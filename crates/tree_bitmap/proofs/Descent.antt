@@ -1,21 +1,12 @@
 -- Look-ups on their way down.
 use Rattle.std.proofs.Common.{ℕ, Bool, true, false, ◌≡◌, ◌≢◌, ◌+◌, ◌*◌, ◌<◌, ◌≤◌, ◌==◌, ◌↔◌, min, bit_and, Some, None, arith, refl, sym, ap, ◌∙◌, if◌then◌else◌}
 use Rattle.std.specs.Int.{bit_at}
-use Rattle.std.proofs.lemmas.Bool.{true≢false, false≢true, eqb-true}
-use Rattle.std.proofs.lemmas.Nat.Bits.{bit_at-zero}
+use Rattle.std.proofs.{lemmas.Bool.true≢false, lemmas.Bool.false≢true, lemmas.Bool.eqb-true, lemmas.Nat.Bits.bit_at-zero}
 use Rattle.node_pool.specs.Pool.{cell}
-use Rattle.tree_bitmap.specs.Bits.{nibble, internal_bit, lengths_within}
-use Rattle.tree_bitmap.specs.Hit.{bit_place, hit_place}
+use Rattle.tree_bitmap.specs.{Bits.nibble, Bits.internal_bit, Bits.lengths_within, Hit.bit_place, Hit.hit_place, Tree.path_node, declared.tree.Tree.Tree, declared.node.Node.Node, declared.lanes.Hit.Hit, declared.lanes.Lane.Lane}
 use Rattle.tree_bitmap.specs.Lane.{IsReadTo, IsBest, root_lane, longer_hit}
-use Rattle.tree_bitmap.specs.Tree.{path_node}
-use Rattle.tree_bitmap.specs.declared.tree.Tree.{Tree}
-use Rattle.tree_bitmap.specs.declared.node.Node.{Node}
-use Rattle.tree_bitmap.specs.declared.lanes.Hit.{Hit}
-use Rattle.tree_bitmap.specs.declared.lanes.Lane.{Lane}
-use Rattle.tree_bitmap.proofs.Covering.{longest_in}
-use Rattle.tree_bitmap.proofs.LongestRow.{best_after, best_last}
+use Rattle.tree_bitmap.proofs.{Covering.longest_in, LongestRow.best_after, LongestRow.best_last, Paths.root_at}
 use Rattle.bitmaps.proofs.Options.{none≢some}
-use Rattle.tree_bitmap.proofs.Paths.{root_at}
 
 module _ {A : Type 0} (tree : Tree A) where
   -- after nine levels the longest row is found

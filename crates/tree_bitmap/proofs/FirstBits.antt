@@ -1,7 +1,6 @@
 -- The first bits of a path, by nibbles.
 use Rattle.std.proofs.Common.{ℕ, zero, suc, ◌≡◌, ⊎_elim, ◌+◌, ◌-◌, ◌*◌, ◌/◌, ◌%◌, ◌^◌, ◌<◌, ◌≤◌, arith, sym, ap, subst, ◌∙◌}
-use Rattle.std.proofs.lemmas.Nat.{shr-shr, same_from_place}
-use Rattle.std.proofs.lemmas.Bool.{cases_lt}
+use Rattle.std.proofs.{lemmas.Nat.shr-shr, lemmas.Nat.same_from_place, lemmas.Bool.cases_lt}
 use Rattle.tree_bitmap.specs.Tree.{nibble, path_top, internal_bit}
 
 -- the first four times (depth + 1) bits are those before and the nibble

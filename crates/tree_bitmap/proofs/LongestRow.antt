@@ -2,17 +2,15 @@
 use Rattle.std.proofs.Common.{ℕ, zero, suc, ◌≡◌, ◌≢◌, ◌⊎◌, inl, inr, ◌+◌, ◌-◌, ◌*◌, ◌/◌, ◌%◌, ◌^◌, ◌<◌, ◌≤◌, min, Option, Some, None, is_some, true, option_and_then, arith, sym, ap, subst, ◌∙◌}
 use Rattle.std.specs.Int.{bit_at}
 use Rattle.std.proofs.lemmas.Bool.{cases_eq}
-use Rattle.bitmaps.specs.Bits.{rank}
+use Rattle.bitmaps.specs.{Bits.rank, Greatest.GreatestBelow, Greatest.longer}
 use Rattle.bitmaps.proofs.Finds.{GreatestBelow-end, GreatestBelow-longer}
 use Rattle.tree_bitmap.specs.Bits.{nibble, path_top, internal_bit, lengths_within}
-use Rattle.bitmaps.specs.Greatest.{GreatestBelow, longer}
 use Rattle.tree_bitmap.specs.Tree.{path_node, entry_at_bit, result_place, path_place, path_entry, node_cell, IsLaidOut}
 use Rattle.tree_bitmap.specs.declared.node.Node.{Node}
 use Rattle.network_model.specs.declared.route.Entry.{Entry}
 use Rattle.bitmaps.proofs.Options.{cases_option, some-from, none≢some, Some_same}
 use Rattle.tree_bitmap.proofs.Paths.{node_used, step_none, step_no, place-some, place-none, place-set, place-clear, result_in_block}
-use Rattle.tree_bitmap.proofs.FirstBits.{parts_from_first}
-use Rattle.tree_bitmap.proofs.OnePath.{path_node-same}
+use Rattle.tree_bitmap.proofs.{FirstBits.parts_from_first, OnePath.path_node-same}
 
 -- where the walk has ended it stays ended
 pub gone : (nodes : ℕ → Option Node) (path depth more : ℕ) → path_node nodes path depth ≡ None → path_node nodes path (more + depth) ≡ None

@@ -7,10 +7,9 @@ use Rattle.tree_bitmap.specs.Tree.{IsEmpty, nibble, internal_bit, child, HasChil
 use Rattle.tree_bitmap.specs.declared.node.Node.{Node}
 use Rattle.network_model.specs.declared.route.Entry.{Entry}
 use Rattle.node_pool.proofs.Blocks.{none≢is_some}
-use Rattle.tree_bitmap.proofs.MovedBlock.{IsMoved, block_bit, block_cases}
+use Rattle.tree_bitmap.proofs.{MovedBlock.IsMoved, MovedBlock.block_bit, MovedBlock.block_cases, OnePath.rank_same}
 use Rattle.bitmaps.proofs.Options.{cases_option, some-from, none≢some, Some_same}
 use Rattle.tree_bitmap.proofs.Paths.{empty_has_no_child, empty_has_no_result, is_some-from, child_in_block, step_yes, step_no, root_at, IsStep, node_used, step_of, zero_bit, entry-clear, entry-with_children, row-some, row-none}
-use Rattle.tree_bitmap.proofs.OnePath.{rank_same}
 
 -- a cell holds a node with no row and no child
 abbrev pub HoldsEmpty : Option Node → Type 0

@@ -7,10 +7,8 @@ use Rattle.bitmaps.specs.Bits.{rank}
 use Rattle.tree_bitmap.specs.Tree.{blank, child, IsLaidOut, with_child}
 use Rattle.tree_bitmap.specs.declared.node.Node.{Node}
 use Rattle.network_model.specs.declared.route.Entry.{Entry}
-use Rattle.bitmaps.proofs.Ranks.{rank_le, bit_at-add_other, rank-add_below}
-use Rattle.tree_bitmap.proofs.MovedBlock.{moved_by_growth}
-use Rattle.tree_bitmap.proofs.MovedChildren.{MovesChildren, moves_children}
-use Rattle.bitmaps.proofs.Options.{none≢some}
+use Rattle.bitmaps.proofs.{Ranks.rank_le, Ranks.bit_at-add_other, Ranks.rank-add_below, Options.none≢some}
+use Rattle.tree_bitmap.proofs.{MovedBlock.moved_by_growth, MovedChildren.MovesChildren, MovedChildren.moves_children}
 
 module _ (N M N' : ℕ → Option Node) (G : ℕ → Option Entry) (index four base : ℕ) (a : Node)
     (sound : IsLaidOut N G) (here : N index ≡ Some a) (clear : bit_at a.external four ≡ 0)

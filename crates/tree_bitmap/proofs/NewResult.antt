@@ -8,12 +8,10 @@ use Rattle.tree_bitmap.specs.Tree.{nibble, path_top, internal_bit, IsResult, pat
 use Rattle.tree_bitmap.specs.declared.node.Node.{Node}
 use Rattle.network_model.specs.declared.route.Entry.{Entry}
 use Rattle.bitmaps.proofs.Ranks.{rank_mono_lt, bit_at-add_same, bit_at-add_other, add_lt, rank-add_below}
-use Rattle.tree_bitmap.proofs.MovedBlock.{IsMoved, moved_by_growth}
+use Rattle.tree_bitmap.proofs.{MovedBlock.IsMoved, MovedBlock.moved_by_growth, FirstBits.parts_from_first, FirstBits.first_from_parts, FirstBits.internal_bit_same, OnePath.path_node-same, OnePath.IsSameWalk, OnePath.walk_unique}
 use Rattle.tree_bitmap.proofs.MovedResults.{SetsBit, entry_kept, moved_sets, results_sound}
 use Rattle.bitmaps.proofs.Options.{cases_option, some-from}
 use Rattle.tree_bitmap.proofs.Paths.{is_some-from, node_used, row-some, row-none, entry-set, result_in_block}
-use Rattle.tree_bitmap.proofs.FirstBits.{parts_from_first, first_from_parts, internal_bit_same}
-use Rattle.tree_bitmap.proofs.OnePath.{path_node-same, IsSameWalk, walk_unique}
 
 module _ (N N' : ℕ → Option Node) (G G' : ℕ → Option Entry) (index : ℕ) (entry : Option Entry) (a a' : Node) (path depth len : ℕ)
     (sound : IsLaidOut N G) (deep : depth ≤ 8) (short : len < 4) (at : path_node N path depth ≡ Some index)

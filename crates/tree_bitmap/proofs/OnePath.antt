@@ -6,8 +6,7 @@ use Rattle.bitmaps.specs.Bits.{rank}
 use Rattle.tree_bitmap.specs.Tree.{nibble, child, HasChild, IsChild, child_under, path_node, IsLaidOut}
 use Rattle.tree_bitmap.specs.declared.node.Node.{Node}
 use Rattle.network_model.specs.declared.route.Entry.{Entry}
-use Rattle.bitmaps.proofs.Ranks.{rank_mono_lt}
-use Rattle.bitmaps.proofs.Options.{Some_same}
+use Rattle.bitmaps.proofs.{Ranks.rank_mono_lt, Options.Some_same}
 use Rattle.tree_bitmap.proofs.Paths.{child_in_block, root_at, IsStep, step_of}
 
 -- set bits of one rank are one bit

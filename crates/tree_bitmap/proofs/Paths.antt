@@ -1,7 +1,6 @@
 -- Walks from the root.
 use Rattle.std.proofs.Common.{ℕ, zero, suc, ◌≡◌, ◌≢◌, ◌⊎◌, inl, inr, ◌+◌, ◌/◌, ◌%◌, Option, Some, None, true, cond, eqb, is_some, option_and_then, arith, refl, ap, subst, ◌∙◌}
-use Rattle.std.specs.Int.{bit_at}
-use Rattle.std.specs.Int.RustNames.{count_ones}
+use Rattle.std.specs.{Int.bit_at, Int.RustNames.count_ones}
 use Rattle.std.proofs.lemmas.Bool.{cond-true, cond-false, eq-eqb, ne_eqb, cases_eq}
 use Rattle.std.proofs.lemmas.Nat.Bits.{bit_at-zero}
 use Rattle.bitmaps.specs.Bits.{rank}

@@ -2,15 +2,11 @@
 use Rattle.std.proofs.Common.{ℕ, ◌≡◌, ◌+◌, ◌-◌, ◌*◌, ◌/◌, ◌^◌, ◌≤◌, Bool, true, false, cond, Option, Some, None, arith, refl, sym, ap, subst, ◌∙◌, shr-shr, eq-eqb, eqb-true}
 use mathlib.Core.Path.{fun_ext}
 use Rattle.ipv4_prefix.specs.Prefix.{Prefix, IsPrefix, covers, prefix_eq}
-use Rattle.ipv4_prefix.specs.LongestMatch.{IsLongestIn}
-use Rattle.ipv4_prefix.specs.Tables.{table_rows}
-use Rattle.ipv4_prefix.proofs.PrefixOrder.{prefix_eq-Decides}
-use Rattle.ipv4_prefix.proofs.LongestMatches.{covering_same}
+use Rattle.ipv4_prefix.specs.{LongestMatch.IsLongestIn, Tables.table_rows}
+use Rattle.ipv4_prefix.proofs.{PrefixOrder.prefix_eq-Decides, LongestMatches.covering_same}
 use Rattle.network_model.specs.declared.route.Entry.{Entry}
-use Rattle.tree_bitmap.specs.Bits.{path_top}
+use Rattle.tree_bitmap.specs.{Bits.path_top, Tree.path_entry, Tree.SetsRow, declared.node.Node.Node}
 use Rattle.bitmaps.specs.Greatest.{GreatestBelow}
-use Rattle.tree_bitmap.specs.Tree.{path_entry, SetsRow}
-use Rattle.tree_bitmap.specs.declared.node.Node.{Node}
 use Rattle.tree_bitmap.proofs.LongestRow.{row_covers}
 
 -- the first bits of an address's path are those of the address

@@ -3,17 +3,12 @@ use Rattle.std.proofs.Common.{◌≡◌, ℕ, List, [], Bool, true, false, Optio
 use Rattle.std.proofs.lemmas.Bool.{false≢true}
 use Rattle.std.specs.Prelude.{⊤, MatchOption, if◌then◌else◌}
 use Rattle.std.specs.Io.KnownBytes.{Appends}
-use Rattle.network_model.specs.declared.step.Step.{Step}
-use Rattle.network_model.specs.World.{Network, World, opening}
-use Rattle.network_model.specs.Run.{Runs}
-use Rattle.network_model.specs.Step.{refusal}
-use Rattle.world.specs.Steps.{StopsAt}
-use Rattle.world.specs.declared.world.Ran.{Ran}
+use Rattle.network_model.specs.{declared.step.Step.Step, World.Network, World.World, World.opening, Run.Runs, Step.refusal}
+use Rattle.world.specs.{Steps.StopsAt, declared.world.Ran.Ran}
 use Rattle.texts.specs.Words.{Text}
 use Rattle.script.specs.Directories.{Directory}
 use Rattle.journal.specs.declared.read.Version.{Version}
-use Rattle.plans.specs.declared.plan.Plan.{Plan}
-use Rattle.plans.specs.Scenarios.{network_read}
+use Rattle.plans.specs.{declared.plan.Plan.Plan, Scenarios.network_read}
 use Rattle.plans.proofs.Planned.{IsPlanned}
 use Rattle.play.specs.Replays.{IsJournalOf}
 use Rattle.faults.specs.declared.kind.FaultKind.{FaultKind}

@@ -1,8 +1,7 @@
 -- The words of a block, and what stays of them where words are written.
 use Rattle.std.proofs.Common.{ℕ, zero, suc, ◌≡◌, ◌≢◌, ◌+◌, ◌%◌, ◌<◌, ◌≤◌, List, [], ◌∷◌, length, take, set, get_or, Option, Some, None, arith, refl, sym, ap, ◌∙◌, cond, eq-eqb, ne_eqb}
 use Rattle.word_pool.specs.Heap.{size_of, word_of, with_word, shortened, IsAllocated, IsFreed, IsWordWritten, IsSplit}
-use Rattle.word_pool.specs.Layout.{noted}
-use Rattle.word_pool.specs.Pool.{read, sized_block}
+use Rattle.word_pool.specs.{Layout.noted, Pool.read, Pool.sized_block}
 
 -- the block that was noted last has the size
 pub noted_here : (new rest : List ℕ) (p size : ℕ) → new ≡ p ∷ size ∷ rest → noted new p ≡ size

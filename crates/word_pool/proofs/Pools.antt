@@ -3,8 +3,7 @@ use Rattle.std.proofs.Common.{ℕ, ◌≡◌, ◌≢◌, ◌+◌, ◌-◌, ◌%�
 use Rattle.std.proofs.Math.Logic.{∥∥₁_map}
 use Rattle.word_pool.specs.Heap.{size_of, word_of, HasOnlyZeros, IsAllocated, IsFreed, IsWordWritten, IsSplit}
 use Rattle.word_pool.specs.Layout.{entry, noted, free_size, IsLaid}
-use Rattle.word_pool.specs.Pool.{blocks, sized_block, read}
-use Rattle.word_pool.specs.declared.pool.Pool.{Pool}
+use Rattle.word_pool.specs.{Pool.blocks, Pool.sized_block, Pool.read, declared.pool.Pool.Pool}
 use Rattle.word_pool.proofs.Blocks.{noted_here, noted_other, noted_start, block_none, heap, heap_taken, heap_given, heap_written, heap_split, size-sized_block, word-sized_block}
 use Rattle.word_pool.proofs.Laid.{width_some, laid_set, laid_pop, laid_push, laid_split, laid_grow, used_within, used_disjoint, head_some, head_unused, head_aligned, upper_unused, beyond_unused, zero_used, zero_word}
 

@@ -1,11 +1,7 @@
 -- The six sizes of blocks, their lists, and the words of the free blocks.
 use Rattle.std.proofs.Common.{ℕ, ◌≡◌, ◌≢◌, ◌⊎◌, ⊎_elim, ◌+◌, ◌-◌, ◌*◌, ◌<◌, ◌≤◌, List, length, set, IsTrue, arith, refl, sym, ap, subst, ◌∙◌, vec_len, get_or-set_same, get_or-set_other}
-use Rattle.std.proofs.lemmas.Bool.{cases_lt}
-use Rattle.std.proofs.lemmas.Bool.Decides.{nat_tests}
-use Rattle.word_pool.specs.Heap.{is_size}
-use Rattle.word_pool.specs.Layout.{entry, noted, free_size}
-use Rattle.word_pool.specs.Pool.{list_of_size, spare, HasSpare}
-use Rattle.word_pool.specs.declared.pool.Pool.{Pool}
+use Rattle.std.proofs.{lemmas.Bool.cases_lt, lemmas.Bool.Decides.nat_tests}
+use Rattle.word_pool.specs.{Heap.is_size, Layout.entry, Layout.noted, Layout.free_size, Pool.list_of_size, Pool.spare, Pool.HasSpare, declared.pool.Pool.Pool}
 use Rattle.word_pool.proofs.Laid.{head_none}
 
 six : (n : ℕ) → IsTrue (is_size n) → (n ≡ 4) ⊎ (n ≡ 8) ⊎ (n ≡ 16) ⊎ (n ≡ 32) ⊎ (n ≡ 64) ⊎ (n ≡ 128)

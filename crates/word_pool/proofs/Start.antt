@@ -1,10 +1,8 @@
 -- A new pool: of 128 words, four are in use, and the others are free blocks of five sizes.
 use Rattle.std.proofs.Common.{ℕ, ◌≡◌, ⊎_elim, ◌+◌, ◌%◌, ◌<◌, List, [], ◌∷◌, length, set, replicate, arith, refl, sym, subst, get_or-set_same, get_or-set_other}
-use Rattle.std.proofs.lemmas.List.{get_or-replicate, get_or_past}
-use Rattle.std.proofs.lemmas.Bool.{cases_lt}
+use Rattle.std.proofs.{lemmas.List.get_or-replicate, lemmas.List.get_or_past, lemmas.Bool.cases_lt}
 use Rattle.word_pool.specs.Layout.{entry, noted, free_size, IsLaid}
-use Rattle.word_pool.proofs.Blocks.{noted_here, noted_start}
-use Rattle.word_pool.proofs.Laid.{laid_start, laid_more}
+use Rattle.word_pool.proofs.{Blocks.noted_here, Blocks.noted_start, Laid.laid_start, Laid.laid_more}
 
 -- a free block behind the others, the first of its size
 more : (words : ℕ → ℕ) (count : ℕ) (free counts : List ℕ) (used : ℕ → ℕ) (i s : ℕ) → length free ≡ 6 → length counts ≡ 6 → i < 6 → s ≡ free_size i → count % s ≡ 0 → words count ≡ entry free i → entry counts i ≡ 0

@@ -1,15 +1,13 @@
 -- What the answer of a call on a link, a port or a router says of the step that it is done for.
 use Rattle.std.proofs.Common.{refl, sym, ap, subst, ◌∙◌, arith, inl, inr, ◌≡◌, ℕ, ◌<◌, Bool, true, false, not, ◌&&◌, ◌==◌, if◌then◌else◌, nat_lt, List, [], ◌∷◌, length, Option, Some, None, Result, Ok, Err, slice_get, is_none, is_ok, option_and_then, option_map, MatchOption, IfOk, IfErr, OnOk, OnSome, IsErrAnd, MatchBool, get_or, set, true≢false, eqb-true}
 use Rattle.no_packet_loops.proofs.Common.{and-false, slice_get_within, IsCost, Prefix, prefix_cmp, Item, Notice, Held, End, Place, Port, Refusal, changed_at, Side, Link, Router, Attachments, World, place_at, link_at, is_known, side, attachment_at, first_cause, CanBeAsked, Lawful, next, refusal, is_up, last_session, front_at, is_at_home, notice_at, release_at, link_come_up, link_gone_down, with_cost, with_message, with_front_taken, with_delivered, with_noticed, with_notice_taken, with_released, changed_router, router_accepting, router_at_home, router_releasing, is_due, is_up_in, None_not_Some, Some_injective, element_there, refusal_to_Lawful, Lawful_to_refusal, result_err, set-get_or, option_map_or, ok_or, find as row_of, Step, LinkUp, LinkDown, SetCost, Deliver, Release, Detach, Publish}
-use Rattle.link_fifo.specs.declared.refusal.LinkRefusal.{LinkRefusal}
+use Rattle.link_fifo.specs.{declared.refusal.LinkRefusal.LinkRefusal, declared.refusal.Put.Put}
 use Rattle.link_fifo.specs.Refusals.{refusal_to_come_up, refusal_to_change, front_of, sent_in, step_refusal, IsDoneUnless, AnswersPut}
 use Rattle.link_fifo.proofs.Changes.{front_of-Some}
-use Rattle.router_core.specs.Router.{is_port_up, CanTake}
+use Rattle.router_core.specs.{Router.is_port_up, Router.CanTake, Room.ItemNeedsMemory, Room.MeetingNeedsMemory}
 use Rattle.world.specs.Kept.{ItemsLead, IsWorld}
-use Rattle.router_core.specs.Room.{ItemNeedsMemory, MeetingNeedsMemory}
 use Rattle.world.specs.Steps.{DeliveryNeedsMemory, IsDoneOr, IsPort, port_refusal, prefix_refusal, is_stale, TakingNeedsMemory}
 use Rattle.world.proofs.Steps.{next-kept}
-use Rattle.link_fifo.specs.declared.refusal.Put.{Put}
 
 -- ---- causes
 

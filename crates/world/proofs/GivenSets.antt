@@ -1,7 +1,6 @@
 -- Sets of what was given, as one attachment more is given.
 use Rattle.std.proofs.Common.{refl, sym, ap, ◌∙◌, arith, ◌≡◌, ℕ, ◌+◌, Bool, true, false, cond, not, ◌&&◌, ◌||◌, ◌==◌, if◌then◌else◌, List, [], ◌∷◌, ◌++◌, length}
-use Rattle.std.specs.BTreeMap.{is_at}
-use Rattle.std.specs.BTreeSet.{contains}
+use Rattle.std.specs.{BTreeMap.is_at, BTreeSet.contains}
 use Rattle.no_packet_loops.proofs.Common.{list_any, list_any-append, Prefix, prefix_cmp, prefix_eq, Ordering, Less, is_eq, nat_cmp, ordering_then, nat_tests}
 use Rattle.world.specs.Given.{pair_cmp, IsGiven}
 use Rattle.world.specs.declared.attachment_faults.Given.{Given}

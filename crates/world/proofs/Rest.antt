@@ -3,9 +3,8 @@ use Rattle.std.proofs.Common.{refl, sym, ap, ◌∙◌, arith, ◌≡◌, ℕ, z
 use Rattle.no_packet_loops.proofs.Common.{list_all, most_links, most_routers, range_with_len, option_map_or, length-map, length-map-range_with_len, Prefix, prefix_cmp, Contains-first, Contains-later, distinct_from_sorted, row_of-row, Held, Entry, Local, End, Place, changed_at, Link, Router, Attachments, World, Network, place_at, opening, opening_link, opening_router_of, costs_of, next, link_come_up, link_gone_down, with_cost, with_front_taken, with_message, with_delivered, with_noticed, with_released, with_attachment, without_attachment, with_notice_taken, changed_link, changed_router, changed_attachments, router_accepting, router_at_home, router_publishing, router_releasing, front_at, notice_at, release_at, is_due, changed_rows, has_row, entry_eq, is_quiet_link, has_no_notice, is_settled, option_map_or-ind, entry_eq-refl, sorted-map, sorted-rows_of, routers-changed_link, one_if, Step, LinkUp, LinkDown, SetCost, Deliver, Publish, Release, Attach, Detach}
 use Rattle.std.specs.FinMap.{is_sorted}
 use Rattle.no_packet_loops.proofs.WorldLaws.{SameShape, next-shape}
-use Rattle.world.specs.declared.touched.Touched.{Touched}
+use Rattle.world.specs.{declared.touched.Touched.Touched, Touched.touched_by, Touched.unrest_at}
 use Rattle.world.specs.Rest.{has_notice, is_busy, is_restless, count_passing, unrest, link_number, passes_at, IsWatched}
-use Rattle.world.specs.Touched.{touched_by, unrest_at}
 
 -- ---- counts
 

@@ -1,18 +1,12 @@
 -- What a step leaves as it was: each link but the one that it touches, and each router, with its attachments, but those that it touches.
 use Rattle.std.proofs.Common.{refl, ap, subst, sym, ◌∙◌, ◌≡◌, ◌≢◌, ℕ, Option, Some, None, option_map, slice_get, option_and_then}
 use Rattle.std.specs.Option.{option_map_or}
-use Rattle.network_model.specs.declared.item.Held.{Held}
-use Rattle.network_model.specs.declared.network.End.{End}
-use Rattle.network_model.specs.declared.network.Place.{Place}
-use Rattle.network_model.specs.declared.step.Step.{Step}
+use Rattle.network_model.specs.{declared.item.Held.Held, declared.network.End.End, declared.network.Place.Place, declared.step.Step.Step, Machine.changed_at}
 use Rattle.network_model.specs.declared.step.Step.TheVariants.{LinkUp, LinkDown, SetCost, Deliver, Publish, Release, Attach, Detach}
-use Rattle.network_model.specs.Machine.{changed_at}
 use Rattle.network_model.specs.World.{Attachments, Link, Router, World, place_at}
 use Rattle.network_model.specs.Step.{changed_attachments, changed_link, changed_router, front_at, link_come_up, link_gone_down, next, notice_at, release_at, router_accepting, router_at_home, router_publishing, router_releasing, with_attachment, with_cost, with_delivered, with_front_taken, with_message, with_notice_taken, with_noticed, with_released, without_attachment}
 use Rattle.network_model.proofs.ListLaws.{option_map_or-ind, slice_get-changed_at_other}
-use Rattle.world.specs.declared.touched.Touched.{Touched}
-use Rattle.world.specs.Rest.{link_number}
-use Rattle.world.specs.Touched.{LeavesOthers, touched_by}
+use Rattle.world.specs.{declared.touched.Touched.Touched, Rest.link_number, Touched.LeavesOthers, Touched.touched_by}
 
 -- ---- links
 

@@ -1,8 +1,7 @@
 -- What a router does next, by the tests of the code.
 use Rattle.std.proofs.Common.{refl, ap, ◌∙◌, arith, ◌≡◌, ℕ, ◌+◌, suc, Bool, true, false, cond, not, ◌==◌, if◌then◌else◌, List, [], ◌∷◌, map, length, Option, Some, None, is_some, is_ok, is_none, option_map, option_and_then, slice_get, find, ne_eqb, eq-eqb}
 use Rattle.no_packet_loops.proofs.Common.{range_with_len, position_from, slice_get_within, Held, Item, Notice, Place, Refusal, UnknownRouter, UnknownLink, NothingToDeliver, NothingDue, NothingRipe, Link, Router, Attachments, World, side, first_cause, is_due, ripe_front, is_at_home, has_no_notice, is_lawful, next_step, option_map_or, ok_or, Step, Deliver, Publish, Release}
-use Rattle.link_fifo.specs.declared.refusal.LinkRefusal.{LinkRefusal}
-use Rattle.link_fifo.specs.Refusals.{front_of}
+use Rattle.link_fifo.specs.{declared.refusal.LinkRefusal.LinkRefusal, Refusals.front_of}
 use Rattle.world.specs.Waiting.{is_waiting, waiting_port}
 use Rattle.world.proofs.Done.{item_refusal, notice_refusal}
 

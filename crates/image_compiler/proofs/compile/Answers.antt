@@ -1,8 +1,7 @@
 use Rattle.std.proofs.Common.{rules, ◌≡◌, [], ◌∷◌, ◌++◌, ◌∙◌, sym, ap, append_assoc, append-nil}
 use Rattle.std.specs.FinMap.{put, is_sorted}
 use Rattle.ipv4_prefix.specs.Prefix.{Prefix, prefix_cmp}
-use Rattle.network_model.specs.declared.route.Entry.{Entry}
-use Rattle.network_model.specs.Publication.{Image, with_rows}
+use Rattle.network_model.specs.{declared.route.Entry.Entry, Publication.Image, Publication.with_rows}
 use Rattle.network_model.proofs.RowLaws.{with_rows-push, with_rows-sorted}
 use Rattle.image_compiler.proofs.compile.Goals as goal
 

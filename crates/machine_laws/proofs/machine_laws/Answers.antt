@@ -1,5 +1,4 @@
-use Rattle.machine_laws.proofs.MachineLaws.{machine_laws}
-use Rattle.machine_laws.proofs.Opened.{opened_sound}
+use Rattle.machine_laws.proofs.{MachineLaws.machine_laws, Opened.opened_sound}
 use Rattle.machine_laws.proofs.machine_laws.Goals as goal
 
 pub returns : goal.returns

@@ -1,5 +1,4 @@
-use Rattle.moving_packets.proofs.Calm.{always_for_better, always_near, always_nearer}
-use Rattle.moving_packets.proofs.Unpublished.{always_once_published, always_seldom}
+use Rattle.moving_packets.proofs.{Calm.always_for_better, Calm.always_near, Calm.always_nearer, Unpublished.always_once_published, Unpublished.always_seldom}
 use Rattle.moving_packets.proofs.comes_back.Goals as goal
 
 pub returns : goal.returns

@@ -1,10 +1,6 @@
 use Rattle.std.proofs.Common.{rules, ◌≡◌, Result, Ok, Err, Option, None, Some, IfErr, inr, sym, ap, subst}
 use Rattle.network_calls.specs.Calls.{HeldNeedsMemory, IsDoneOrFails, StepNeedsMemory, running_fault, step_fault}
-use Rattle.network_calls.specs.Failures.{failure_number, IsStatusOnlyByFailure}
-use Rattle.network_calls.specs.Running.{network_in}
-use Rattle.network_calls.specs.Steps.{step_of}
-use Rattle.network_calls.specs.declared.failure.Failure.{Failure}
-use Rattle.network_calls.specs.declared.running.Going.{Going}
+use Rattle.network_calls.specs.{Failures.failure_number, Failures.IsStatusOnlyByFailure, Running.network_in, Steps.step_of, declared.failure.Failure.Failure, declared.running.Going.Going}
 use Rattle.network_ffi.specs.Handles.{handle_going}
 use Rattle.network_ffi.proofs.do_step.Goals as goal
 

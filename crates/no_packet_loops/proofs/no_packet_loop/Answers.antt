@@ -1,5 +1,4 @@
-use Rattle.no_packet_loops.proofs.Traces.{always_traces_end}
-use Rattle.no_packet_loops.proofs.Walks.{always_mixtures_free, always_packets_free}
+use Rattle.no_packet_loops.proofs.{Traces.always_traces_end, Walks.always_mixtures_free, Walks.always_packets_free}
 use Rattle.no_packet_loops.proofs.no_packet_loop.Goals as goal
 
 pub returns : goal.returns

@@ -1,11 +1,7 @@
 use Rattle.std.proofs.Common.{rules, ◌≡◌, Result, Ok, Err, Option, None, Some, IfErr, inr, sym, ap, subst}
-use Rattle.c_interface.specs.Faults.{fault_number}
-use Rattle.c_interface.specs.declared.fault.CallFault.{CallFault}
-use Rattle.single_router.specs.Bounded.{BoundedRouter, bounded_fault}
-use Rattle.single_router.specs.Inputs.{IsRefusedOnlyBy, InputNeedsMemory}
-use Rattle.single_router.specs.declared.input.Input.{Input}
-use Rattle.router_ffi.specs.Handles.{handle_router}
-use Rattle.router_ffi.specs.Calls.{IsStatusOnlyBy, ReadNeedsMemory, tell_fault}
+use Rattle.c_interface.specs.{Faults.fault_number, declared.fault.CallFault.CallFault}
+use Rattle.single_router.specs.{Bounded.BoundedRouter, Bounded.bounded_fault, Inputs.IsRefusedOnlyBy, Inputs.InputNeedsMemory, declared.input.Input.Input}
+use Rattle.router_ffi.specs.{Handles.handle_router, Calls.IsStatusOnlyBy, Calls.ReadNeedsMemory, Calls.tell_fault}
 use Rattle.router_ffi.proofs.tell.Goals as goal
 
 -- what a router refuses is told by the number of its fault

@@ -1,9 +1,7 @@
 use Rattle.std.proofs.Common.{◌∙◌, sym, ap, subst}
 use Rattle.no_packet_loops.proofs.Common.{is_quiet, is_settled}
-use Rattle.simulation.specs.Headline.{HasBestRows}
-use Rattle.simulation.specs.Simulation.{Simulation}
-use Rattle.timed_simulation.specs.Timed.{world_of}
-use Rattle.timed_simulation.specs.Runs.{steps_of, IsTimed}
+use Rattle.simulation.specs.{Headline.HasBestRows, Simulation.Simulation}
+use Rattle.timed_simulation.specs.{Timed.world_of, Runs.steps_of, Runs.IsTimed}
 use Rattle.timed_reports.proofs.AtRest.{none_computing, none_out}
 use Rattle.timed_reports.proofs.nothing_goes_on.Goals as goal
 

@@ -2,9 +2,7 @@ use Rattle.std.proofs.Common.{◌≡◌, ◌∙◌, ◌++◌, ◌∷◌, [], len
 use Rattle.std.specs.FinMap.{find as row_of}
 use Rattle.ipv4_prefix.specs.Prefix.{prefix_cmp}
 use Rattle.ipv4_prefix.proofs.TableRows.{table_rows-sorted}
-use Rattle.array_bitmap.specs.Batch.{IsNoted}
-use Rattle.array_bitmap.specs.Tree.{entry_in}
-use Rattle.array_bitmap.specs.Image.{cells_of, rows_in}
+use Rattle.array_bitmap.specs.{Batch.IsNoted, Tree.entry_in, Image.cells_of, Image.rows_in}
 use Rattle.array_bitmap.proofs.Batches.{noted_first, noted_next, noted_all}
 use Rattle.array_bitmap.proofs.batch.set_and_note.Goals as goal
 

@@ -1,6 +1,5 @@
 use Rattle.std.proofs.Common.{◌≡◌, length, vec_len, vec_capacity}
-use Rattle.array_bitmap.specs.Batch.{IsNoted}
-use Rattle.array_bitmap.specs.Image.{rows_in, IsSoundTree}
+use Rattle.array_bitmap.specs.{Batch.IsNoted, Image.rows_in, Image.IsSoundTree}
 use Rattle.array_bitmap.proofs.batch.set_and_note.Given as goal
 
 abbrev pub invariant-loop-prefix : goal.invariant-loop-prefix

@@ -2,8 +2,7 @@ use Rattle.std.proofs.Common.{◌≡◌, ◌+◌, ◌-◌, ◌<◌, ◌∙◌, L
 use Rattle.std.proofs.lemmas.List.{get_or_default}
 use Rattle.ipv4_prefix.specs.Prefix.{Prefix}
 use Rattle.network_model.specs.declared.route.Entry.{Entry}
-use Rattle.array_bitmap.specs.Batch.{IsNoted}
-use Rattle.array_bitmap.specs.Image.{rows_in}
+use Rattle.array_bitmap.specs.{Batch.IsNoted, Image.rows_in}
 use Rattle.bitmaps.proofs.Options.{Some_same}
 use Rattle.array_bitmap.proofs.Batches.{noted_there, noted_back}
 use Rattle.array_bitmap.proofs.batch.take_back.Goals as goal

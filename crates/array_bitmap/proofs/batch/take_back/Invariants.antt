@@ -1,8 +1,7 @@
 use Rattle.std.proofs.Common.{List, length}
 use Rattle.ipv4_prefix.specs.Prefix.{Prefix}
 use Rattle.network_model.specs.declared.route.Entry.{Entry}
-use Rattle.array_bitmap.specs.Batch.{IsNoted}
-use Rattle.array_bitmap.specs.Image.{rows_in, IsSoundTree}
+use Rattle.array_bitmap.specs.{Batch.IsNoted, Image.rows_in, Image.IsSoundTree}
 use Rattle.array_bitmap.proofs.batch.take_back.Given as goal
 
 abbrev pub invariant-loop-before : goal.invariant-loop-before

@@ -1,6 +1,5 @@
 use Rattle.std.proofs.Common.{ℕ, ◌≡◌, ◌-◌, ◌^◌, ◌<◌, ◌≤◌, bit_or, Some, arith, ap, sym, subst, ◌∙◌}
-use Rattle.std.specs.Int.Count.{count_leading_zeros, leading_unique}
-use Rattle.std.specs.Int.Bits.{or_zero_l}
+use Rattle.std.specs.{Int.Count.count_leading_zeros, Int.Count.leading_unique, Int.Bits.or_zero_l}
 use Rattle.std.proofs.lemmas.Nat.{leading_top, leading_length, or_lt, le_or_l, le_or_r}
 use Rattle.bitmaps.specs.Bits.{IsHighest}
 use Rattle.bitmaps.proofs.HighestBit.{highest_bit}

@@ -1,6 +1,5 @@
 use Rattle.std.proofs.Common.{ℕ, ◌≡◌, ◌*◌, ◌/◌, ◌%◌, ◌^◌, ◌<◌, ◌≤◌, arith, sym, subst}
-use Rattle.std.specs.Int.{bit_at}
-use Rattle.std.specs.Int.Count.{count_trailing_zeros}
+use Rattle.std.specs.{Int.bit_at, Int.Count.count_trailing_zeros}
 use Rattle.std.proofs.Math.Nat.{div-mul-le_self}
 use Rattle.array_bitmap.proofs.NextSpots.{next_bit}
 use Rattle.array_bitmap.proofs.bits.next_set.Goals as goal

@@ -1,6 +1,5 @@
 use Rattle.std.proofs.Common.{arith, ap, ◌∙◌}
-use Rattle.word_pool.specs.Heap.{size_of}
-use Rattle.word_pool.specs.Pool.{blocks}
+use Rattle.word_pool.specs.{Heap.size_of, Pool.blocks}
 use Rattle.array_bitmap.proofs.PoolWords.{there, narrow_halved, narrow_moved, narrow_after}
 use Rattle.array_bitmap.proofs.blocks.narrow.Goals as goal
 

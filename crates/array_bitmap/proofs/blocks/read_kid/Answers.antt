@@ -1,14 +1,10 @@
 use Rattle.std.proofs.Common.{◌≡◌, ◌+◌, arith, ap, sym, ◌∙◌, slice_index, count_ones}
 use Rattle.std.specs.Int.{bit_at}
-use Rattle.word_pool.specs.Heap.{size_of, word_of}
-use Rattle.word_pool.specs.Pool.{blocks}
+use Rattle.word_pool.specs.{Heap.size_of, Heap.word_of, Pool.blocks}
 use Rattle.bitmaps.specs.Bits.{rank}
-use Rattle.array_bitmap.specs.Blocks.{kid_map, kid_index}
-use Rattle.array_bitmap.specs.Tree.{words_in_block}
-use Rattle.array_bitmap.proofs.Picks.{times_one, picked_inside}
+use Rattle.array_bitmap.specs.{Blocks.kid_map, Blocks.kid_index, Tree.words_in_block}
+use Rattle.array_bitmap.proofs.{Picks.times_one, Picks.picked_inside, Walks.kid-set, Walks.kid-clear, PoolWords.block_head, PoolWords.block_holds, PoolWords.word_listed}
 use Rattle.bitmaps.proofs.Ranks.{rank_lt}
-use Rattle.array_bitmap.proofs.Walks.{kid-set, kid-clear}
-use Rattle.array_bitmap.proofs.PoolWords.{block_head, block_holds, word_listed}
 use Rattle.array_bitmap.proofs.blocks.read_kid.Goals as goal
 
 pub word-requires : goal.word-requires

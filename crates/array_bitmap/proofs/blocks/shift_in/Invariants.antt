@@ -1,6 +1,5 @@
 use Rattle.std.proofs.Common.{◌≡◌, ◌<◌, ◌≤◌, ◌+◌, ℕ}
-use Rattle.word_pool.specs.Heap.{size_of, word_of, SameOthers}
-use Rattle.word_pool.specs.Pool.{blocks}
+use Rattle.word_pool.specs.{Heap.size_of, Heap.word_of, Heap.SameOthers, Pool.blocks}
 use Rattle.array_bitmap.proofs.blocks.shift_in.Given as goal
 
 abbrev pub invariant-loop-end : goal.invariant-loop-end

@@ -1,6 +1,5 @@
 use Rattle.std.proofs.Common.{arith, IsTrue, ◌-◌, ◌*◌, ap, sym, subst, ◌∙◌}
-use Rattle.word_pool.specs.Pool.{blocks}
-use Rattle.word_pool.specs.Heap.{is_size}
+use Rattle.word_pool.specs.{Pool.blocks, Heap.is_size}
 use Rattle.array_bitmap.specs.Changes.{Narrows}
 use Rattle.array_bitmap.proofs.PoolWords.{size_holds, size_some, size_halved, word_taken, word_taken_half}
 use Rattle.array_bitmap.proofs.blocks.take_word.Goals as goal

@@ -2,11 +2,9 @@ use Rattle.std.proofs.Common.{◌≡◌, ◌+◌, ◌≤◌, ◌^◌, arith, ap,
 use Rattle.std.specs.Int.{bit_at}
 use Rattle.word_pool.specs.Pool.{blocks}
 use Rattle.bitmaps.specs.Bits.{rank}
-use Rattle.array_bitmap.specs.Blocks.{kid_map, kid_index, used_words}
-use Rattle.array_bitmap.specs.Tree.{words_in_block}
+use Rattle.array_bitmap.specs.{Blocks.kid_map, Blocks.kid_index, Blocks.used_words, Tree.words_in_block}
 use Rattle.bitmaps.proofs.Ranks.{rank_le, add_lt}
-use Rattle.array_bitmap.proofs.PoolWords.{block_head, few_kids, all_rows}
-use Rattle.array_bitmap.proofs.Puts.{kid_new}
+use Rattle.array_bitmap.proofs.{PoolWords.block_head, PoolWords.few_kids, PoolWords.all_rows, Puts.kid_new}
 use Rattle.array_bitmap.proofs.blocks.with_kid.Goals as goal
 
 pub kids_of-kids-requires : goal.kids_of-kids-requires

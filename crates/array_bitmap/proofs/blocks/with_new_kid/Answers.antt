@@ -1,6 +1,5 @@
 use Rattle.std.proofs.Common.{ap, ◌∙◌}
-use Rattle.word_pool.specs.Heap.{size_of}
-use Rattle.word_pool.specs.Pool.{blocks}
+use Rattle.word_pool.specs.{Heap.size_of, Pool.blocks}
 use Rattle.array_bitmap.proofs.Puts.{not_taken}
 use Rattle.array_bitmap.proofs.blocks.with_new_kid.Goals as goal
 

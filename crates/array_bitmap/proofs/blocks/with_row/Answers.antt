@@ -1,17 +1,13 @@
 use Rattle.std.proofs.Common.{ℕ, ◌≡◌, ◌+◌, ◌/◌, ◌%◌, ◌^◌, ◌<◌, ◌≤◌, refl, arith, ap, sym, ◌∙◌, count_ones}
 use Rattle.std.specs.Int.{bit_at}
 use Rattle.std.proofs.lemmas.Bool.{both_ways}
-use Rattle.word_pool.specs.Heap.{Heap, size_of}
-use Rattle.word_pool.specs.Pool.{blocks}
+use Rattle.word_pool.specs.{Heap.Heap, Heap.size_of, Pool.blocks}
 use Rattle.bitmaps.specs.Bits.{rank}
 use Rattle.array_bitmap.specs.Blocks.{row_map, kid_map, size_for, used_words, IsBlock}
 use Rattle.array_bitmap.specs.Tree.{words_in_block}
-use Rattle.array_bitmap.proofs.Covering.{row-clear}
-use Rattle.bitmaps.proofs.Options.{refused}
-use Rattle.bitmaps.proofs.Ranks.{rank_lt, rank_le}
-use Rattle.bitmaps.proofs.HighestBit.{clear_bit}
+use Rattle.array_bitmap.proofs.{Covering.row-clear, Puts.row_over, Puts.row_new}
+use Rattle.bitmaps.proofs.{Options.refused, Ranks.rank_lt, Ranks.rank_le, HighestBit.clear_bit}
 use Rattle.array_bitmap.proofs.PoolWords.{block_head, block_holds, few_rows, all_kids, size_least, written_size}
-use Rattle.array_bitmap.proofs.Puts.{row_over, row_new}
 use Rattle.array_bitmap.proofs.blocks.with_row.Goals as goal
 
 pub rows_of-rows-requires : goal.rows_of-rows-requires

@@ -1,11 +1,9 @@
 use Rattle.std.proofs.Common.{◌≡◌, ◌+◌, ◌-◌, ◌<◌, ◌≤◌, arith, ap, sym, ◌∙◌, count_ones}
 use Rattle.word_pool.specs.Pool.{blocks}
 use Rattle.bitmaps.specs.Bits.{rank}
-use Rattle.array_bitmap.specs.Blocks.{kid_map, kid_index, used_words}
-use Rattle.array_bitmap.specs.Tree.{words_in_block}
+use Rattle.array_bitmap.specs.{Blocks.kid_map, Blocks.kid_index, Blocks.used_words, Tree.words_in_block}
 use Rattle.bitmaps.proofs.Ranks.{rank_lt}
-use Rattle.array_bitmap.proofs.PoolWords.{block_head, few_words, size_least}
-use Rattle.array_bitmap.proofs.Takes.{kid_taken}
+use Rattle.array_bitmap.proofs.{PoolWords.block_head, PoolWords.few_words, PoolWords.size_least, Takes.kid_taken}
 use Rattle.array_bitmap.proofs.blocks.without_kid.Goals as goal
 
 pub kids_of-kids-requires : goal.kids_of-kids-requires

@@ -1,9 +1,7 @@
 use Rattle.std.proofs.Common.{ℕ, ◌≡◌, ◌+◌, ◌-◌, ◌/◌, ◌%◌, ◌<◌, ◌≤◌, refl, arith, ap, sym, ◌∙◌, count_ones}
-use Rattle.word_pool.specs.Heap.{size_of}
-use Rattle.word_pool.specs.Pool.{blocks}
+use Rattle.word_pool.specs.{Heap.size_of, Pool.blocks}
 use Rattle.bitmaps.specs.Bits.{rank}
-use Rattle.array_bitmap.specs.Blocks.{row_map, size_for, used_words}
-use Rattle.array_bitmap.specs.Tree.{words_in_block}
+use Rattle.array_bitmap.specs.{Blocks.row_map, Blocks.size_for, Blocks.used_words, Tree.words_in_block}
 use Rattle.bitmaps.proofs.Ranks.{rank_lt}
 use Rattle.array_bitmap.proofs.PoolWords.{block_head, few_words, size_least, written_size}
 use Rattle.array_bitmap.proofs.Takes.{row_taken}

@@ -3,12 +3,9 @@ use Rattle.std.specs.Int.{bit_at}
 use Rattle.std.proofs.lemmas.Bool.{cases_eq}
 use Rattle.word_pool.specs.Pool.{blocks}
 use Rattle.bitmaps.specs.Bits.{rank, IsHighest}
-use Rattle.array_bitmap.specs.Blocks.{row_map, row_index}
-use Rattle.array_bitmap.specs.Tree.{words_in_block}
-use Rattle.array_bitmap.proofs.Picks.{pick_none, pick_some}
-use Rattle.bitmaps.proofs.Ranks.{rank_lt}
-use Rattle.bitmaps.proofs.HighestBit.{both_bits}
-use Rattle.array_bitmap.proofs.PoolWords.{block_head, block_holds, word_listed}
+use Rattle.array_bitmap.specs.{Blocks.row_map, Blocks.row_index, Tree.words_in_block}
+use Rattle.array_bitmap.proofs.{Picks.pick_none, Picks.pick_some, PoolWords.block_head, PoolWords.block_holds, PoolWords.word_listed}
+use Rattle.bitmaps.proofs.{Ranks.rank_lt, HighestBit.both_bits}
 use Rattle.array_bitmap.proofs.blocks.word_after.Goals as goal
 
 pub word-word-requires : goal.word-word-requires

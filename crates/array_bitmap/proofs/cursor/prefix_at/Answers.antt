@@ -1,7 +1,6 @@
 use Rattle.std.proofs.Common.{ℕ, ◌≡◌, ◌+◌, ◌-◌, ◌*◌, ◌/◌, ◌%◌, ◌^◌, ◌<◌, ◌≤◌, arith, ap, ◌∙◌}
 use Rattle.array_bitmap.specs.Bits.{depth_of, path_start}
-use Rattle.array_bitmap.proofs.NextSpots.{spot_path, spot_free, address_free}
-use Rattle.array_bitmap.proofs.PrefixNumbers.{covering_itself}
+use Rattle.array_bitmap.proofs.{NextSpots.spot_path, NextSpots.spot_free, NextSpots.address_free, PrefixNumbers.covering_itself}
 use Rattle.array_bitmap.proofs.cursor.prefix_at.Goals as goal
 
 -- the path, as the code computes it

@@ -1,6 +1,5 @@
 use Rattle.std.proofs.Common.{arith}
-use Rattle.array_bitmap.proofs.NextSpots.{after_short, after_long, shorter_start}
-use Rattle.array_bitmap.proofs.PathBits.{first_small}
+use Rattle.array_bitmap.proofs.{NextSpots.after_short, NextSpots.after_long, NextSpots.shorter_start, PathBits.first_small}
 use Rattle.array_bitmap.proofs.cursor.value_after.Goals as goal
 
 pub returns-then-length-more-clause-within : goal.returns-then-length-more-clause-within

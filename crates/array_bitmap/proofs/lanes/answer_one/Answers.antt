@@ -1,8 +1,6 @@
 use Rattle.std.proofs.Common.{arith, subst}
-use Rattle.array_bitmap.specs.Image.{cells_of}
-use Rattle.array_bitmap.specs.Words.{found}
+use Rattle.array_bitmap.specs.{Image.cells_of, Words.found, Tree.word_at}
 use Rattle.bitmaps.specs.Greatest.{GreatestBelow}
-use Rattle.array_bitmap.specs.Tree.{word_at}
 use Rattle.array_bitmap.proofs.AnswerWords.{word_is, read_back}
 use Rattle.array_bitmap.proofs.lanes.answer_one.Goals as goal
 

@@ -1,8 +1,7 @@
 use Rattle.std.proofs.Common.{ℕ, ◌≡◌, ◌<◌, ◌∙◌, arith, sym, get_or, length, map}
 use Rattle.std.proofs.lemmas.List.{ext_get_or, get_or-map, length-map}
 use Rattle.ipv4_prefix.specs.LongestMatch.{longest_match}
-use Rattle.array_bitmap.specs.Image.{cells_of, rows_in}
-use Rattle.array_bitmap.specs.Words.{answer_word}
+use Rattle.array_bitmap.specs.{Image.cells_of, Image.rows_in, Words.answer_word}
 use Rattle.array_bitmap.proofs.AnswerWords.{word_is}
 use Rattle.array_bitmap.proofs.lanes.answer_words.Goals as goal
 

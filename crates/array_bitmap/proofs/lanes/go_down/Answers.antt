@@ -1,9 +1,5 @@
 use Rattle.std.proofs.Common.{◌≡◌, ◌+◌, ◌<◌, ◌∙◌, length, slice_index, refl, arith, sym, ap, subst, length-set}
-use Rattle.array_bitmap.specs.Image.{cells_of}
-use Rattle.array_bitmap.specs.Tree.{words_at}
-use Rattle.array_bitmap.specs.Blocks.{IsHead}
-use Rattle.array_bitmap.specs.Lane.{IsLane, lane_at, head_at}
-use Rattle.array_bitmap.specs.declared.lanes.Lane.{Lane}
+use Rattle.array_bitmap.specs.{Image.cells_of, Tree.words_at, Blocks.IsHead, Lane.IsLane, Lane.lane_at, Lane.head_at, declared.lanes.Lane.Lane}
 use Rattle.array_bitmap.proofs.LanesDown.{cared_first, cared_last, cared_next, each_next, lane_other}
 use Rattle.array_bitmap.proofs.lanes.go_down.Goals as goal
 

@@ -1,6 +1,5 @@
 use Rattle.std.proofs.Common.{ℕ, ◌≡◌, ◌+◌, ◌<◌, ◌≤◌, length, slice_index}
-use Rattle.array_bitmap.specs.Image.{cells_of}
-use Rattle.array_bitmap.specs.Lane.{IsLane, lane_at}
+use Rattle.array_bitmap.specs.{Image.cells_of, Lane.IsLane, Lane.lane_at}
 use Rattle.array_bitmap.proofs.LanesDown.{AreCared}
 use Rattle.array_bitmap.proofs.lanes.go_down.Given as goal
 

@@ -1,8 +1,5 @@
 use Rattle.std.proofs.Common.{ℕ, ◌≡◌, ◌<◌, length}
-use Rattle.array_bitmap.specs.Blocks.{IsHead}
-use Rattle.array_bitmap.specs.Image.{cells_of}
-use Rattle.array_bitmap.specs.Tree.{words_at}
-use Rattle.array_bitmap.specs.Lane.{lane_at, head_at}
+use Rattle.array_bitmap.specs.{Blocks.IsHead, Image.cells_of, Tree.words_at, Lane.lane_at, Lane.head_at}
 use Rattle.array_bitmap.proofs.lanes.read_heads.Given as goal
 
 abbrev pub invariant-loop-i : goal.invariant-loop-i

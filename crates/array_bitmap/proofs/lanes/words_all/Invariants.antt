@@ -1,6 +1,5 @@
 use Rattle.std.proofs.Common.{ℕ, ◌≡◌, ◌<◌, ◌≤◌, length}
-use Rattle.array_bitmap.specs.Image.{cells_of}
-use Rattle.array_bitmap.specs.Lane.{AreLanes, IsCared}
+use Rattle.array_bitmap.specs.{Image.cells_of, Lane.AreLanes, Lane.IsCared}
 use Rattle.array_bitmap.proofs.lanes.words_all.Given as goal
 
 abbrev pub invariant-loop-level : goal.invariant-loop-level

@@ -1,6 +1,5 @@
 use Rattle.std.proofs.Common.{ℕ, ◌≡◌, ◌≤◌, ◌<◌, cond, ◌==◌, vec_len}
-use Rattle.array_bitmap.specs.Words.{len_of}
-use Rattle.array_bitmap.specs.Image.{top_at}
+use Rattle.array_bitmap.specs.{Words.len_of, Image.top_at}
 use Rattle.array_bitmap.proofs.tree.put_next.Given as goal
 
 abbrev pub invariant-loop-x : goal.invariant-loop-x

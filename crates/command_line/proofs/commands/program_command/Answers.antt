@@ -1,7 +1,6 @@
 use Rattle.std.proofs.Common.{◌∙◌, ap, ap₂, true}
 use Rattle.std.proofs.lemmas.Result.{IfOk-weaker}
-use Rattle.clap.specs.Words.{App, with_subcommand}
-use Rattle.clap.specs.Simple.{app_of_fields, on_top}
+use Rattle.clap.specs.{Words.App, Words.with_subcommand, Simple.app_of_fields, Simple.on_top}
 use Rattle.command_line.proofs.commands.program_command.Goals as goal
 
 pub returns : goal.returns

@@ -1,10 +1,8 @@
 use Rattle.std.proofs.Common.{◌∙◌, [], ◌∷◌, inl, inr, refl, ap, sym, subst}
 use Rattle.clap.specs.Words.{App, HasKind, fault_of, is_simple, is_simple_and_free, kind_of, matches_of}
 use Rattle.clap.specs.declared.error.kind.ErrorKind.TheVariants.{InvalidValue}
-use Rattle.clap.proofs.FaultLemmas.{first_fails, past}
-use Rattle.clap.proofs.TakesLemmas.{passed_up}
-use Rattle.command_line.specs.Asked.{word_texts}
-use Rattle.command_line.specs.View.{IsView, view_kinds_of, view_program}
+use Rattle.clap.proofs.{FaultLemmas.first_fails, FaultLemmas.past, TakesLemmas.passed_up}
+use Rattle.command_line.specs.{Asked.word_texts, View.IsView, View.view_kinds_of, View.view_program}
 use Rattle.command_line.proofs.Lines.{only_memory}
 use Rattle.command_line.proofs.view.read_view_words.Goals as goal
 

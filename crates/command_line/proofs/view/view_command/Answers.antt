@@ -1,7 +1,6 @@
 use Rattle.std.proofs.Common.{◌∙◌, ap, codes, true}
 use Rattle.std.proofs.lemmas.Result.{IfOk-weaker}
-use Rattle.clap.specs.Words.{new_app}
-use Rattle.clap.specs.Simple.{app_of_fields, on_top}
+use Rattle.clap.specs.{Words.new_app, Simple.app_of_fields, Simple.on_top}
 use Rattle.command_line.specs.Commands.{IsProgramCommand}
 use Rattle.command_line.proofs.view.view_command.Goals as goal
 

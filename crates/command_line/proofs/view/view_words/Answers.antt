@@ -1,7 +1,6 @@
 use Rattle.std.proofs.Common.{codes, sym, ◌∙◌}
 use Rattle.clap.specs.Words.{found_of, rows_of}
-use Rattle.command_line.proofs.Given.{none_given, some_given, text_given}
-use Rattle.command_line.proofs.Viewed.{no_one_run, no_view}
+use Rattle.command_line.proofs.{Given.none_given, Given.some_given, Given.text_given, Viewed.no_one_run, Viewed.no_view}
 use Rattle.command_line.proofs.view.view_words.Goals as goal
 
 pub returns-clause-asked : goal.returns-clause-asked

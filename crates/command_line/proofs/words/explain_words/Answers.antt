@@ -1,6 +1,5 @@
 use Rattle.clap.specs.Words.{found_of, rows_of}
-use Rattle.command_line.proofs.Given.{if_none}
-use Rattle.command_line.proofs.Subcommands.{of_explain}
+use Rattle.command_line.proofs.{Given.if_none, Subcommands.of_explain}
 use Rattle.command_line.proofs.words.explain_words.Goals as goal
 
 pub returns-in_err-number-clause-none : goal.returns-in_err-number-clause-none

@@ -1,6 +1,5 @@
 use Rattle.std.proofs.Common.{sym, ◌≡◌, Some}
-use Rattle.clap.specs.Words.{found_of, rows_of, subcommand_rows_of}
-use Rattle.clap.specs.declared.parser.matches.ArgMatches.TheViews.{out-ArgMatches}
+use Rattle.clap.specs.{Words.found_of, Words.rows_of, Words.subcommand_rows_of, declared.parser.matches.ArgMatches.TheViews.out-ArgMatches}
 use Rattle.command_line.proofs.Subcommands.{asked, met_rows, none_asked}
 use Rattle.command_line.proofs.words.read_matches.Goals as goal
 

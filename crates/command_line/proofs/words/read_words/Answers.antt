@@ -1,12 +1,8 @@
 use Rattle.std.proofs.Common.{◌∙◌, None, [], ◌∷◌, false, sym, ap, subst, inl, inr}
 use Rattle.clap.specs.Words.{App, HasKind, app_of, fault_of, is_simple, is_simple_and_free, kind_of, subcommand_of, subcommand_rows_of}
 use Rattle.clap.specs.declared.error.kind.ErrorKind.TheVariants.{InvalidValue}
-use Rattle.clap.proofs.FaultLemmas.{first_fails, past}
-use Rattle.clap.proofs.TakesLemmas.{passed_up}
-use Rattle.command_line.specs.Asked.{IsAsked, word_texts}
-use Rattle.command_line.specs.Commands.{program, kinds_of}
-use Rattle.command_line.specs.declared.format.Format.TheVariants.{Text as ForPeople}
-use Rattle.command_line.specs.declared.words.Words.TheVariants.{Check, Run, Replay}
+use Rattle.clap.proofs.{FaultLemmas.first_fails, FaultLemmas.past, TakesLemmas.passed_up}
+use Rattle.command_line.specs.{Asked.IsAsked, Asked.word_texts, Commands.program, Commands.kinds_of, declared.format.Format.TheVariants.Text as ForPeople, declared.words.Words.TheVariants.Check, declared.words.Words.TheVariants.Run, declared.words.Words.TheVariants.Replay}
 use Rattle.command_line.proofs.Lines.{is_free, is_plain, kind_as, seen_as, check_faultless, check_met, run_faultless, run_met, replay_faultless, replay_met, only_memory}
 use Rattle.command_line.proofs.Plain.{given, check_asked, run_asked, replay_asked, check_asks, run_asks, replay_asks}
 use Rattle.command_line.proofs.words.read_words.Goals as goal

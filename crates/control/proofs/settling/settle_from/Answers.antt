@@ -1,8 +1,7 @@
 use Rattle.std.proofs.Common.{◌≤◌, arith, subst, sym}
 use Rattle.fabric.specs.Fabric.{Fabric, count_lent}
 use Rattle.guarded.specs.Served.{IsServed, none_asked}
-use Rattle.guarded.proofs.WritersOut.{all_back, are_back, back_or}
-use Rattle.guarded.proofs.Served.{served_none}
+use Rattle.guarded.proofs.{WritersOut.all_back, WritersOut.are_back, WritersOut.back_or, Served.served_none}
 use Rattle.control.proofs.settling.settle_from.Goals as goal
 
 pub loop-init : goal.loop-init

@@ -1,7 +1,6 @@
 use Rattle.std.proofs.Common.{◌≤◌}
 use Rattle.fabric.specs.Fabric.{count_lent}
-use Rattle.guarded.specs.Names.{high_name, low_name, out_name}
-use Rattle.guarded.specs.Served.{IsServed, none_asked}
+use Rattle.guarded.specs.{Names.high_name, Names.low_name, Names.out_name, Served.IsServed, Served.none_asked}
 use Rattle.control.proofs.settling.settle_from.Given as goal
 
 abbrev pub invariant-loop : goal.invariant-loop

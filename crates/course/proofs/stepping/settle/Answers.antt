@@ -1,10 +1,8 @@
 use Rattle.std.proofs.Common.{◌∙◌, sym, ap, subst}
 use Rattle.no_packet_loops.proofs.Common.{Lawful}
 use Rattle.world.specs.Steps.{CanBeRefused}
-use Rattle.course.specs.Course.{Course, course_after, course_refusal}
-use Rattle.course.specs.Turns.{IsCourseStopped}
-use Rattle.course.proofs.Courses.{refused_as}
-use Rattle.course.proofs.Turning.{stopped, turned_more}
+use Rattle.course.specs.{Course.Course, Course.course_after, Course.course_refusal, Turns.IsCourseStopped}
+use Rattle.course.proofs.{Courses.refused_as, Turning.stopped, Turning.turned_more}
 use Rattle.course.proofs.stepping.settle.Goals as goal
 
 -- one turn more

@@ -1,11 +1,8 @@
 use Rattle.std.proofs.Common.{rules, ◌≡◌, ◌+◌, ◌++◌, [], ◌∷◌, List, length, take, sym, ap, ap₂, ◌∙◌, subst, arith, add-one, length-append}
-use Rattle.std.proofs.Math.Seq.{take-suc}
-use Rattle.std.proofs.lemmas.List.{map-append}
-use Rattle.std.proofs.lemmas.List.Elements.{All-append, All-cons}
+use Rattle.std.proofs.{Math.Seq.take-suc, lemmas.List.map-append, lemmas.List.Elements.All-append, lemmas.List.Elements.All-cons}
 use Rattle.std.specs.List.{All}
 use Rattle.metric.specs.Distance.{IsCost, infinity}
-use Rattle.network_model.specs.declared.machine.Neighbour.{Neighbour}
-use Rattle.network_model.specs.declared.machine.PortInfo.{PortInfo}
+use Rattle.network_model.specs.{declared.machine.Neighbour.Neighbour, declared.machine.PortInfo.PortInfo}
 use Rattle.dual_machine.specs.State as state
 use Rattle.dual_machine.proofs.machine.opening_neighbours.Goals as goal
 

@@ -1,9 +1,7 @@
 use Rattle.std.proofs.Common.{refl, sym, ap, inl, inr, ◌∙◌, arith, ◌≡◌, ◌≤◌, Some, false, is_some, length, slice_get}
 use Rattle.no_packet_loops.proofs.Common.{slice_get_past, slice_get_read}
-use Rattle.fabric.specs.Desks.{all_lent}
-use Rattle.fabric.specs.Fabric.{awaits_lent, lent_at}
-use Rattle.fabric.proofs.WritersOut.{awaits_at, lent_there}
-use Rattle.fabric.proofs.Seats.{none_lent_at}
+use Rattle.fabric.specs.{Desks.all_lent, Fabric.awaits_lent, Fabric.lent_at}
+use Rattle.fabric.proofs.{WritersOut.awaits_at, WritersOut.lent_there, Seats.none_lent_at}
 use Rattle.fabric.proofs.desk.awaits_lent.Goals as goal
 use Rattle.fabric.proofs.desk.awaits_lent.Goals.{in-Deliver, in-Deliver-2}
 

@@ -1,6 +1,5 @@
 use Rattle.std.proofs.Common.{◌≡◌, ◌++◌, ◌+◌, ◌≤◌, map, length, vec_len}
-use Rattle.std.specs.Vec.{vec_capacity}
-use Rattle.std.specs.Vec.Iter.{into_iter_items}
+use Rattle.std.specs.{Vec.vec_capacity, Vec.Iter.into_iter_items}
 use Rattle.fabric.specs.Desks.{desk_in}
 use Rattle.fabric.proofs.desk.seat_all.Given as goal
 

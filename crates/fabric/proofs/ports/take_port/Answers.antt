@@ -1,7 +1,6 @@
 use Rattle.std.proofs.Common.{rules, ◌≡◌, ◌∙◌, ◌≤◌, ◌++◌, [], ◌∷◌, List, Some, map, length, ap, subst, sym, arith, slice_get, set, option_map}
 use Rattle.no_packet_loops.proofs.Common.{map-set, slice_get-get_or, slice_get-map}
-use Rattle.publication.specs.declared.known.Known.{Known}
-use Rattle.publication.specs.Lists.{EachAt, no_patches}
+use Rattle.publication.specs.{declared.known.Known.Known, Lists.EachAt, Lists.no_patches}
 use Rattle.publication.proofs.Places.{each-push}
 use Rattle.fabric.specs.Writers.{HaveReaders}
 use Rattle.fabric.proofs.ReaderLists.{taken_is, left_after, others_after}

@@ -1,6 +1,5 @@
 use Rattle.std.proofs.Common.{ℕ, List, Some, ◌≡◌, ◌≤◌, ◌<◌, map, length, vec_len, slice_get, vec_capacity}
-use Rattle.publication.specs.declared.known.Known.{Known}
-use Rattle.publication.specs.Lists.{EachAt, no_patches}
+use Rattle.publication.specs.{declared.known.Known.Known, Lists.EachAt, Lists.no_patches}
 use Rattle.fabric.specs.Writers.{HaveReaders}
 use Rattle.fabric.proofs.ports.take_port.Given as goal
 

@@ -1,6 +1,5 @@
 use Rattle.fabric.specs.Fabric.{count_lent}
-use Rattle.guarded.specs.Names.{high_name, low_name, out_name}
-use Rattle.guarded.specs.Served.{all_asked}
+use Rattle.guarded.specs.{Names.high_name, Names.low_name, Names.out_name, Served.all_asked}
 use Rattle.fabric_tests.proofs.jobs.opened.Given as goal
 
 -- the ledgers that were just made, and the fabric

@@ -1,8 +1,6 @@
 use Rattle.std.proofs.Common.{rules, ◌≡◌, ◌∙◌, ◌+◌, ◌++◌, ◌∷◌, [], length, map, ap, arith, length-append}
-use Rattle.packet_queue.specs.Ends.{taken_by}
-use Rattle.packet_queue.specs.Jobs.{jobs_of}
-use Rattle.forwarder.proofs.Later.{later_trans}
-use Rattle.forwarder.proofs.Replying.{if_more, on_err, taken_more}
+use Rattle.packet_queue.specs.{Ends.taken_by, Jobs.jobs_of}
+use Rattle.forwarder.proofs.{Later.later_trans, Replying.if_more, Replying.on_err, Replying.taken_more}
 use Rattle.forwarder.proofs.worker.work.Goals as goal
 
 pub loop-preserved : goal.loop-preserved

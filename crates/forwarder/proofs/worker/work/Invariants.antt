@@ -1,7 +1,6 @@
 use Rattle.std.proofs.Common.{◌≡◌, ◌⊎◌, ◌<◌, ◌≤◌, ◌++◌, length, map, IfOk, IfErr}
 use Rattle.network_model.specs.declared.step.Refusal.TheVariants.{NoMemory, NoImage}
-use Rattle.packet_queue.specs.Ends.{takes_from, taken_by}
-use Rattle.packet_queue.specs.Jobs.{jobs_of}
+use Rattle.packet_queue.specs.{Ends.takes_from, Ends.taken_by, Jobs.jobs_of}
 use Rattle.forwarder.specs.Ports.{AreLater}
 use Rattle.forwarder.proofs.worker.work.Given as goal
 

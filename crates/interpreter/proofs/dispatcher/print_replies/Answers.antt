@@ -1,9 +1,7 @@
 use Rattle.std.proofs.Common.{◌≡◌, ap, subst, ◌∙◌, arith}
 use Rattle.std.specs.Io.KnownBytes.{Appends}
 use Rattle.texts.proofs.Printed.{part_next}
-use Rattle.lines.specs.declared.answers.Asked.TheVariants.{Packet}
-use Rattle.lines.specs.declared.line.Line.TheVariants.{Asked}
-use Rattle.lines.specs.Formats.{printed}
+use Rattle.lines.specs.{declared.answers.Asked.TheVariants.Packet, declared.line.Line.TheVariants.Asked, Formats.printed}
 use Rattle.interpreter.specs.Dispatching.{reply_text}
 use Rattle.interpreter.proofs.dispatcher.print_replies.Goals as goal
 

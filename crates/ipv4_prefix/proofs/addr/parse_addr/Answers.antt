@@ -1,6 +1,5 @@
 use Rattle.std.proofs.Common.{ℕ, Ok, ap}
-use Rattle.std.specs.Net.Addr.{ipv4_bits}
-use Rattle.std.specs.declared.net.ipv4_addr.Ipv4Addr.{Ipv4Addr}
+use Rattle.std.specs.{Net.Addr.ipv4_bits, declared.net.ipv4_addr.Ipv4Addr.Ipv4Addr}
 use Rattle.ipv4_prefix.specs.Faults.{SpellsAddress}
 use Rattle.ipv4_prefix.proofs.AddressTexts.{octets_of, IsDotted-address_text, SpellsAddress-dotted, SpellsAddress_unique}
 use Rattle.ipv4_prefix.proofs.addr.parse_addr.Goals as goal

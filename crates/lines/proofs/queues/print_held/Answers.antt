@@ -1,8 +1,6 @@
 use Rattle.std.proofs.Common.{arith}
 use Rattle.texts.proofs.Printed.{part_next}
-use Rattle.lines.specs.declared.line.Line.TheVariants.{Waiting}
-use Rattle.lines.specs.declared.waiting.Waiting.TheVariants.{Kept}
-use Rattle.lines.specs.Formats.{printed}
+use Rattle.lines.specs.{declared.line.Line.TheVariants.Waiting, declared.waiting.Waiting.TheVariants.Kept, Formats.printed}
 use Rattle.lines.proofs.queues.print_held.Goals as goal
 
 pub loop-held-preserved : goal.loop-held-preserved

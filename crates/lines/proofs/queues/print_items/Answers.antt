@@ -1,8 +1,6 @@
 use Rattle.std.proofs.Common.{arith}
 use Rattle.texts.proofs.Printed.{part_next}
-use Rattle.lines.specs.declared.line.Line.TheVariants.{Waiting}
-use Rattle.lines.specs.declared.waiting.Waiting.TheVariants.{Queued}
-use Rattle.lines.specs.Formats.{printed}
+use Rattle.lines.specs.{declared.line.Line.TheVariants.Waiting, declared.waiting.Waiting.TheVariants.Queued, Formats.printed}
 use Rattle.lines.proofs.queues.print_items.Goals as goal
 
 pub loop-item-preserved : goal.loop-item-preserved

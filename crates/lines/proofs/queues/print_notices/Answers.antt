@@ -1,8 +1,6 @@
 use Rattle.std.proofs.Common.{arith}
 use Rattle.texts.proofs.Printed.{part_next}
-use Rattle.lines.specs.declared.line.Line.TheVariants.{Waiting}
-use Rattle.lines.specs.declared.waiting.Waiting.TheVariants.{Noticed}
-use Rattle.lines.specs.Formats.{printed}
+use Rattle.lines.specs.{declared.line.Line.TheVariants.Waiting, declared.waiting.Waiting.TheVariants.Noticed, Formats.printed}
 use Rattle.lines.proofs.queues.print_notices.Goals as goal
 
 pub loop-notice-preserved : goal.loop-notice-preserved

@@ -1,9 +1,7 @@
 use Rattle.std.proofs.Common.{rules, [], ◌∷◌, ◌∙◌, append_assoc}
 use Rattle.no_packet_loops.proofs.Common.{Prefix, Entry}
 use Rattle.texts.proofs.Printed.{part_more}
-use Rattle.lines.specs.declared.answers.Asked.TheVariants.{Row}
-use Rattle.lines.specs.declared.line.Line.TheVariants.{Asked}
-use Rattle.lines.specs.Formats.{printed}
+use Rattle.lines.specs.{declared.answers.Asked.TheVariants.Row, declared.line.Line.TheVariants.Asked, Formats.printed}
 use Rattle.lines.proofs.report.print_table.Goals as goal
 
 pub loop-prefix-preserved : goal.loop-prefix-preserved

@@ -2,8 +2,7 @@ use Rattle.std.proofs.Common.{◌∙◌, ◌++◌, ◌∷◌, [], ap, sym, arith
 use Rattle.std.specs.Bool.{⊤}
 use Rattle.std.proofs.lemmas.Option.{MatchOption-at_some, none-some}
 use Rattle.network_model.specs.World.{side}
-use Rattle.network_model.proofs.ListLaws.{element_there}
-use Rattle.network_model.proofs.Fronts.{take_next}
+use Rattle.network_model.proofs.{ListLaws.element_there, Fronts.take_next}
 use Rattle.link_fifo.proofs.queue.queue_at.Goals as goal
 use Rattle.link_fifo.proofs.queue.queue_at.Goals.{in-Some+in_ok-push, in_default}
 

@@ -1,7 +1,6 @@
 use Rattle.std.proofs.Common.{◌≡◌, None, [], drop}
 use Rattle.row_words.specs.Rows.{with_marked}
-use Rattle.lookup_calls.specs.Rows.{first_row_fault}
-use Rattle.lookup_calls.specs.Tables.{plain_rows}
+use Rattle.lookup_calls.specs.{Rows.first_row_fault, Tables.plain_rows}
 use Rattle.lookup_calls.proofs.images.image_of_rows.Given as goal
 
 abbrev pub invariant-loop-row : goal.invariant-loop-row

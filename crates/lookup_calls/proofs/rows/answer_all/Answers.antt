@@ -1,11 +1,8 @@
 use Rattle.std.proofs.Common.{rules, ℕ, ◌≡◌, ◌≤◌, ◌+◌, ◌-◌, ◌++◌, ◌∙◌, arith, sym, ap, subst, get_or, slice_set, length, map, take, None}
 use Rattle.std.specs.List.{between}
-use Rattle.std.proofs.Math.Seq.{take-add}
+use Rattle.std.proofs.{Math.Seq.take-add, lemmas.List.Edits.length-between, lemmas.Slice.take-put_mid}
 use Rattle.std.proofs.lemmas.List.{ext_get_or, get_or-map, get_or-set_same, length-set, length-map, map-append}
-use Rattle.std.proofs.lemmas.List.Edits.{length-between}
-use Rattle.std.proofs.lemmas.Slice.{take-put_mid}
-use Rattle.c_interface.specs.declared.row.Row.{Row}
-use Rattle.c_interface.specs.Rows.{answer_row}
+use Rattle.c_interface.specs.{declared.row.Row.Row, Rows.answer_row}
 use Rattle.lookup_calls.specs.Rows.{entry_answer}
 use Rattle.lookup_calls.proofs.rows.answer_all.Goals as goal
 

@@ -1,8 +1,7 @@
 use Rattle.std.proofs.Common.{ℕ, ◌<◌, ◌∙◌, arith, sym, length, map, None}
 use Rattle.std.proofs.lemmas.List.{ext_get_or, get_or-map, length-map}
 use Rattle.network_model.specs.Publication.{image_answer}
-use Rattle.c_interface.specs.declared.row.Row.{Row}
-use Rattle.c_interface.specs.Rows.{answer_row}
+use Rattle.c_interface.specs.{declared.row.Row.Row, Rows.answer_row}
 use Rattle.lookup_calls.proofs.rows.answer_burst.Goals as goal
 
 pub returns : goal.returns

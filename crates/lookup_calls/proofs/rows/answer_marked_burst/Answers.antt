@@ -1,7 +1,6 @@
 use Rattle.std.proofs.Common.{ℕ, ◌<◌, ◌∙◌, arith, ap, sym, length, map, get_or, None, option_map}
 use Rattle.std.proofs.lemmas.List.{ext_get_or, get_or-map, length-map}
-use Rattle.c_interface.specs.declared.row.Row.{Row}
-use Rattle.c_interface.specs.Rows.{answer_row}
+use Rattle.c_interface.specs.{declared.row.Row.Row, Rows.answer_row}
 use Rattle.row_words.specs.Rows.{marked_answer}
 use Rattle.lookup_calls.specs.Rows.{entry_answer}
 use Rattle.lookup_calls.proofs.rows.answer_marked_burst.Goals as goal

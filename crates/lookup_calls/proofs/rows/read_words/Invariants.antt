@@ -1,6 +1,5 @@
 use Rattle.std.proofs.Common.{◌≡◌, ◌++◌, None, drop}
-use Rattle.lookup_calls.specs.Rows.{first_row_fault}
-use Rattle.lookup_calls.specs.Tables.{worded_rows}
+use Rattle.lookup_calls.specs.{Rows.first_row_fault, Tables.worded_rows}
 use Rattle.lookup_calls.proofs.rows.read_words.Given as goal
 
 abbrev pub invariant-loop-k : goal.invariant-loop-k

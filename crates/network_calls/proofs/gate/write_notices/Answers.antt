@@ -1,6 +1,5 @@
 use Rattle.std.proofs.Common.{arith, slice_get, List, Some, None}
-use Rattle.network_model.specs.declared.item.Notice.{Notice}
-use Rattle.network_model.specs.World.{Attachments}
+use Rattle.network_model.specs.{declared.item.Notice.Notice, World.Attachments}
 use Rattle.network_calls.specs.Shown.{notice_shown}
 use Rattle.network_calls.proofs.Items.{counted_there, ended_of, full_of, more_of, none_of, read_there}
 use Rattle.network_calls.proofs.gate.write_notices.Goals as goal

@@ -1,6 +1,5 @@
 use Rattle.std.proofs.Common.{◌≡◌, arith, subst, length, slice_get, List, Some, None, IfSome}
-use Rattle.network_model.specs.declared.item.Item.{Item}
-use Rattle.network_model.specs.World.{Link, side}
+use Rattle.network_model.specs.{declared.item.Item.Item, World.Link, World.side}
 use Rattle.network_calls.specs.Shown.{item_shown}
 use Rattle.network_calls.proofs.Items.{ended_of, full_of, more_of, none_of}
 use Rattle.network_calls.proofs.link.write_items.Goals as goal

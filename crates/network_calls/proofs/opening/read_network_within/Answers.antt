@@ -1,11 +1,7 @@
 use Rattle.std.proofs.Common.{◌≡◌, ℕ, List, None, Result, Ok, Err, OnOk, IfErr, inl, inr, refl, sym, subst}
-use Rattle.network_model.specs.declared.network.Limits.{Limits}
-use Rattle.network_model.specs.Network.{widest_limits, AreWithin}
+use Rattle.network_model.specs.{declared.network.Limits.Limits, Network.widest_limits, Network.AreWithin}
 use Rattle.network_calls.specs.Parts.{list_fault, network_failure, IsFaultWithin, IsOpeningFault}
-use Rattle.network_calls.specs.declared.failure.Failure.{Failure}
-use Rattle.network_calls.specs.declared.parts.AttachmentParts.{AttachmentParts}
-use Rattle.network_calls.specs.declared.parts.FaultPlace.{FaultPlace}
-use Rattle.network_calls.specs.declared.parts.LinkParts.{LinkParts}
+use Rattle.network_calls.specs.{declared.failure.Failure.Failure, declared.parts.AttachmentParts.AttachmentParts, declared.parts.FaultPlace.FaultPlace, declared.parts.LinkParts.LinkParts}
 use Rattle.network_calls.proofs.opening.read_network_within.Goals as goal
 
 -- what is so of a network that was opened

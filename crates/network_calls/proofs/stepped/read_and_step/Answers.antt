@@ -2,10 +2,7 @@ use Rattle.std.proofs.Common.{◌≡◌, None, Option, Err, subst, sym}
 use Rattle.network_model.specs.declared.step.Step.{Step}
 use Rattle.world.specs.Steps.{IsDoneOr}
 use Rattle.simulation.specs.Simulation.{simulation_refusal}
-use Rattle.network_calls.specs.Calls.{IsDoneOrFails, StepNeedsMemory}
-use Rattle.network_calls.specs.Steps.{step_of}
-use Rattle.network_calls.specs.declared.failure.Failure.{Failure}
-use Rattle.network_calls.specs.declared.failure.Failure.TheVariants.{Refused}
+use Rattle.network_calls.specs.{Calls.IsDoneOrFails, Calls.StepNeedsMemory, Steps.step_of, declared.failure.Failure.Failure, declared.failure.Failure.TheVariants.Refused}
 use Rattle.network_calls.proofs.Ran.{reads, refused_as}
 use Rattle.network_calls.proofs.stepped.read_and_step.Goals as goal
 

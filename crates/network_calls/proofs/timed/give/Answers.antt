@@ -1,7 +1,6 @@
 use Rattle.std.proofs.Common.{nat_lt, subst, sym}
 use Rattle.timed_reports.specs.Recordings.{timed_in}
-use Rattle.network_calls.specs.Failures.{IsStatusByFailure}
-use Rattle.network_calls.specs.Times.{moment_failure}
+use Rattle.network_calls.specs.{Failures.IsStatusByFailure, Times.moment_failure}
 use Rattle.network_calls.proofs.Given.{not_taken, taken}
 use Rattle.network_calls.proofs.timed.give.Goals as goal
 

@@ -1,5 +1,4 @@
-use Rattle.node_pool.specs.Cell.{cell_at}
-use Rattle.node_pool.specs.declared.cells.Cell.TheVariants.{Used}
+use Rattle.node_pool.specs.{Cell.cell_at, declared.cells.Cell.TheVariants.Used}
 use Rattle.node_pool.proofs.Writes.{IsCopied, IsShifting}
 use Rattle.node_pool.proofs.cells.shift.Given as goal
 

@@ -1,15 +1,8 @@
 use Rattle.std.proofs.Common.{rules, ◌≡◌, ◌++◌, ◌∷◌, [], sum_by, ap, ◌∙◌, arith}
 use Rattle.std.proofs.lemmas.List.Sums.{sum_by-append}
-use Rattle.crossbeam_channel.specs.Claims.{view}
-use Rattle.crossbeam_channel.specs.Ends.{sends_on}
-use Rattle.packet_queue.specs.declared.taker.Taker.{Taker}
-use Rattle.packet_queue.specs.declared.rule.Hand.{Hand}
-use Rattle.packet_queue.specs.Hands.{one_job}
-use Rattle.packet_queue.specs.Ends.{queue_name, takes_from, taken_by}
-use Rattle.packet_queue.proofs.Fair.{merges, learns}
-use Rattle.packet_queue.specs.Jobs.{jobs_of}
-use Rattle.packet_queue.proofs.Jobs.{count_jobs, jobs_left}
-use Rattle.packet_queue.proofs.Lists.{all_front, moved, none}
+use Rattle.crossbeam_channel.specs.{Claims.view, Ends.sends_on}
+use Rattle.packet_queue.specs.{declared.taker.Taker.Taker, declared.rule.Hand.Hand, Hands.one_job, Ends.queue_name, Ends.takes_from, Ends.taken_by, Jobs.jobs_of}
+use Rattle.packet_queue.proofs.{Fair.merges, Fair.learns, Jobs.count_jobs, Jobs.jobs_left, Lists.all_front, Lists.moved, Lists.none}
 use Rattle.packet_queue.proofs.reckoning.reckon.Goals as goal
 
 pub absorb-requires-clause-rule : goal.absorb-requires-clause-rule

@@ -1,8 +1,6 @@
 use Rattle.std.proofs.Common.{◌≡◌, ◌<◌, ◌≤◌, ◌+◌, ◌*◌, ◌^◌, ℕ, All, sum_by, vec_len}
-use Rattle.crossbeam_channel.specs.Claims.{view, IsSeatAt}
-use Rattle.crossbeam_channel.specs.Ends.{sends_on}
-use Rattle.packet_queue.specs.declared.message.Taken.{Taken}
-use Rattle.packet_queue.specs.Hands.{one_job}
+use Rattle.crossbeam_channel.specs.{Claims.view, Claims.IsSeatAt, Ends.sends_on}
+use Rattle.packet_queue.specs.{declared.message.Taken.Taken, Hands.one_job}
 use Rattle.packet_queue.specs.Ends.{queue_name, takes_from, put_by, taken_by}
 use Rattle.packet_queue.proofs.reckoning.reckon.Given as goal
 

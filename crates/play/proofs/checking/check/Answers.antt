@@ -1,9 +1,7 @@
 use Rattle.std.proofs.Common.{string_bytes, refl, inl}
 use Rattle.script.proofs.Exits.{at_err}
-use Rattle.plans.specs.Scenarios.{StopsReading}
-use Rattle.plans.specs.Faults.{OfBytes, unplaced}
-use Rattle.plans.proofs.Stops.{stops_short}
-use Rattle.plans.proofs.Planned.{IsPlanned}
+use Rattle.plans.specs.{Scenarios.StopsReading, Faults.OfBytes, Faults.unplaced}
+use Rattle.plans.proofs.{Stops.stops_short, Planned.IsPlanned}
 use Rattle.play.proofs.checking.check.Goals as goal
 
 pub returns-in_err-text-clause-fault : goal.returns-in_err-text-clause-fault

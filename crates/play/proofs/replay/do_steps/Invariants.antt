@@ -1,6 +1,5 @@
 use Rattle.std.proofs.Common.{◌≡◌, ◌≤◌, take}
-use Rattle.network_model.specs.Journal.{most_steps}
-use Rattle.network_model.specs.Run.{Runs}
+use Rattle.network_model.specs.{Journal.most_steps, Run.Runs}
 use Rattle.play.proofs.replay.do_steps.Given as goal
 
 abbrev pub invariant-loop-done : goal.invariant-loop-done

@@ -1,9 +1,7 @@
 use Rattle.std.proofs.Common.{◌≡◌, ◌∙◌, map, ap, subst, sym, rules}
 use Rattle.image_patch.specs.Patches.{patched}
 use Rattle.publication.specs.Lists.{Begins, bundle_of, followed, image_of, patch_of, with_publication}
-use Rattle.publication.proofs.Beginnings.{begins_more}
-use Rattle.publication.proofs.Ruling.{goes_on}
-use Rattle.publication.proofs.Tables.{image-covered}
+use Rattle.publication.proofs.{Beginnings.begins_more, Ruling.goes_on, Tables.image-covered}
 use Rattle.publication.proofs.press.turn.Goals as goal
 
 pub show_as-requires : goal.show_as-requires

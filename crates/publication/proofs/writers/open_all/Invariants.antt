@@ -1,6 +1,5 @@
 use Rattle.std.proofs.Common.{◌≡◌, ◌+◌, All, map, length, drop, vec_len}
-use Rattle.std.specs.Vec.{vec_capacity}
-use Rattle.std.specs.Vec.Iter.{into_iter_items}
+use Rattle.std.specs.{Vec.vec_capacity, Vec.Iter.into_iter_items}
 use Rattle.publication.specs.Lists.{EachAt, new_writing, no_patches}
 use Rattle.publication.proofs.writers.open_all.Given as goal
 

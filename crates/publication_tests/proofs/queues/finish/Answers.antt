@@ -1,10 +1,7 @@
 use Rattle.std.proofs.Common.{◌≡◌, [], sum_by, ap, ◌∙◌, arith}
 use Rattle.std.specs.declared.thread.PromisedHandle.{PromisedHandle}
-use Rattle.packet_queue.specs.declared.taker.Taker.{Taker}
-use Rattle.publication_tests.specs.declared.queues.Worked.{Worked}
-use Rattle.publication_tests.specs.declared.queues.GoesOn.{GoesOn}
-use Rattle.packet_queue.specs.Ends.{puts_into, takes_from, taken_by}
-use Rattle.packet_queue.specs.Jobs.{jobs_of}
+use Rattle.packet_queue.specs.{declared.taker.Taker.Taker, Ends.puts_into, Ends.takes_from, Ends.taken_by, Jobs.jobs_of}
+use Rattle.publication_tests.specs.{declared.queues.Worked.Worked, declared.queues.GoesOn.GoesOn}
 use Rattle.packet_queue.proofs.Lists.{all_front, all_last, all_pushed, sum_appended, sum_pushed}
 use Rattle.publication_tests.proofs.queues.finish.Goals as goal
 

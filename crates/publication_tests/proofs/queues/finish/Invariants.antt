@@ -1,7 +1,6 @@
 use Rattle.std.proofs.Common.{◌≡◌, ◌+◌, ℕ, [], All, sum_by, vec_len}
 use Rattle.publication.specs.declared.job.Job.{Job}
-use Rattle.packet_queue.specs.Ends.{puts_into, takes_from, taken_by}
-use Rattle.packet_queue.specs.Jobs.{jobs_of}
+use Rattle.packet_queue.specs.{Ends.puts_into, Ends.takes_from, Ends.taken_by, Jobs.jobs_of}
 use Rattle.publication_tests.proofs.queues.finish.Given as goal
 
 -- the jobs of the threads that were joined are those that their takers took

@@ -1,6 +1,5 @@
 use Rattle.std.proofs.Common.{◌≡◌, get_or, sym, ◌∙◌, arith}
-use Rattle.packet_queue.specs.declared.taker.Taker.{Taker}
-use Rattle.packet_queue.specs.Ends.{puts_into, takes_from}
+use Rattle.packet_queue.specs.{declared.taker.Taker.Taker, Ends.puts_into, Ends.takes_from}
 use Rattle.packet_queue.proofs.Lists.{all_front, all_last, all_pushed}
 use Rattle.publication_tests.proofs.queues.left_of.Goals as goal
 

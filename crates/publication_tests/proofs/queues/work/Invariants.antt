@@ -1,6 +1,5 @@
 use Rattle.std.proofs.Common.{◌≡◌, ◌++◌}
-use Rattle.packet_queue.specs.Ends.{takes_from, taken_by}
-use Rattle.packet_queue.specs.Jobs.{jobs_of}
+use Rattle.packet_queue.specs.{Ends.takes_from, Ends.taken_by, Jobs.jobs_of}
 use Rattle.publication_tests.proofs.queues.work.Given as goal
 
 abbrev pub invariant-loop : goal.invariant-loop

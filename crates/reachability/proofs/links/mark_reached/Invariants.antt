@@ -1,5 +1,4 @@
-use Rattle.reachability.specs.Marks.{unmarked}
-use Rattle.reachability.specs.Rounds.{AllAttached, OnlyReached}
+use Rattle.reachability.specs.{Marks.unmarked, Rounds.AllAttached, Rounds.OnlyReached}
 use Rattle.reachability.proofs.links.mark_reached.Given as goal
 
 abbrev pub invariant-loop : goal.invariant-loop

@@ -1,7 +1,6 @@
 use Rattle.std.proofs.Common.{◌≡◌, ℕ, ◌+◌, ◌<◌, Bool, true, List, length, Option, IfSome, sym, subst, ◌∙◌, rules, arith, slice_set}
 use Rattle.network_model.specs.World.{World}
-use Rattle.reachability.specs.Ways.{IsJoined}
-use Rattle.reachability.specs.Rounds.{AddsNone, IsAddedBy, KeepsReach}
+use Rattle.reachability.specs.{Ways.IsJoined, Rounds.AddsNone, Rounds.IsAddedBy, Rounds.KeepsReach}
 use Rattle.reachability.proofs.Rounds.{IsRound, begun, with_mark, with_none}
 use Rattle.reachability.proofs.OverLinks.{KeepsReach-itself, keeps_more}
 use Rattle.reachability.proofs.links.spread.Goals.{in-Some, in_default}

@@ -1,6 +1,5 @@
 use Rattle.std.proofs.Common.{inl, inr, false, length, rules}
-use Rattle.std.proofs.lemmas.Bool.{cases_lt}
-use Rattle.std.proofs.lemmas.List.{get_or_past}
+use Rattle.std.proofs.{lemmas.Bool.cases_lt, lemmas.List.get_or_past}
 use Rattle.reachability.proofs.marks.clear.Goals as goal
 
 pub returns : goal.returns

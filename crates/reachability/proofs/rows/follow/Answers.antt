@@ -2,8 +2,7 @@ use Rattle.std.proofs.Common.{refl, ◌≡◌, ℕ, ◌+◌, ◌<◌, Bool, true
 use Rattle.std.proofs.lemmas.Bool.{and_parts, false≢true, not-true}
 use Rattle.ipv4_prefix.specs.Prefix.{Prefix}
 use Rattle.network_model.specs.World.{World}
-use Rattle.reachability.specs.Marks.{is_in}
-use Rattle.reachability.specs.Rounds.{LeavesRow, OnlyRouted, leads_home}
+use Rattle.reachability.specs.{Marks.is_in, Rounds.LeavesRow, Rounds.OnlyRouted, Rounds.leads_home}
 use Rattle.reachability.proofs.Rounds.{IsRound, begun, with_mark, with_none}
 use Rattle.reachability.proofs.ByRows.{only_more}
 use Rattle.reachability.proofs.rows.follow.Goals.{then-added, else-added}

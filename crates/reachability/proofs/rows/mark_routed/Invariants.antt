@@ -1,5 +1,4 @@
-use Rattle.reachability.specs.Marks.{unmarked}
-use Rattle.reachability.specs.Rounds.{OnlyRouted}
+use Rattle.reachability.specs.{Marks.unmarked, Rounds.OnlyRouted}
 use Rattle.reachability.proofs.rows.mark_routed.Given as goal
 
 abbrev pub invariant-loop-prefix : goal.invariant-loop-prefix

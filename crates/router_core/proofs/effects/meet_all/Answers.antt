@@ -1,8 +1,7 @@
 use Rattle.std.proofs.Common.{◌≡◌, suc, ◌+◌, ◌≤◌, length, get_or, set, drop, sym, ap, subst, ◌∙◌, arith, add-one, ◌||◌, nat_lt, drop-set-lt}
 use Rattle.network_model.proofs.Common.{Prefix}
-use Rattle.dual_machine.specs.State.{MachineState}
+use Rattle.dual_machine.specs.{State.MachineState, Outbox.most_sent}
 use Rattle.router_core.specs.Effects.{HasRoomFor}
-use Rattle.dual_machine.specs.Outbox.{most_sent}
 use Rattle.router_core.proofs.Meetings.{still_there, same_here, same_after, one_more_room, machines-met, control-met, held-met}
 use Rattle.router_core.proofs.effects.meet_all.Goals as goal
 

@@ -1,7 +1,6 @@
 use Rattle.std.proofs.Common.{◌∙◌, ◌++◌, ◌∷◌, [], ap, sym, arith}
 use Rattle.std.proofs.lemmas.Option.{none-some}
-use Rattle.network_model.proofs.ListLaws.{element_there}
-use Rattle.network_model.proofs.Fronts.{take_next}
+use Rattle.network_model.proofs.{ListLaws.element_there, Fronts.take_next}
 use Rattle.router_core.proofs.holding.held_messages.Goals as goal
 use Rattle.router_core.proofs.holding.held_messages.Goals.{in-Some+in_ok-push, in_default}
 

@@ -1,13 +1,8 @@
 use Rattle.std.proofs.Common.{rules, ℕ, ◌≡◌, ◌≤◌, ◌+◌, ◌-◌, ◌++◌, ◌∙◌, arith, sym, ap, length, map, take, Option}
 use Rattle.std.specs.List.{between}
-use Rattle.std.proofs.Math.Seq.{take-add}
-use Rattle.std.proofs.lemmas.List.{length-map, map-append}
-use Rattle.std.proofs.lemmas.List.Edits.{length-between}
-use Rattle.std.proofs.lemmas.Slice.{take-put_mid}
-use Rattle.ipv4_prefix.specs.Prefix.{Prefix}
-use Rattle.ipv4_prefix.specs.LongestMatch.{longest_match}
-use Rattle.row_words.specs.Rows.{marked}
-use Rattle.row_words.specs.declared.cells.Marked.{Marked}
+use Rattle.std.proofs.{Math.Seq.take-add, lemmas.List.length-map, lemmas.List.map-append, lemmas.List.Edits.length-between, lemmas.Slice.take-put_mid}
+use Rattle.ipv4_prefix.specs.{Prefix.Prefix, LongestMatch.longest_match}
+use Rattle.row_words.specs.{Rows.marked, declared.cells.Marked.Marked}
 use Rattle.row_words.proofs.parts.answer_rows.Goals as goal
 
 pub loop-done-preserved : goal.loop-done-preserved

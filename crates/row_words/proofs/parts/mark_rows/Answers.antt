@@ -2,8 +2,7 @@ use Rattle.std.proofs.Common.{◌<◌, ◌∙◌, arith, sym, length, map, None,
 use Rattle.std.proofs.lemmas.List.{ext_get_or, get_or-map, length-map}
 use Rattle.ipv4_prefix.specs.Prefix.{Prefix}
 use Rattle.network_model.specs.declared.route.Entry.{Entry}
-use Rattle.row_words.specs.Rows.{mark_in}
-use Rattle.row_words.specs.declared.cells.Marked.{Marked}
+use Rattle.row_words.specs.{Rows.mark_in, declared.cells.Marked.Marked}
 use Rattle.row_words.proofs.parts.mark_rows.Goals as goal
 
 pub returns : goal.returns

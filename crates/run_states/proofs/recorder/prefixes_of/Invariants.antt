@@ -1,6 +1,5 @@
 use Rattle.std.proofs.Common.{◌≡◌, map, take, is_some}
-use Rattle.std.specs.FinMap.{find as row_of}
-use Rattle.std.specs.List.{list_any}
+use Rattle.std.specs.{FinMap.find as row_of, List.list_any}
 use Rattle.ipv4_prefix.specs.Prefix.{Prefix, prefix_cmp, prefix_eq}
 use Rattle.route_table.specs.PrefixMap.{map_rows}
 use Rattle.run_states.proofs.recorder.prefixes_of.Given as goal

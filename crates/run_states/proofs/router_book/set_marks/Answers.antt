@@ -1,6 +1,5 @@
 use Rattle.std.proofs.Common.{◌≡◌, ◌≢◌, ◌⊎◌, inl, inr, ◌<◌, ◌+◌, Some, false, ap, sym, subst, ◌∙◌, slice_get, arith}
-use Rattle.std.proofs.lemmas.Bool.{cases_eq}
-use Rattle.std.proofs.lemmas.Option.{get_or_from_slice_get, slice_get_within}
+use Rattle.std.proofs.{lemmas.Bool.cases_eq, lemmas.Option.get_or_from_slice_get, lemmas.Option.slice_get_within}
 use Rattle.ipv4_prefix.specs.Prefix.{Prefix}
 use Rattle.run_states.specs.Books.{matches_prefix}
 use Rattle.run_states.proofs.Books.{left_unmarked}

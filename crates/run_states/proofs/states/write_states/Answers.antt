@@ -1,15 +1,10 @@
 use Rattle.std.proofs.Common.{◌≡◌, ◌∙◌, ◌++◌, [], ◌∷◌, None, OnOk, ap, length, refl, subst, sym}
 use Rattle.no_packet_loops.proofs.Common.{Appends, on_ok_weaker}
-use Rattle.serde_json.specs.View.{view}
-use Rattle.serde_json.specs.Written.{compact_text, has_float}
-use Rattle.texts.specs.Lines.{lines_text}
-use Rattle.texts.specs.Words.{Text}
+use Rattle.serde_json.specs.{View.view, Written.compact_text, Written.has_float}
+use Rattle.texts.specs.{Lines.lines_text, Words.Text}
 use Rattle.std.proofs.KnownBytes.{Appends-trans}
-use Rattle.run_states.specs.Recorders.{IsCurrent}
-use Rattle.run_states.specs.Told.{IsStateLine, IsStatesText}
-use Rattle.run_states.specs.Values.{value_line, opening_data, state_data}
-use Rattle.run_states.proofs.Plain.{opening_plain}
-use Rattle.run_states.proofs.Telling.{states_text}
+use Rattle.run_states.specs.{Recorders.IsCurrent, Told.IsStateLine, Told.IsStatesText, Values.value_line, Values.opening_data, Values.state_data}
+use Rattle.run_states.proofs.{Plain.opening_plain, Telling.states_text}
 use Rattle.run_states.proofs.states.write_states.Goals as goal
 
 pub write_value-requires : goal.write_value-requires

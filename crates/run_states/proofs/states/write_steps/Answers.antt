@@ -2,9 +2,7 @@ use Rattle.std.proofs.Common.{◌-◌, ◌+◌, ◌∙◌, ◌≡◌, Some, ap, 
 use Rattle.no_packet_loops.proofs.Common.{Appends, slice_get_read}
 use Rattle.serde_json.specs.Written.{compact_text}
 use Rattle.journal.specs.Steps.{step_text}
-use Rattle.run_states.specs.Recorders.{IsCurrent, IsRecorderOf}
-use Rattle.run_states.specs.Told.{IsStateLine, moment_told, step_told}
-use Rattle.run_states.specs.Values.{value_line, state_data}
+use Rattle.run_states.specs.{Recorders.IsCurrent, Recorders.IsRecorderOf, Told.IsStateLine, Told.moment_told, Told.step_told, Values.value_line, Values.state_data}
 use Rattle.run_states.proofs.Rooms.{room_after, room_at_opening, shown_current}
 use Rattle.run_states.proofs.Telling.{Telling, ran_on, said, telling_all, telling_less, telling_more, telling_none}
 use Rattle.run_states.proofs.states.write_steps.Goals as goal

@@ -1,7 +1,6 @@
 use Rattle.std.proofs.Common.{◌∙◌, ap, refl, map, length, arith, take_all}
 use Rattle.std.proofs.lemmas.Option.{slice_get_read}
-use Rattle.serde_json.specs.Data.{array}
-use Rattle.serde_json.specs.View.{view, items_of}
+use Rattle.serde_json.specs.{Data.array, View.view, View.items_of}
 use Rattle.serde_json.proofs.Views.{view-Array}
 use Rattle.run_states.specs.Values.{item_data}
 use Rattle.run_states.proofs.Made.{made_next}

@@ -1,8 +1,7 @@
 use Rattle.std.proofs.Common.{◌∙◌, ◌++◌, ℕ, ap, refl, map, length, arith, take_all}
 use Rattle.std.proofs.lemmas.Option.{slice_get_read}
 use Rattle.serde_json.specs.View.{view}
-use Rattle.run_states.specs.declared.link_book.LinkChange.{LinkChange}
-use Rattle.run_states.specs.Values.{link_data, links_data, listed}
+use Rattle.run_states.specs.{declared.link_book.LinkChange.LinkChange, Values.link_data, Values.links_data, Values.listed}
 use Rattle.run_states.proofs.Made.{joined_next}
 use Rattle.run_states.proofs.values.link_values.Goals as goal
 

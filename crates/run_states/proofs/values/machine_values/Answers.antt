@@ -1,8 +1,7 @@
 use Rattle.std.proofs.Common.{◌∙◌, ◌++◌, ℕ, ap, refl, map, length, arith, take_all}
 use Rattle.std.proofs.lemmas.Option.{slice_get_read}
 use Rattle.serde_json.specs.View.{view}
-use Rattle.run_states.specs.declared.router_book.RouterChange.{RouterChange}
-use Rattle.run_states.specs.Values.{machine_data, machines_data}
+use Rattle.run_states.specs.{declared.router_book.RouterChange.RouterChange, Values.machine_data, Values.machines_data}
 use Rattle.run_states.proofs.Made.{joined_next}
 use Rattle.run_states.proofs.values.machine_values.Goals as goal
 

@@ -2,8 +2,7 @@ use Rattle.std.proofs.Common.{◌≡◌, ◌∙◌, ◌++◌, [], ◌∷◌, ap,
 use Rattle.std.specs.FinSet as set
 use Rattle.std.specs.List.{range_with_len}
 use Rattle.std.proofs.lemmas.List.{map-append, append-nil}
-use Rattle.serde_json.specs.Data.{array}
-use Rattle.serde_json.specs.View.{view, items_of}
+use Rattle.serde_json.specs.{Data.array, View.view, View.items_of}
 use Rattle.serde_json.proofs.Views.{view-Array}
 use Rattle.run_states.specs.Values.{port_data}
 use Rattle.run_states.proofs.Made.{passed_next, passes, fails}

@@ -1,9 +1,7 @@
 use Rattle.std.proofs.Common.{◌∙◌, ◌++◌, [], ◌∷◌, ℕ, ap, sym, append_assoc, refl, map, length, take, arith}
-use Rattle.std.proofs.lemmas.List.{take_all, map-append}
-use Rattle.std.proofs.lemmas.Option.{slice_get_read}
+use Rattle.std.proofs.{lemmas.List.take_all, lemmas.List.map-append, lemmas.Option.slice_get_read}
 use Rattle.serde_json.specs.View.{view}
-use Rattle.run_states.specs.declared.shown.MachineShown.{MachineShown}
-use Rattle.run_states.specs.Values.{machine_data}
+use Rattle.run_states.specs.{declared.shown.MachineShown.MachineShown, Values.machine_data}
 use Rattle.network_model.proofs.Fronts.{take_next}
 use Rattle.run_states.proofs.Made.{pushed}
 use Rattle.run_states.proofs.values.push_machines.Goals as goal

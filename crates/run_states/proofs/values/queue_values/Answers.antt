@@ -2,8 +2,7 @@ use Rattle.std.proofs.Common.{◌∙◌, ◌++◌, ℕ, ap, append_assoc, refl, 
 use Rattle.std.proofs.lemmas.Option.{slice_get_read}
 use Rattle.network_model.specs.declared.network.End.{End}
 use Rattle.serde_json.specs.View.{view}
-use Rattle.run_states.specs.declared.link_book.LinkChange.{LinkChange}
-use Rattle.run_states.specs.Values.{queue_listed, queues_data}
+use Rattle.run_states.specs.{declared.link_book.LinkChange.LinkChange, Values.queue_listed, Values.queues_data}
 use Rattle.run_states.proofs.Made.{joined_next}
 use Rattle.run_states.proofs.values.queue_values.Goals as goal
 

@@ -1,8 +1,7 @@
 use Rattle.std.proofs.Common.{◌∙◌, ◌++◌, ℕ, ap, refl, map, length, arith, take_all}
 use Rattle.std.proofs.lemmas.Option.{slice_get_read}
 use Rattle.serde_json.specs.View.{view}
-use Rattle.run_states.specs.declared.router_book.RouterChange.{RouterChange}
-use Rattle.run_states.specs.Values.{router_data, routers_data, listed}
+use Rattle.run_states.specs.{declared.router_book.RouterChange.RouterChange, Values.router_data, Values.routers_data, Values.listed}
 use Rattle.run_states.proofs.Made.{joined_next}
 use Rattle.run_states.proofs.values.router_values.Goals as goal
 

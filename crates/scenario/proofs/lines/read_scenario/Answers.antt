@@ -1,7 +1,6 @@
 use Rattle.std.proofs.Common.{◌≡◌, arith}
 use Rattle.toml.specs.View.{table_view}
-use Rattle.scenario.proofs.Texts.{key_count-entries}
-use Rattle.scenario.proofs.Document.{read_all, other_count}
+use Rattle.scenario.proofs.{Texts.key_count-entries, Document.read_all, Document.other_count}
 use Rattle.scenario.specs.Scenario.{key_count}
 use Rattle.scenario.proofs.lines.read_scenario.Goals as goal
 

@@ -1,7 +1,6 @@
 use Rattle.std.proofs.Common.{◌+◌, inr, length, ap, ◌∙◌}
-use Rattle.script.proofs.Common.{length_push, IsAttachment, IsAttachmentFault}
+use Rattle.script.proofs.{Common.length_push, Common.IsAttachment, Common.IsAttachmentFault, ReadLines.reads_none, ReadLines.reads_line, ReadLines.stops_line}
 use Rattle.script.specs.declared.place.Key.TheVariants.{Prefixes}
-use Rattle.script.proofs.ReadLines.{reads_none, reads_line, stops_line}
 use Rattle.script.proofs.attachment.read_attachments.Goals as goal
 
 pub loop-position-init : goal.loop-position-init

@@ -1,7 +1,6 @@
 use Rattle.std.proofs.Common.{◌∷◌}
 use Rattle.script.specs.declared.fault.LineFault.TheVariants.{Prefix as OfPrefix}
-use Rattle.script.proofs.Common.{Text, words_of, NamesNoAddress}
-use Rattle.script.proofs.Exits.{at_err}
+use Rattle.script.proofs.{Common.Text, Common.words_of, Common.NamesNoAddress, Exits.at_err}
 use Rattle.script.proofs.command.read_addr.Goals as goal
 
 pub returns-in_err-router-clause-err : goal.returns-in_err-router-clause-err

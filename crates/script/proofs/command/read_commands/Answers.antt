@@ -1,7 +1,6 @@
 use Rattle.std.proofs.Common.{◌+◌, inr, length, ap, ◌∙◌}
-use Rattle.script.proofs.Common.{length_push, IsCommand, IsCommandFault}
+use Rattle.script.proofs.{Common.length_push, Common.IsCommand, Common.IsCommandFault, ReadLines.reads_none, ReadLines.reads_line, ReadLines.stops_line}
 use Rattle.script.specs.declared.place.Key.TheVariants.{Script}
-use Rattle.script.proofs.ReadLines.{reads_none, reads_line, stops_line}
 use Rattle.script.proofs.command.read_commands.Goals as goal
 
 pub loop-position-init : goal.loop-position-init

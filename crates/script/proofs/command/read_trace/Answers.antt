@@ -1,8 +1,6 @@
 use Rattle.std.proofs.Common.{◌≡◌, ◌≢◌, rules, inr, [], ◌∷◌, codes, ap, ◌∙◌}
 use Rattle.script.specs.declared.fault.LineFault.TheVariants.{Prefix as OfPrefix}
-use Rattle.script.proofs.Common.{Text, words_of, AsksNoTrace}
-use Rattle.script.proofs.Exits.{at_err}
-use Rattle.script.proofs.CommandTexts.{two_word_fault}
+use Rattle.script.proofs.{Common.Text, Common.words_of, Common.AsksNoTrace, Exits.at_err, CommandTexts.two_word_fault}
 use Rattle.script.proofs.command.read_trace.Goals as goal
 
 -- three words, of which the second is no address

@@ -1,7 +1,6 @@
 use Rattle.std.proofs.Common.{◌∷◌, codes, refl, sym}
 use Rattle.script.proofs.Common.{words_of, Asks, AsksNoStep, AsksNoTrace, AsksNothing, AsksTrace, words-some, IfErr-weaker, IfOk-weaker}
-use Rattle.script.proofs.Exits.{at_err}
-use Rattle.script.proofs.StepTexts.{names_router, names_no_router}
+use Rattle.script.proofs.{Exits.at_err, StepTexts.names_router, StepTexts.names_no_router}
 use Rattle.script.proofs.CommandTexts.{state_fault, no_table, no_next, no_queued, no_held, lookup_fault, inject_fault, trace_asks, trace_fault, step_fault, no_drawn, up_fault, down_fault}
 use Rattle.script.proofs.command.read_words.Goals as goal
 

@@ -1,7 +1,6 @@
 use Rattle.std.proofs.Common.{◌+◌, inr, length, ap, ◌∙◌}
-use Rattle.script.proofs.Common.{length_push, IsLink, IsLinkFault}
+use Rattle.script.proofs.{Common.length_push, Common.IsLink, Common.IsLinkFault, ReadLines.reads_none, ReadLines.reads_line, ReadLines.stops_line}
 use Rattle.script.specs.declared.place.Key.TheVariants.{Links}
-use Rattle.script.proofs.ReadLines.{reads_none, reads_line, stops_line}
 use Rattle.script.proofs.link.read_links.Goals as goal
 
 pub loop-position-init : goal.loop-position-init

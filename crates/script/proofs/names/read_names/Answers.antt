@@ -1,5 +1,4 @@
-use Rattle.script.proofs.NameNumbers.{AreNames-none, AreNames-push}
-use Rattle.script.proofs.ReadLines.{takes_line}
+use Rattle.script.proofs.{NameNumbers.AreNames-none, NameNumbers.AreNames-push, ReadLines.takes_line}
 use Rattle.script.proofs.names.read_names.Goals as goal
 
 pub loop-position-init : goal.loop-position-init

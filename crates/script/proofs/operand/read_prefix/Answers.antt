@@ -1,9 +1,6 @@
 use Rattle.std.proofs.Common.{◌∷◌, sym, subst, ◌∙◌}
 use Rattle.script.specs.declared.fault.LineFault.TheVariants.{Prefix as OfPrefix}
-use Rattle.script.proofs.Common.{Text, words_of, NamesNoPrefix}
-use Rattle.script.proofs.Exits.{at_err}
-use Rattle.script.proofs.StepTexts.{IsStrange, no_prefix, text_unique}
-use Rattle.script.proofs.KnownPrefixes.{known_by_test, strange}
+use Rattle.script.proofs.{Common.Text, Common.words_of, Common.NamesNoPrefix, Exits.at_err, StepTexts.IsStrange, StepTexts.no_prefix, StepTexts.text_unique, KnownPrefixes.known_by_test, KnownPrefixes.strange}
 use Rattle.script.proofs.operand.read_prefix.Goals as goal
 
 pub returns-in_err-router-clause-err : goal.returns-in_err-router-clause-err

@@ -1,7 +1,6 @@
 use Rattle.std.proofs.Common.{◌≢◌, [], ◌∷◌, codes, refl, sym, subst, ◌∙◌}
-use Rattle.script.proofs.Common.{IsCost, words_of, word-full}
+use Rattle.script.proofs.{Common.IsCost, Common.words_of, Common.word-full, KnownPrefixes.known_by_test, KnownPrefixes.strange}
 use Rattle.script.proofs.StepTexts.{IsStrange, no_attachment, names_parts, parts_unique}
-use Rattle.script.proofs.KnownPrefixes.{known_by_test, strange}
 use Rattle.script.proofs.step.read_attach.Goals as goal
 
 pub returns-then-not-is_known-clause-err : goal.returns-then-not-is_known-clause-err

@@ -1,7 +1,6 @@
 use Rattle.std.proofs.Common.{◌∷◌, codes, refl}
-use Rattle.script.proofs.Common.{false≢true, words_of, AsksNoCost}
+use Rattle.script.proofs.{Common.false≢true, Common.words_of, Common.AsksNoCost, Exits.at_err}
 use Rattle.script.specs.declared.fault.LineFault.TheVariants.{BadCost}
-use Rattle.script.proofs.Exits.{at_err}
 use Rattle.script.proofs.StepTexts.{number_way, way_unique, no_small_port, asks_cost}
 use Rattle.script.proofs.step.read_cost.Goals as goal
 

@@ -1,8 +1,6 @@
 use Rattle.std.proofs.Common.{◌≡◌, ◌≢◌, ℕ, [], ◌∷◌, Some, inl, inr, codes, sym, ap, ◌∙◌, arith, true≢false}
-use Rattle.script.proofs.Common.{bytes_eq-Decides, words_of, AsksDelivery}
+use Rattle.script.proofs.{Common.bytes_eq-Decides, Common.words_of, Common.AsksDelivery, Exits.at_err, Ports.is_port, Ports.home_port}
 use Rattle.script.specs.declared.fault.LineFault.TheVariants.{BadCommand}
-use Rattle.script.proofs.Exits.{at_err}
-use Rattle.script.proofs.Ports.{is_port, home_port}
 use Rattle.script.proofs.StepTexts.{no_home, no_far, way_unique, no_small_port}
 use Rattle.script.proofs.step.read_port.Goals as goal
 

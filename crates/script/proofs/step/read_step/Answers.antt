@@ -1,6 +1,5 @@
 use Rattle.std.proofs.Common.{◌∷◌, codes}
-use Rattle.script.proofs.Common.{words_of, AsksNoStep}
-use Rattle.script.proofs.Exits.{at_err}
+use Rattle.script.proofs.{Common.words_of, Common.AsksNoStep, Exits.at_err}
 use Rattle.script.proofs.StepTexts.{no_up, no_down, no_deliver, no_publish, no_release, cost_fault, attach_fault, detach_fault, names_router, names_no_router}
 use Rattle.script.proofs.step.read_step.Goals as goal
 

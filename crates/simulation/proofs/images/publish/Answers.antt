@@ -2,11 +2,9 @@ use Rattle.std.proofs.Common.{rules, ◌≡◌, ◌∙◌, ◌<◌, Some, Err, I
 use Rattle.no_packet_loops.proofs.Common.{Lawful, Lawful_to_refusal, World, Refusal, Publish}
 use Rattle.world.specs.Steps.{IsDoneOr}
 use Rattle.world.proofs.Done.{memory_lacked}
-use Rattle.course.specs.Course.{Course, course_after, course_refusal}
-use Rattle.course.proofs.Elements.{read_at}
-use Rattle.course.specs.Images.{due_at}
+use Rattle.course.specs.{Course.Course, Course.course_after, Course.course_refusal, Images.due_at}
+use Rattle.course.proofs.{Elements.read_at, Images.due_lawful, Images.has_image}
 use Rattle.simulation.specs.Patches.{IsImagePatchDue}
-use Rattle.course.proofs.Images.{due_lawful, has_image}
 use Rattle.simulation.proofs.InForce.{due_there, patch_lawful, published_shown}
 use Rattle.simulation.proofs.images.publish.Given as given
 use Rattle.simulation.proofs.images.publish.Goals as goal

@@ -1,6 +1,5 @@
 use Rattle.std.proofs.Common.{◌≡◌, drop}
-use Rattle.single_router.specs.Inputs.{cost_fault}
-use Rattle.single_router.specs.Openings.{first_fault_in}
+use Rattle.single_router.specs.{Inputs.cost_fault, Openings.first_fault_in}
 use Rattle.single_router.proofs.opening.check_costs.Given as goal
 
 abbrev pub invariant-loop-cost : goal.invariant-loop-cost

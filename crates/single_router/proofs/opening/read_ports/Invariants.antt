@@ -1,6 +1,5 @@
 use Rattle.std.proofs.Common.{◌≡◌, None, map, take, drop}
-use Rattle.single_router.specs.Inputs.{cost_fault}
-use Rattle.single_router.specs.Openings.{first_fault_in, unused_port}
+use Rattle.single_router.specs.{Inputs.cost_fault, Openings.first_fault_in, Openings.unused_port}
 use Rattle.single_router.proofs.opening.read_ports.Given as goal
 
 abbrev pub invariant-loop-cost : goal.invariant-loop-cost

@@ -1,6 +1,5 @@
 use Rattle.std.proofs.Common.{rules, arith, ◌≡◌, ◌++◌, ◌∷◌, [], sym, ◌∙◌, length-set}
-use Rattle.std.proofs.lemmas.List.{take_more_set}
-use Rattle.std.proofs.lemmas.List.FromFn.{map-range_with_len_more}
+use Rattle.std.proofs.{lemmas.List.take_more_set, lemmas.List.FromFn.map-range_with_len_more}
 use Rattle.single_router.specs.States.{awaited_flag}
 use Rattle.single_router.proofs.state.awaited_ports.Goals as goal
 

@@ -1,9 +1,7 @@
 use Rattle.std.proofs.Common.{◌≡◌, ◌∙◌, ◌+◌, ◌*◌, ◌<◌, ◌≤◌, ℕ, List, Some, false, arith, length, refl, sym, ap, subst, get_or}
 use Rattle.no_packet_loops.proofs.Common.{element_there, Prefix, Router}
 use Rattle.reachability.specs.Ways.{IsCutOff}
-use Rattle.timed_reports.specs.declared.spells.Watched.{Watched}
-use Rattle.timed_reports.specs.Looks.{IsUnmarked}
-use Rattle.timed_reports.specs.Records.{AreLooked, IsLooked}
+use Rattle.timed_reports.specs.{declared.spells.Watched.Watched, Looks.IsUnmarked, Records.AreLooked, Records.IsLooked}
 use Rattle.timed_reports.proofs.Blocks.{of_prefix}
 use Rattle.timed_reports.proofs.OneByOne.{look_beside_more, look_keeps_many, looked_next, looked_over}
 use Rattle.timed_reports.proofs.looks.look_at_prefix.Goals as goal

@@ -1,12 +1,8 @@
 use Rattle.std.proofs.Common.{◌≡◌, ◌+◌, ◌*◌, ◌≤◌, List, length, IfSome}
 use Rattle.std.specs.Vec.{vec_capacity, vec_len}
 use Rattle.ipv4_prefix.specs.Prefix.{Prefix}
-use Rattle.reachability.specs.Marks.{size}
-use Rattle.reachability.specs.Ways.{IsCutOff}
-use Rattle.timed_reports.specs.declared.spells.Spell.{Spell}
-use Rattle.timed_reports.specs.declared.spells.Watched.{Watched}
-use Rattle.timed_reports.specs.Looks.{AreMarked, IsUnmarked}
-use Rattle.timed_reports.specs.Records.{AreLooked}
+use Rattle.reachability.specs.{Marks.size, Ways.IsCutOff}
+use Rattle.timed_reports.specs.{declared.spells.Spell.Spell, declared.spells.Watched.Watched, Looks.AreMarked, Looks.IsUnmarked, Records.AreLooked}
 use Rattle.timed_reports.proofs.looks.look_at_prefix.Given as goal
 
 abbrev pub invariant-loop-place : goal.invariant-loop-place

@@ -1,9 +1,6 @@
 use Rattle.std.proofs.Common.{◌≡◌, ◌∙◌, ◌+◌, ◌*◌, ◌≤◌, ℕ, List, Some, false, arith, inl, inr, length, refl, sym, ap, subst, slice_get}
 use Rattle.std.proofs.lemmas.Option.{slice_get_read}
-use Rattle.timed_reports.specs.declared.spells.Watched.{Watched}
-use Rattle.timed_reports.specs.Going.{IsComputing}
-use Rattle.timed_reports.specs.Looks.{IsUnmet, meets}
-use Rattle.timed_reports.specs.Records.{AreLooked, IsLooked}
+use Rattle.timed_reports.specs.{declared.spells.Watched.Watched, Going.IsComputing, Looks.IsUnmet, Looks.meets, Records.AreLooked, Records.IsLooked}
 use Rattle.timed_reports.proofs.Blocks.{block_fits, many_watched, of_other, of_prefix}
 use Rattle.timed_reports.proofs.OneByOne.{look_beside_more, looked_among, looked_none}
 use Rattle.timed_reports.proofs.looks.look_at_router.Goals as goal

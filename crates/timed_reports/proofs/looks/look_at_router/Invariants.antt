@@ -1,8 +1,6 @@
 use Rattle.std.proofs.Common.{◌+◌, ◌*◌, ◌≤◌, length}
 use Rattle.std.specs.Vec.{vec_capacity, vec_len}
-use Rattle.timed_reports.specs.Going.{IsComputing}
-use Rattle.timed_reports.specs.Looks.{IsUnmet}
-use Rattle.timed_reports.specs.Records.{AreLooked}
+use Rattle.timed_reports.specs.{Going.IsComputing, Looks.IsUnmet, Records.AreLooked}
 use Rattle.timed_reports.proofs.looks.look_at_router.Given as goal
 
 abbrev pub invariant-loop-number : goal.invariant-loop-number

@@ -1,11 +1,7 @@
 use Rattle.std.proofs.Common.{◌≡◌, ◌<◌, ℕ, List, Option, length, refl, ap, subst, sym}
 use Rattle.network_model.proofs.Common.{Prefix, Router}
-use Rattle.network_model.specs.declared.step.Step.{Step}
-use Rattle.network_model.specs.declared.step.Step.TheVariants.{Deliver}
-use Rattle.timed_reports.specs.declared.spells.Watched.{Watched}
-use Rattle.timed_reports.specs.Going.{IsComputing}
-use Rattle.timed_reports.specs.Looks.{IsPassedBy}
-use Rattle.timed_reports.specs.Records.{AreInOrder, AreLooked}
+use Rattle.network_model.specs.{declared.step.Step.Step, declared.step.Step.TheVariants.Deliver}
+use Rattle.timed_reports.specs.{declared.spells.Watched.Watched, Going.IsComputing, Looks.IsPassedBy, Records.AreInOrder, Records.AreLooked}
 use Rattle.timed_reports.proofs.OneByOne.{looked_aside}
 use Rattle.timed_reports.proofs.looks.look_for_computations.Goals as goal
 

@@ -1,10 +1,8 @@
 use Rattle.std.proofs.Common.{◌≡◌, ◌∙◌, ◌+◌, ◌*◌, ◌<◌, ℕ, List, arith, inl, inr, length, refl, sym, ap, subst}
 use Rattle.ipv4_prefix.specs.Prefix.{Prefix}
 use Rattle.reachability.specs.Ways.{IsCutOff}
-use Rattle.timed_reports.specs.Looks.{AreLookedFurther, IsStill, IsUnmarked}
-use Rattle.timed_reports.specs.Records.{AreLooked}
-use Rattle.timed_reports.proofs.Blocks.{block_fits, many_watched}
-use Rattle.timed_reports.proofs.OneByOne.{looked_aside, looked_beside_more, looked_none}
+use Rattle.timed_reports.specs.{Looks.AreLookedFurther, Looks.IsStill, Looks.IsUnmarked, Records.AreLooked}
+use Rattle.timed_reports.proofs.{Blocks.block_fits, Blocks.many_watched, OneByOne.looked_aside, OneByOne.looked_beside_more, OneByOne.looked_none}
 use Rattle.timed_reports.proofs.looks.look_for_outages.Goals as goal
 
 pub loop-number-init : goal.loop-number-init

@@ -1,9 +1,7 @@
 use Rattle.std.proofs.Common.{◌≡◌, ◌+◌, ◌*◌, ◌≤◌, length}
 use Rattle.std.specs.Vec.{vec_capacity, vec_len}
-use Rattle.reachability.specs.Marks.{size}
-use Rattle.reachability.specs.Ways.{IsCutOff}
-use Rattle.timed_reports.specs.Looks.{IsUnmarked}
-use Rattle.timed_reports.specs.Records.{AreLooked}
+use Rattle.reachability.specs.{Marks.size, Ways.IsCutOff}
+use Rattle.timed_reports.specs.{Looks.IsUnmarked, Records.AreLooked}
 use Rattle.timed_reports.proofs.looks.look_for_outages.Given as goal
 
 abbrev pub invariant-loop-number : goal.invariant-loop-number

@@ -1,7 +1,5 @@
 use Rattle.std.proofs.Common.{◌≡◌, ◌⊎◌, arith, MatchOption, Option, subst}
-use Rattle.timed_simulation.specs.declared.fault.TimeFault.{TimeFault}
-use Rattle.timed_simulation.specs.Due.{IsDoneUntil}
-use Rattle.timed_simulation.specs.Runs.{IsStoppedAt}
+use Rattle.timed_simulation.specs.{declared.fault.TimeFault.TimeFault, Due.IsDoneUntil, Runs.IsStoppedAt}
 use Rattle.timed_reports.proofs.Stops.{done_one, done_some}
 use Rattle.timed_reports.proofs.report.do_one.Goals as goal
 

@@ -1,7 +1,6 @@
 use Rattle.std.proofs.Common.{◌≡◌, ℕ, ◌<◌, None, Some, slice_get, take}
 use Rattle.ipv4_prefix.specs.Prefix.{Prefix}
-use Rattle.timed_reports.specs.declared.spells.Watched.{Watched}
-use Rattle.timed_reports.specs.Records.{AreInOrder, IsListed, watched}
+use Rattle.timed_reports.specs.{declared.spells.Watched.Watched, Records.AreInOrder, Records.IsListed, Records.watched}
 use Rattle.timed_reports.proofs.spells.watch_all.Given as goal
 
 abbrev pub invariant-loop-prefix : goal.invariant-loop-prefix

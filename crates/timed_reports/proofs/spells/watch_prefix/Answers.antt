@@ -1,6 +1,5 @@
 use Rattle.std.proofs.Common.{◌≡◌, ◌++◌, None, refl, sym, subst, arith, append-nil, map, ℕ, List, [], ◌∷◌}
-use Rattle.timed_reports.specs.declared.spells.Watched.{Watched}
-use Rattle.timed_reports.specs.Records.{watched, watched_at, with_routers}
+use Rattle.timed_reports.specs.{declared.spells.Watched.Watched, Records.watched, Records.watched_at, Records.with_routers}
 use Rattle.timed_reports.proofs.Watching.{each_more, kept_more, none_more, routers_more}
 use Rattle.timed_reports.proofs.spells.watch_prefix.Goals as goal
 

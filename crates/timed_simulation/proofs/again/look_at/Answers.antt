@@ -1,6 +1,5 @@
 use Rattle.std.proofs.Common.{arith, sym, ap, ◌∙◌, Bool, if◌then◌else◌, length, set, le-ltb, lt-ltb, length-set}
-use Rattle.timed_simulation.specs.Timed.{world_of}
-use Rattle.timed_simulation.specs.Next.{next_moment}
+use Rattle.timed_simulation.specs.{Timed.world_of, Next.next_moment}
 use Rattle.timed_simulation.proofs.again.look_at.Goals as goal
 
 pub next_moment-requires : goal.next_moment-requires

@@ -1,7 +1,6 @@
 use Rattle.std.proofs.Common.{◌≡◌, ℕ, List, refl, sym, subst, set, arith}
 use Rattle.link_fifo.proofs.Changes.{written}
-use Rattle.timed_simulation.specs.declared.events.RouterTime.{RouterTime}
-use Rattle.timed_simulation.specs.Timed.{routers_after}
+use Rattle.timed_simulation.specs.{declared.events.RouterTime.RouterTime, Timed.routers_after}
 use Rattle.timed_simulation.proofs.Lists.{changed_past}
 use Rattle.timed_simulation.proofs.events.note_begun.Goals as goal
 

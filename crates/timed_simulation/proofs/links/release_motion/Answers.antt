@@ -1,7 +1,6 @@
 use Rattle.std.proofs.Common.{◌≡◌, ◌∙◌, Some, false, IfSome, slice_get, sym, ap, subst, refl, option_and_then}
 use Rattle.no_packet_loops.proofs.Common.{Held, Link, World, place_at, release_at, ripe_front, is_up_in}
-use Rattle.course.proofs.Elements.{read_at}
-use Rattle.course.proofs.Leaving.{link_there}
+use Rattle.course.proofs.{Elements.read_at, Leaving.link_there}
 use Rattle.timed_simulation.specs.declared.links.Motion.TheVariants.{Put}
 use Rattle.timed_simulation.proofs.Motions.{discarded, put_over}
 use Rattle.timed_simulation.proofs.links.release_motion.Goals as goal

@@ -1,10 +1,8 @@
 use Rattle.std.proofs.Common.{◌≡◌, ◌∙◌, Some, ap, refl, sym, SFits}
-use Rattle.std.specs.Int.{w64}
-use Rattle.std.specs.Option.{option_map_or}
+use Rattle.std.specs.{Int.w64, Option.option_map_or}
 use Rattle.std.proofs.Math.Facts.{to_z-of_z}
-use Rattle.toml.specs.Data.{Data, Members, get_member}
+use Rattle.toml.specs.{Data.Data, Data.Members, Data.get_member, View.table_view, View.view}
 use Rattle.texts.specs.Words.{Text}
-use Rattle.toml.specs.View.{table_view, view}
 use Rattle.toml.proofs.Views.{table_get}
 use Rattle.timing.specs.Document.{delay_at, delay_of, natural}
 use Rattle.timing.proofs.Documents.{delay_is, delay_none, fits_by_size}

@@ -1,6 +1,5 @@
 use Rattle.std.proofs.Common.{◌+◌, length, ap, ◌∙◌, inr}
-use Rattle.script.proofs.Common.{length_push}
-use Rattle.script.proofs.ReadLines.{reads_none, reads_line}
+use Rattle.script.proofs.{Common.length_push, ReadLines.reads_none, ReadLines.reads_line}
 use Rattle.timing.specs.Lines.{SaysRouter}
 use Rattle.timing.proofs.Reading.{all_read}
 use Rattle.timing.proofs.line_reading.read_routers.Goals as goal

@@ -1,6 +1,5 @@
 use Rattle.std.proofs.Common.{◌≡◌, ◌∙◌, Some, ap, subst, sym}
-use Rattle.timed_simulation.specs.Events.{next_event}
-use Rattle.timed_simulation.specs.Due.{IsDue, NothingIsDue}
+use Rattle.timed_simulation.specs.{Events.next_event, Due.IsDue, Due.NothingIsDue}
 use Rattle.timed_reports.specs.Recordings.{timed_in}
 use Rattle.timing.specs.Runs.{snapshot_of}
 use Rattle.timing.proofs.Alone.{ready_given, ready_some}

@@ -1,6 +1,5 @@
 use Rattle.timed_reports.specs.Recordings.{timed_in}
-use Rattle.timing.proofs.Alone.{at_rest, rest_alone}
-use Rattle.timing.proofs.Leading.{on_ok_more}
+use Rattle.timing.proofs.{Alone.at_rest, Alone.rest_alone, Leading.on_ok_more}
 use Rattle.timing.proofs.run.run_to_rest.Goals as goal
 
 pub returns-clause-alone : goal.returns-clause-alone

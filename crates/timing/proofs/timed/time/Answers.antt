@@ -1,10 +1,8 @@
 use Rattle.std.proofs.Common.{string_bytes, refl, inl, inr, subst}
 use Rattle.script.proofs.Exits.{at_err}
 use Rattle.plans.specs.Faults.{OfBytes, unplaced}
-use Rattle.plans.proofs.Stops.{stops_short}
-use Rattle.plans.proofs.Planned.{IsPlanned}
-use Rattle.timing.specs.Ends.{StopsTime}
-use Rattle.timing.specs.Times.{SaysNoTimes}
+use Rattle.plans.proofs.{Stops.stops_short, Planned.IsPlanned}
+use Rattle.timing.specs.{Ends.StopsTime, Times.SaysNoTimes}
 use Rattle.timing.proofs.Timing.{stops_after, timed_to_end}
 use Rattle.timing.proofs.timed.time.Goals as goal
 

@@ -1,8 +1,7 @@
 use Rattle.std.proofs.Common.{rules, ◌≡◌, ◌∙◌, ◌+◌, ◌-◌, ◌<◌, length, ◌++◌, [], ◌∷◌, Some, sym, ap, subst, suc, arith}
 use Rattle.no_packet_loops.proofs.Common.{Ends, Goes, onward}
 use Rattle.fabric.specs.Fabric.{Fabric}
-use Rattle.tracer.specs.Tracing.{traced_onward}
-use Rattle.tracer.specs.Following.{followed_from, kept_prefix}
+use Rattle.tracer.specs.{Tracing.traced_onward, Following.followed_from, Following.kept_prefix}
 use Rattle.tracer.proofs.Walks.{behind, ends_here, goes_on, goes_known}
 use Rattle.tracer.proofs.walk.follow.Goals as goal
 

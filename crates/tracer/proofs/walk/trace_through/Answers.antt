@@ -1,8 +1,7 @@
 use Rattle.std.proofs.Common.{◌≡◌, ◌≢◌, ◌∙◌, ◌<◌, true, false, length}
 use Rattle.no_packet_loops.proofs.Common.{IfOk-weaker, meets_twice, Ending, trace_of}
 use Rattle.fabric.specs.Headline.{IsImageWay, none_published}
-use Rattle.all_packets.specs.Packets.{IsWay}
-use Rattle.all_packets.specs.Through.{through}
+use Rattle.all_packets.specs.{Packets.IsWay, Through.through}
 use Rattle.tracer.specs.Following.{followed_way}
 use Rattle.tracer.proofs.Walks.{is_through, through_ended, through_twice, through_way, way_in_force}
 use Rattle.tracer.proofs.walk.trace_through.Goals as goal

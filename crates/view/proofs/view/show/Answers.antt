@@ -1,7 +1,5 @@
 use Rattle.std.proofs.Common.{◌≡◌, ◌∙◌, refl, sym, arith}
-use Rattle.plans.specs.declared.outcome.Outcome.{Outcome}
-use Rattle.plans.specs.declared.outcome.Outcome.TheVariants.{Done}
-use Rattle.plans.specs.Faults.{status_at}
+use Rattle.plans.specs.{declared.outcome.Outcome.Outcome, declared.outcome.Outcome.TheVariants.Done, Faults.status_at}
 use Rattle.view.proofs.view.show.Goals as goal
 
 -- only what was done ends with status 0

@@ -1,6 +1,5 @@
 use Rattle.std.proofs.Common.{string_bytes, subst, sym, ◌∙◌}
-use Rattle.network_model.specs.World.{opening}
-use Rattle.network_model.specs.Run.{Runs}
+use Rattle.network_model.specs.{World.opening, Run.Runs}
 use Rattle.timed_simulation.specs.Timed.{world_of}
 use Rattle.timed_reports.specs.Recordings.{timed_in}
 use Rattle.timing.specs.Times.{IsTimes}

@@ -1,7 +1,6 @@
 use Rattle.std.proofs.Common.{◌≡◌, ◌+◌, ◌++◌, [], ◌∷◌, take, length, sym, ap, ◌∙◌, arith, add-one, length-take-le}
 use Rattle.no_packet_loops.proofs.Common.{list_any, prefixes_of, has_same_prefix, take-suc}
-use Rattle.world.proofs.Faults.{no_attachment_fault}
-use Rattle.world.proofs.Prefixes.{one_unless, one_more_prefix, few_prefixes}
+use Rattle.world.proofs.{Faults.no_attachment_fault, Prefixes.one_unless, Prefixes.one_more_prefix, Prefixes.few_prefixes}
 use Rattle.world.proofs.attachment_faults.count_by_comparison.Goals as goal
 
 -- there are no more prefixes than attachments

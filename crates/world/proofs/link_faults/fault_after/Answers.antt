@@ -1,7 +1,6 @@
 use Rattle.std.proofs.Common.{◌≡◌, [], Bool, not, ◌&&◌, ◌||◌, nat_lt, List, filter, length, sym, ap, ◌∙◌}
 use Rattle.no_packet_loops.proofs.Common.{LinkSpec, Limits, BadLink, TooManyLinks, list_any, has_same_ends, is_link_too_many, touches}
-use Rattle.world.proofs.Faults.{two_tests, second_test, no_test}
-use Rattle.world.proofs.LinksAtRouters.{twins_at_ends, too_many_by_lists}
+use Rattle.world.proofs.{Faults.two_tests, Faults.second_test, Faults.no_test, LinksAtRouters.twins_at_ends, LinksAtRouters.too_many_by_lists}
 use Rattle.world.proofs.link_faults.fault_after.Goals as goal
 
 -- a link has a twin where one of those at its ends is one

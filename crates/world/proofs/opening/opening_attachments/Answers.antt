@@ -1,8 +1,7 @@
 use Rattle.std.proofs.Common.{arith, ap, ◌∙◌, []}
 use Rattle.no_packet_loops.proofs.Common.{costs_of, rows_of}
 use Rattle.world.specs.Parts.{attachments_of}
-use Rattle.world.proofs.ByRouter.{made_at, made_count}
-use Rattle.world.proofs.Ranges.{one_made}
+use Rattle.world.proofs.{ByRouter.made_at, ByRouter.made_count, Ranges.one_made}
 use Rattle.world.proofs.opening.opening_attachments.Goals as goal
 
 pub offset_bounds-own-router : goal.offset_bounds-own-router

@@ -1,9 +1,8 @@
 use Rattle.std.proofs.Common.{◌≡◌, ◌+◌, ◌<◌, ◌++◌, ◌∷◌, [], sym, ap, subst, ◌∙◌, arith, map, take, add-one, take_all, Contains}
 use Rattle.std.specs.List.Sorted.{IsPermutation}
 use Rattle.no_packet_loops.proofs.Common.{range_with_len, changed_at, widest_limits, take-suc, Contains-permutation, IsPermutation-sym}
-use Rattle.world.proofs.ByRouter.{made_count}
+use Rattle.world.proofs.{ByRouter.made_count, Degrees.parts_fine}
 use Rattle.world.proofs.CostsOfRouters.{own_rows, own_more, known_router, are_apart, costs_made}
-use Rattle.world.proofs.Degrees.{parts_fine}
 use Rattle.world.proofs.opening.opening_costs.Goals as goal
 
 pub put_at-requires : goal.put_at-requires

@@ -1,7 +1,6 @@
 use Rattle.std.proofs.Common.{◌≡◌, ◌<◌, ◌+◌, ◌++◌, ◌∷◌, [], sym, ap, ◌∙◌, arith, map, take, length, get_or, add-one, length-take-le, take_all}
 use Rattle.no_packet_loops.proofs.Common.{A, B, range_with_len, changed_at, places_from, place_of, take-suc}
-use Rattle.world.proofs.ByRouter.{made_count}
-use Rattle.world.proofs.LinksAtRouters.{HasEnds, ends_of, places_with_link}
+use Rattle.world.proofs.{ByRouter.made_count, LinksAtRouters.HasEnds, LinksAtRouters.ends_of, LinksAtRouters.places_with_link}
 use Rattle.world.proofs.opening.opening_places.Goals as goal
 
 -- there is a list at each end

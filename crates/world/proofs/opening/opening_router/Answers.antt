@@ -1,7 +1,6 @@
 use Rattle.std.proofs.Common.{◌≡◌, ℕ, List, ◌<◌, ◌≤◌, length, get_or, map, sym, ap, subst, ◌∙◌, IfOk}
 use Rattle.no_packet_loops.proofs.Common.{length-map, LinkSpec, Place, Port, Network, places_from, opening_port, opening_link, opening_router, rows_of}
-use Rattle.world.proofs.Degrees.{few_ports}
-use Rattle.world.proofs.Openings.{place_known}
+use Rattle.world.proofs.{Degrees.few_ports, Openings.place_known}
 use Rattle.world.proofs.opening.opening_router.Goals as goal
 
 pub opening_ports-requires : goal.opening_ports-requires

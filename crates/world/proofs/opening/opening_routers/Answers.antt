@@ -1,7 +1,6 @@
 use Rattle.std.proofs.Common.{arith, ap, ◌∙◌, map}
 use Rattle.no_packet_loops.proofs.Common.{range_with_len, opening_router_of, places_from, rows_of, costs_of}
-use Rattle.world.proofs.ByRouter.{made_at, made_count}
-use Rattle.world.proofs.Ranges.{one_made, all_made}
+use Rattle.world.proofs.{ByRouter.made_at, ByRouter.made_count, Ranges.one_made, Ranges.all_made}
 use Rattle.world.proofs.opening.opening_routers.Goals as goal
 
 pub offset_bounds-places-router : goal.offset_bounds-places-router

@@ -2,8 +2,7 @@ use Rattle.std.proofs.Common.{◌≡◌, ℕ, List, ◌∙◌, ◌++◌, ◌∷�
 use Rattle.std.specs.Option.{option_map_or}
 use Rattle.std.proofs.lemmas.Option.{none-some}
 use Rattle.network_model.specs.World.{Attachments}
-use Rattle.network_model.proofs.ListLaws.{element_there}
-use Rattle.network_model.proofs.Fronts.{if_some, take_next}
+use Rattle.network_model.proofs.{ListLaws.element_there, Fronts.if_some, Fronts.take_next}
 use Rattle.world.proofs.queue.notices_at.Goals as goal
 use Rattle.world.proofs.queue.notices_at.Goals.{in-Some+in_ok-push, in_default}
 

@@ -1,9 +1,6 @@
 use Rattle.std.proofs.Common.{rules, ◌≡◌, ◌≤◌, ◌+◌, ◌-◌, ◌++◌, ◌∙◌, arith, sym, ap, length, map, take}
 use Rattle.std.specs.List.{between}
-use Rattle.std.proofs.Math.Seq.{take-add}
-use Rattle.std.proofs.lemmas.List.{length-map, map-append}
-use Rattle.std.proofs.lemmas.List.Edits.{length-between}
-use Rattle.std.proofs.lemmas.Slice.{take-put_mid}
+use Rattle.std.proofs.{Math.Seq.take-add, lemmas.List.length-map, lemmas.List.map-append, lemmas.List.Edits.length-between, lemmas.Slice.take-put_mid}
 use Rattle.network_model.specs.Publication.{image_answer}
 use Rattle.array_bitmap.proofs.image.Image.lookup_all.Goals as goal
 

@@ -1,7 +1,6 @@
 use Rattle.std.proofs.Common.{◌∙◌, sym, ap, Some, None}
 use Rattle.ipv4_prefix.proofs.TableRows.{longest_in_table}
-use Rattle.array_bitmap.specs.Tree.{entry_in}
-use Rattle.array_bitmap.specs.Image.{cells_of}
+use Rattle.array_bitmap.specs.{Tree.entry_in, Image.cells_of}
 use Rattle.array_bitmap.proofs.PrefixRows.{longest_on_path, none_on_path}
 use Rattle.array_bitmap.proofs.tree.Tree.answer.Goals as goal
 

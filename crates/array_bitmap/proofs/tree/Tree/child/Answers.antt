@@ -1,8 +1,6 @@
 use Rattle.std.proofs.Common.{◌+◌, ◌-◌, ◌^◌, arith, ap, sym, subst, ◌∙◌}
 use Rattle.word_pool.specs.Pool.{blocks}
-use Rattle.array_bitmap.specs.Bits.{depth_of}
-use Rattle.array_bitmap.specs.Tree.{IsSoundCells}
-use Rattle.array_bitmap.specs.Image.{cells_of}
+use Rattle.array_bitmap.specs.{Bits.depth_of, Tree.IsSoundCells, Image.cells_of}
 use Rattle.array_bitmap.proofs.Lookups.{next_block}
 use Rattle.bitmaps.proofs.Options.{refused}
 use Rattle.array_bitmap.proofs.Stands.{holder_index, same_cells, kid_stand, kid_holder_block, kid_holder_bit, kid_put_words, kid_put_sound, kid_put_stand}

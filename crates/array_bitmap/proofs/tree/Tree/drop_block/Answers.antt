@@ -1,9 +1,6 @@
 use Rattle.std.proofs.Common.{◌+◌, ◌-◌, ◌^◌, arith, ap, sym, ◌∙◌}
-use Rattle.word_pool.specs.Heap.{size_of}
-use Rattle.word_pool.specs.Pool.{blocks}
-use Rattle.array_bitmap.specs.Bits.{depth_of}
-use Rattle.array_bitmap.specs.Tree.{words_in_block, block_at}
-use Rattle.array_bitmap.specs.Image.{cells_of}
+use Rattle.word_pool.specs.{Heap.size_of, Pool.blocks}
+use Rattle.array_bitmap.specs.{Bits.depth_of, Tree.words_in_block, Tree.block_at, Image.cells_of}
 use Rattle.array_bitmap.proofs.PoolWords.{block_head, size_listed}
 use Rattle.array_bitmap.proofs.Stands.{stand_is, dropped_size, dropped_sound, dropped_words, dropped_gone}
 use Rattle.array_bitmap.proofs.tree.Tree.drop_block.Goals as goal

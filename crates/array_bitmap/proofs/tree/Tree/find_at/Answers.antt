@@ -1,10 +1,6 @@
 use Rattle.std.proofs.Common.{◌≡◌, ◌-◌, ◌*◌, ◌∙◌, option_map, ap, sym, subst, arith}
-use Rattle.array_bitmap.specs.Words.{word_entry, shown}
-use Rattle.array_bitmap.specs.Cursor.{IsFoundAt}
-use Rattle.array_bitmap.specs.Tree.{block_at, word_at, entry_in}
-use Rattle.array_bitmap.specs.Image.{cells_of}
-use Rattle.array_bitmap.proofs.EmptyBlocks.{none_until_past, none_until_next}
-use Rattle.array_bitmap.proofs.ShortRows.{nothing_shown}
+use Rattle.array_bitmap.specs.{Words.word_entry, Words.shown, Cursor.IsFoundAt, Tree.block_at, Tree.word_at, Tree.entry_in, Image.cells_of}
+use Rattle.array_bitmap.proofs.{EmptyBlocks.none_until_past, EmptyBlocks.none_until_next, ShortRows.nothing_shown}
 use Rattle.array_bitmap.proofs.tree.Tree.find_at.Goals as goal
 
 pub returns-in-Err-clause-found : goal.returns-in-Err-clause-found

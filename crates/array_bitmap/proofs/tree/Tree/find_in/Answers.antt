@@ -4,17 +4,10 @@ use Rattle.std.proofs.lemmas.Bool.{both_ways}
 use Rattle.word_pool.specs.Pool.{blocks}
 use Rattle.bitmaps.specs.Bits.{rank}
 use Rattle.array_bitmap.specs.Bits.{depth_of, five_bits, path_start, row_bit}
-use Rattle.array_bitmap.specs.Blocks.{row_map, row_index}
-use Rattle.array_bitmap.specs.Cursor.{IsFoundAt}
+use Rattle.array_bitmap.specs.{Blocks.row_map, Blocks.row_index, Cursor.IsFoundAt, Image.cells_of, Words.word_entry}
 use Rattle.array_bitmap.specs.Tree.{words_in_block, block_at, word_at, entry_in}
-use Rattle.array_bitmap.specs.Image.{cells_of}
-use Rattle.array_bitmap.specs.Words.{word_entry}
-use Rattle.array_bitmap.proofs.BlockSteps.{no_five_after, none_until_block_end, none_until_spot}
-use Rattle.array_bitmap.proofs.Covering.{row-set}
-use Rattle.array_bitmap.proofs.Lookups.{block_is}
-use Rattle.array_bitmap.proofs.PoolWords.{block_head, block_holds, word_listed}
+use Rattle.array_bitmap.proofs.{BlockSteps.no_five_after, BlockSteps.none_until_block_end, BlockSteps.none_until_spot, Covering.row-set, Lookups.block_is, PoolWords.block_head, PoolWords.block_holds, PoolWords.word_listed, Stands.word_of_len}
 use Rattle.bitmaps.proofs.Ranks.{rank_lt}
-use Rattle.array_bitmap.proofs.Stands.{word_of_len}
 use Rattle.array_bitmap.proofs.tree.Tree.find_in.Goals as goal
 
 pub head_of-head-requires : goal.head_of-head-requires

@@ -1,8 +1,6 @@
 use Rattle.std.proofs.Common.{inl, inr, sym, Some, None}
-use Rattle.array_bitmap.specs.Tree.{entry_in}
-use Rattle.array_bitmap.specs.Image.{cells_of}
-use Rattle.array_bitmap.proofs.PrefixNumbers.{cases_before}
-use Rattle.array_bitmap.proofs.RowsFrom.{first_in_table, head_of_table}
+use Rattle.array_bitmap.specs.{Tree.entry_in, Image.cells_of}
+use Rattle.array_bitmap.proofs.{PrefixNumbers.cases_before, RowsFrom.first_in_table, RowsFrom.head_of_table}
 use Rattle.array_bitmap.proofs.tree.Tree.first_row_from.Goals as goal
 
 pub returns-in-Row : goal.returns-in-Row

@@ -1,8 +1,6 @@
 use Rattle.std.proofs.Common.{◌≡◌, ◌-◌, ◌^◌, true, false, None}
 use Rattle.ipv4_prefix.specs.Prefix.{Prefix, IsPrefix}
-use Rattle.array_bitmap.specs.Cursor.{is_before}
-use Rattle.array_bitmap.specs.Tree.{entry_in}
-use Rattle.array_bitmap.specs.Image.{cells_of}
+use Rattle.array_bitmap.specs.{Cursor.is_before, Tree.entry_in, Image.cells_of}
 use Rattle.array_bitmap.proofs.PrefixNumbers.{number}
 use Rattle.array_bitmap.proofs.tree.Tree.first_row_from.Given as goal
 

@@ -1,9 +1,7 @@
 use Rattle.std.proofs.Common.{ℕ, ◌≡◌, ◌+◌, ◌-◌, ◌*◌, ◌/◌, ◌^◌, ◌<◌, ◌≤◌, arith, ap, sym, subst, ◌∙◌}
 use Rattle.std.proofs.Math.Nat.{pow-le-pow_right}
 use Rattle.word_pool.specs.Pool.{blocks}
-use Rattle.array_bitmap.specs.Bits.{depth_of, path_start}
-use Rattle.array_bitmap.specs.Tree.{IsSoundCells}
-use Rattle.array_bitmap.specs.Image.{cells_of}
+use Rattle.array_bitmap.specs.{Bits.depth_of, Bits.path_start, Tree.IsSoundCells, Image.cells_of}
 use Rattle.array_bitmap.proofs.ShortRows.{start_small}
 use Rattle.array_bitmap.proofs.Stands.{same_cells, first_stand_there, first_put_sound, first_put_words, first_put_stand}
 use Rattle.array_bitmap.proofs.tree.Tree.first_stand.Goals as goal

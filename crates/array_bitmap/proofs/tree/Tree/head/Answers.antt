@@ -1,8 +1,7 @@
 use Rattle.std.proofs.Common.{◌-◌}
 use Rattle.word_pool.specs.Pool.{blocks}
 use Rattle.array_bitmap.specs.Image.{cells_of}
-use Rattle.array_bitmap.proofs.Lookups.{block_is}
-use Rattle.array_bitmap.proofs.PoolWords.{block_head}
+use Rattle.array_bitmap.proofs.{Lookups.block_is, PoolWords.block_head}
 use Rattle.array_bitmap.proofs.tree.Tree.head.Goals as goal
 
 pub head_of-requires : goal.head_of-requires

@@ -1,9 +1,6 @@
 use Rattle.std.proofs.Common.{◌≡◌, ◌+◌, ◌-◌, min}
-use Rattle.array_bitmap.specs.Bits.{depth_of}
-use Rattle.array_bitmap.specs.Words.{found}
+use Rattle.array_bitmap.specs.{Bits.depth_of, Words.found, Tree.block_at, Tree.word_at, Image.cells_of}
 use Rattle.bitmaps.specs.Greatest.{GreatestBelow}
-use Rattle.array_bitmap.specs.Tree.{block_at, word_at}
-use Rattle.array_bitmap.specs.Image.{cells_of}
 use Rattle.array_bitmap.proofs.tree.Tree.longest.Given as goal
 
 abbrev pub invariant-loop-level : goal.invariant-loop-level

@@ -1,12 +1,8 @@
 use Rattle.std.proofs.Common.{◌≡◌, ◌+◌, ◌*◌, ◌/◌, ◌%◌, ◌^◌, ◌-◌, ◌≤◌, arith, ap, sym, subst, rules}
-use Rattle.array_bitmap.specs.Bits.{depth_of, path_start}
-use Rattle.array_bitmap.specs.Words.{found}
+use Rattle.array_bitmap.specs.{Bits.depth_of, Bits.path_start, Words.found, Tree.word_at, Image.cells_of}
 use Rattle.bitmaps.specs.Greatest.{GreatestBelow}
-use Rattle.array_bitmap.specs.Tree.{word_at}
-use Rattle.array_bitmap.specs.Image.{cells_of}
-use Rattle.array_bitmap.proofs.ShortSet.{longer_short, same_short, read_short}
+use Rattle.array_bitmap.proofs.{ShortSet.longer_short, ShortSet.same_short, ShortSet.read_short, Arrays.number_whole, Arrays.number_within}
 use Rattle.array_bitmap.proofs.tree.Tree.longest_short.Goals.{then-word-ne-NOTHING, else-word-ne-NOTHING}
-use Rattle.array_bitmap.proofs.Arrays.{number_whole, number_within}
 use Rattle.array_bitmap.proofs.tree.Tree.longest_short.Goals as goal
 
 pub index-word-requires : goal.index-word-requires

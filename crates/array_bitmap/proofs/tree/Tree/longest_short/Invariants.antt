@@ -1,7 +1,5 @@
-use Rattle.array_bitmap.specs.Words.{found}
+use Rattle.array_bitmap.specs.{Words.found, Tree.word_at, Image.cells_of}
 use Rattle.bitmaps.specs.Greatest.{GreatestBelow}
-use Rattle.array_bitmap.specs.Tree.{word_at}
-use Rattle.array_bitmap.specs.Image.{cells_of}
 use Rattle.array_bitmap.proofs.tree.Tree.longest_short.Given as goal
 
 abbrev pub invariant-loop-above : goal.invariant-loop-above

@@ -1,12 +1,8 @@
 use Rattle.std.proofs.Common.{ℕ, List, ◌≡◌, ◌+◌, ◌*◌, ◌%◌, ◌^◌, ◌≤◌, get_or, replicate, ◌∙◌, arith, ap}
-use Rattle.std.proofs.lemmas.Nat.{pow-add, one_shl}
-use Rattle.std.proofs.Math.Nat.{pow-le-pow_right}
+use Rattle.std.proofs.{lemmas.Nat.pow-add, lemmas.Nat.one_shl, Math.Nat.pow-le-pow_right}
 use Rattle.word_pool.specs.Pool.{blocks}
-use Rattle.array_bitmap.specs.Bits.{depth_of}
-use Rattle.array_bitmap.specs.Words.{nothing}
-use Rattle.array_bitmap.specs.declared.tree.Top.{Top}
-use Rattle.array_bitmap.proofs.ShortSet.{array_cells}
-use Rattle.array_bitmap.proofs.EmptyImage.{empty_sound, empty_rows, copies_are}
+use Rattle.array_bitmap.specs.{Bits.depth_of, Words.nothing, declared.tree.Top.Top}
+use Rattle.array_bitmap.proofs.{ShortSet.array_cells, EmptyImage.empty_sound, EmptyImage.empty_rows, EmptyImage.copies_are}
 use Rattle.array_bitmap.proofs.tree.Tree.new.Goals as goal
 
 -- nothing in an index of the array

@@ -1,8 +1,6 @@
 use Rattle.std.proofs.Common.{◌-◌, ◌∙◌, arith, ap}
-use Rattle.array_bitmap.specs.Tree.{block_at}
-use Rattle.array_bitmap.specs.Image.{cells_of}
-use Rattle.array_bitmap.proofs.Pruned.{all_used}
-use Rattle.array_bitmap.proofs.Stands.{walk_ends}
+use Rattle.array_bitmap.specs.{Tree.block_at, Image.cells_of}
+use Rattle.array_bitmap.proofs.{Pruned.all_used, Stands.walk_ends}
 use Rattle.array_bitmap.proofs.tree.Tree.prune.Goals as goal
 
 pub returns-then-not-drop_block-clause-pruned : goal.returns-then-not-drop_block-clause-pruned

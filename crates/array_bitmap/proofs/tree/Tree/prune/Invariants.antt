@@ -1,6 +1,5 @@
 use Rattle.std.proofs.Common.{ℕ, ◌≡◌, ◌+◌, ◌-◌, ◌<◌, ◌≤◌}
-use Rattle.array_bitmap.specs.Tree.{block_at, word_at}
-use Rattle.array_bitmap.specs.Image.{cells_of, IsSoundTree}
+use Rattle.array_bitmap.specs.{Tree.block_at, Tree.word_at, Image.cells_of, Image.IsSoundTree}
 use Rattle.array_bitmap.proofs.tree.Tree.prune.Given as goal
 
 abbrev pub invariant-loop-up : goal.invariant-loop-up

@@ -1,11 +1,8 @@
 use Rattle.std.proofs.Common.{◌≡◌, ◌+◌, ◌-◌, ◌/◌, ◌%◌, ◌∙◌, Some, arith, ap, sym}
 use Rattle.std.proofs.lemmas.Result.{on_ok_weaker}
-use Rattle.array_bitmap.specs.Bits.{depth_of}
-use Rattle.array_bitmap.specs.Tree.{block_at, word_at}
-use Rattle.array_bitmap.specs.Image.{cells_of}
+use Rattle.array_bitmap.specs.{Bits.depth_of, Tree.block_at, Tree.word_at, Image.cells_of}
 use Rattle.bitmaps.proofs.Options.{refused}
-use Rattle.array_bitmap.proofs.Refusals.{no_word_below}
-use Rattle.array_bitmap.proofs.SetsWords.{sets_from}
+use Rattle.array_bitmap.proofs.{Refusals.no_word_below, SetsWords.sets_from}
 use Rattle.array_bitmap.proofs.tree.Tree.put_long.Goals as goal
 
 pub returns-in_err-stand-clause-full : goal.returns-in_err-stand-clause-full

@@ -1,6 +1,5 @@
 use Rattle.std.proofs.Common.{ℕ, ◌≡◌, ◌-◌}
-use Rattle.array_bitmap.specs.Tree.{word_at}
-use Rattle.array_bitmap.specs.Image.{cells_of, IsSoundTree, IsStand}
+use Rattle.array_bitmap.specs.{Tree.word_at, Image.cells_of, Image.IsSoundTree, Image.IsStand}
 use Rattle.array_bitmap.proofs.tree.Tree.put_long.Given as goal
 
 abbrev pub invariant-loop-d : goal.invariant-loop-d

@@ -1,9 +1,6 @@
 use Rattle.std.proofs.Common.{◌≡◌, ◌+◌, ◌-◌, ◌^◌, ℕ, arith, ap, sym, subst, ◌∙◌}
 use Rattle.word_pool.specs.Pool.{blocks}
-use Rattle.array_bitmap.specs.Bits.{depth_of, five_bits, row_bit}
-use Rattle.array_bitmap.specs.Blocks.{row_in}
-use Rattle.array_bitmap.specs.Tree.{words_in_block, words_at, IsSoundCells}
-use Rattle.array_bitmap.specs.Image.{cells_of}
+use Rattle.array_bitmap.specs.{Bits.depth_of, Bits.five_bits, Bits.row_bit, Blocks.row_in, Tree.words_in_block, Tree.words_at, Tree.IsSoundCells, Image.cells_of}
 use Rattle.bitmaps.proofs.Options.{refused}
 use Rattle.array_bitmap.proofs.Stands.{holder_stays_block, holder_stays_bit, holder_index, put_sets, put_sound, same_cells, word_of_stand}
 use Rattle.array_bitmap.proofs.tree.Tree.put_row.Goals as goal

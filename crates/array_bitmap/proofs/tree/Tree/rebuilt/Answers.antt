@@ -2,9 +2,7 @@ use Rattle.std.proofs.Common.{◌∙◌, arith, sym, ap, None, Some, subst, IfSo
 use Rattle.std.proofs.lemmas.List.{nil_from_length}
 use Rattle.network_model.specs.Publication.{with_rows}
 use Rattle.network_model.proofs.RowLaws.{with_rows-sorted}
-use Rattle.array_bitmap.specs.Cursor.{IsNextPrefix, IsHeadFrom, rows_from}
-use Rattle.array_bitmap.specs.Tree.{entry_in}
-use Rattle.array_bitmap.specs.Image.{cells_of, rows_in}
+use Rattle.array_bitmap.specs.{Cursor.IsNextPrefix, Cursor.IsHeadFrom, Cursor.rows_from, Tree.entry_in, Image.cells_of, Image.rows_in}
 use Rattle.array_bitmap.proofs.PrefixNumbers.{first_of_all}
 use Rattle.array_bitmap.proofs.RowsFrom.{all_from, table_in_order, table_writable, none_from, number_onward}
 use Rattle.array_bitmap.proofs.tree.Tree.rebuilt.Goals as goal

@@ -1,8 +1,7 @@
 use Rattle.std.proofs.Common.{◌≡◌, ◌-◌, ◌^◌}
 use Rattle.ipv4_prefix.specs.Prefix.{IsPrefix}
 use Rattle.network_model.specs.Publication.{with_rows}
-use Rattle.array_bitmap.specs.Cursor.{rows_from}
-use Rattle.array_bitmap.specs.Image.{IsSoundTree, rows_in}
+use Rattle.array_bitmap.specs.{Cursor.rows_from, Image.IsSoundTree, Image.rows_in}
 use Rattle.array_bitmap.proofs.PrefixNumbers.{number}
 use Rattle.array_bitmap.proofs.tree.Tree.rebuilt.Given as goal
 

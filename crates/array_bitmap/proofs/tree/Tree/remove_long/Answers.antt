@@ -2,13 +2,9 @@ use Rattle.std.proofs.Common.{ℕ, ◌≡◌, ◌+◌, ◌-◌, ◌/◌, ◌%◌
 use Rattle.std.specs.Int.{bit_at}
 use Rattle.std.proofs.lemmas.Bool.{both_ways}
 use Rattle.word_pool.specs.Pool.{blocks}
-use Rattle.array_bitmap.specs.Bits.{depth_of, row_bit}
+use Rattle.array_bitmap.specs.{Bits.depth_of, Bits.row_bit, Image.cells_of}
 use Rattle.array_bitmap.specs.Tree.{Cells, words_at, block_at, word_at, IsSoundCells, words_in_block}
-use Rattle.array_bitmap.specs.Image.{cells_of}
-use Rattle.array_bitmap.proofs.Covering.{row-set, row-clear}
-use Rattle.array_bitmap.proofs.PoolWords.{block_head}
-use Rattle.array_bitmap.proofs.SetsWords.{sets_to}
-use Rattle.array_bitmap.proofs.Refusals.{no_word_below}
+use Rattle.array_bitmap.proofs.{Covering.row-set, Covering.row-clear, PoolWords.block_head, SetsWords.sets_to, Refusals.no_word_below}
 use Rattle.array_bitmap.proofs.Stands.{stand_is, holder_stays_block, holder_stays_bit, holder_index, word_of_len, nothing_to_take, out_sets, out_sound}
 use Rattle.array_bitmap.proofs.tree.Tree.remove_long.Goals as goal
 

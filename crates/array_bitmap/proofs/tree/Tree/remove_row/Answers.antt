@@ -1,7 +1,6 @@
 use Rattle.std.proofs.Common.{None, ◌*◌, ◌∙◌, ap, is_some, sym}
 use Rattle.ipv4_prefix.proofs.TableRows.{row_of-table}
-use Rattle.array_bitmap.specs.Tree.{word_at, entry_in}
-use Rattle.array_bitmap.specs.Image.{cells_of}
+use Rattle.array_bitmap.specs.{Tree.word_at, Tree.entry_in, Image.cells_of}
 use Rattle.array_bitmap.proofs.PrefixRows.{sets_entry, table_rows-without, is_some-map}
 use Rattle.array_bitmap.proofs.tree.Tree.remove_row.Goals as goal
 

@@ -1,14 +1,10 @@
 use Rattle.std.proofs.Common.{ℕ, ◌≡◌, ◌+◌, ◌-◌, ◌*◌, ◌/◌, ◌%◌, ◌^◌, ◌<◌, ◌≤◌, length, List, get_or, slice_index_or, is_some, arith, ap, sym, ◌∙◌}
-use Rattle.std.proofs.lemmas.Nat.{mul-le}
+use Rattle.std.proofs.{lemmas.Nat.mul-le, lemmas.Bool.cond-false, lemmas.Bool.ne_eqb}
 use Rattle.word_pool.specs.Pool.{blocks}
-use Rattle.array_bitmap.specs.Bits.{depth_of, path_start}
-use Rattle.array_bitmap.specs.Words.{nothing}
-use Rattle.array_bitmap.specs.Image.{cells_of}
+use Rattle.array_bitmap.specs.{Bits.depth_of, Bits.path_start, Words.nothing, Image.cells_of}
 use Rattle.array_bitmap.proofs.Arrays.{end_within, end_whole, begin_whole, number_whole, number_within}
 use Rattle.array_bitmap.proofs.ShortSet.{short_gone_tree_sound, short_gone_tree_sets, short_read, read_short}
-use Rattle.array_bitmap.proofs.ShortRows.{nothing_shown}
-use Rattle.array_bitmap.proofs.Stands.{nothing_to_take}
-use Rattle.std.proofs.lemmas.Bool.{cond-false, ne_eqb}
+use Rattle.array_bitmap.proofs.{ShortRows.nothing_shown, Stands.nothing_to_take}
 use Rattle.array_bitmap.proofs.tree.Tree.remove_short.Goals as goal
 
 -- the word that was read

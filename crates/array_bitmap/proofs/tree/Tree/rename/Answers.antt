@@ -2,12 +2,9 @@ use Rattle.std.proofs.Common.{◌≡◌, ◌+◌, arith, ap, count_ones}
 use Rattle.std.specs.Int.{bit_at}
 use Rattle.word_pool.specs.Pool.{blocks}
 use Rattle.bitmaps.specs.Bits.{rank}
-use Rattle.array_bitmap.specs.Blocks.{kid_map, kid_index}
-use Rattle.array_bitmap.specs.Tree.{words_in_block}
-use Rattle.array_bitmap.specs.Image.{cells_of}
+use Rattle.array_bitmap.specs.{Blocks.kid_map, Blocks.kid_index, Tree.words_in_block, Image.cells_of}
 use Rattle.bitmaps.proofs.Ranks.{rank_lt}
-use Rattle.array_bitmap.proofs.PoolWords.{block_head, block_holds}
-use Rattle.array_bitmap.proofs.Puts.{name_in_block}
+use Rattle.array_bitmap.proofs.{PoolWords.block_head, PoolWords.block_holds, Puts.name_in_block}
 use Rattle.array_bitmap.proofs.tree.Tree.rename.Goals as goal
 
 pub kids_of-kids-requires : goal.kids_of-kids-requires

@@ -1,11 +1,8 @@
 use Rattle.std.proofs.Common.{ℕ, ◌≡◌, ◌≢◌, ◌*◌, ◌∙◌, Some, option_map, ap, sym}
 use Rattle.std.proofs.lemmas.Bool.{cond-false, ne_eqb}
 use Rattle.ipv4_prefix.proofs.TableRows.{row_of-table}
-use Rattle.array_bitmap.specs.Words.{word_entry, shown, nothing}
-use Rattle.array_bitmap.specs.Tree.{word_at, entry_in}
-use Rattle.array_bitmap.specs.Image.{cells_of}
-use Rattle.array_bitmap.proofs.Refusals.{no_word_below}
-use Rattle.array_bitmap.proofs.ShortRows.{nothing_shown}
+use Rattle.array_bitmap.specs.{Words.word_entry, Words.shown, Words.nothing, Tree.word_at, Tree.entry_in, Image.cells_of}
+use Rattle.array_bitmap.proofs.{Refusals.no_word_below, ShortRows.nothing_shown}
 use Rattle.array_bitmap.proofs.tree.Tree.row.Goals as goal
 
 -- a word that is that of a row

@@ -1,7 +1,5 @@
 use Rattle.std.proofs.Common.{◌∙◌, arith, sym, ap, length, None, Some, subst, IfSome}
-use Rattle.array_bitmap.specs.Cursor.{IsNextPrefix, IsHeadFrom}
-use Rattle.array_bitmap.specs.Tree.{entry_in}
-use Rattle.array_bitmap.specs.Image.{cells_of, rows_in}
+use Rattle.array_bitmap.specs.{Cursor.IsNextPrefix, Cursor.IsHeadFrom, Tree.entry_in, Image.cells_of, Image.rows_in}
 use Rattle.array_bitmap.proofs.PrefixNumbers.{first_of_all}
 use Rattle.array_bitmap.proofs.RowsFrom.{all_from, table_writable, none_from, number_onward}
 use Rattle.array_bitmap.proofs.tree.Tree.row_count.Goals as goal

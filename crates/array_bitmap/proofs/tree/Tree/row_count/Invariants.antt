@@ -1,7 +1,6 @@
 use Rattle.std.proofs.Common.{◌≡◌, ◌+◌, ◌-◌, ◌^◌, ◌≤◌, length}
 use Rattle.ipv4_prefix.specs.Prefix.{IsPrefix}
-use Rattle.array_bitmap.specs.Cursor.{rows_from}
-use Rattle.array_bitmap.specs.Image.{rows_in}
+use Rattle.array_bitmap.specs.{Cursor.rows_from, Image.rows_in}
 use Rattle.array_bitmap.proofs.PrefixNumbers.{number}
 use Rattle.array_bitmap.proofs.tree.Tree.row_count.Given as goal
 

@@ -2,9 +2,7 @@ use Rattle.std.proofs.Common.{Some, ◌*◌, ◌∙◌, ap, cond, option_map, sy
 use Rattle.std.proofs.lemmas.Result.{on_ok_weaker, on_err_weaker}
 use Rattle.ipv4_prefix.specs.Prefix.{prefix_eq}
 use Rattle.ipv4_prefix.proofs.TableRows.{table_rows-put, table_rows-same, row_of-table}
-use Rattle.array_bitmap.specs.Words.{word_entry}
-use Rattle.array_bitmap.specs.Tree.{word_at, entry_in}
-use Rattle.array_bitmap.specs.Image.{cells_of}
+use Rattle.array_bitmap.specs.{Words.word_entry, Tree.word_at, Tree.entry_in, Image.cells_of}
 use Rattle.array_bitmap.proofs.PrefixRows.{sets_entry}
 use Rattle.array_bitmap.proofs.tree.Tree.set_row.Goals as goal
 

@@ -1,8 +1,6 @@
 use Rattle.std.proofs.Common.{◌+◌, ◌-◌, ◌*◌, ◌/◌, ◌%◌, ◌^◌, arith, ap}
-use Rattle.array_bitmap.specs.Bits.{path_start}
-use Rattle.array_bitmap.specs.Image.{cells_of}
-use Rattle.array_bitmap.proofs.Arrays.{number_whole, number_within}
-use Rattle.array_bitmap.proofs.ShortSet.{short_read, read_short}
+use Rattle.array_bitmap.specs.{Bits.path_start, Image.cells_of}
+use Rattle.array_bitmap.proofs.{Arrays.number_whole, Arrays.number_within, ShortSet.short_read, ShortSet.read_short}
 use Rattle.array_bitmap.proofs.tree.Tree.short_word.Goals as goal
 
 pub index-requires : goal.index-requires

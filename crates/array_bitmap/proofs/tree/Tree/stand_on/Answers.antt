@@ -1,10 +1,6 @@
 use Rattle.std.proofs.Common.{◌≡◌, ◌-◌, arith, ap, sym, ◌∙◌}
-use Rattle.array_bitmap.specs.Tree.{block_at}
-use Rattle.array_bitmap.specs.Image.{cells_of, top_at}
-use Rattle.array_bitmap.proofs.Walks.{block-first}
-use Rattle.array_bitmap.proofs.OnePath.{named-kid}
-use Rattle.array_bitmap.proofs.Lookups.{next_block}
-use Rattle.array_bitmap.proofs.Stands.{index_is, index_fits, walk_ends}
+use Rattle.array_bitmap.specs.{Tree.block_at, Image.cells_of, Image.top_at}
+use Rattle.array_bitmap.proofs.{Walks.block-first, OnePath.named-kid, Lookups.next_block, Stands.index_is, Stands.index_fits, Stands.walk_ends}
 use Rattle.array_bitmap.proofs.tree.Tree.stand_on.Goals as goal
 
 pub overflow_cast-index-2 : goal.overflow_cast-index-2

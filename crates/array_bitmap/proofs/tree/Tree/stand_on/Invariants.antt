@@ -1,6 +1,5 @@
 use Rattle.std.proofs.Common.{◌≡◌, ◌-◌}
-use Rattle.array_bitmap.specs.Tree.{block_at, named}
-use Rattle.array_bitmap.specs.Image.{cells_of}
+use Rattle.array_bitmap.specs.{Tree.block_at, Tree.named, Image.cells_of}
 use Rattle.array_bitmap.proofs.tree.Tree.stand_on.Given as goal
 
 abbrev pub invariant-loop-d : goal.invariant-loop-d

@@ -1,13 +1,8 @@
 use Rattle.std.proofs.Common.{ℕ, List, get_or, ◌≡◌, ◌+◌, ◌-◌, ◌*◌, ◌/◌, ◌^◌, ◌<◌, ◌≤◌, arith, ap, sym, subst, ◌∙◌, vec_len, length}
 use Rattle.std.proofs.lemmas.List.{get_or_read}
-use Rattle.array_bitmap.specs.Bits.{depth_of, path_start}
-use Rattle.array_bitmap.specs.Words.{nothing, found}
+use Rattle.array_bitmap.specs.{Bits.depth_of, Bits.path_start, Words.nothing, Words.found, Tree.word_at, Image.cells_of, Image.top_at, declared.tree.Top.Top}
 use Rattle.bitmaps.specs.Greatest.{GreatestBelow}
-use Rattle.array_bitmap.specs.Tree.{word_at}
-use Rattle.array_bitmap.specs.Image.{cells_of, top_at}
-use Rattle.array_bitmap.specs.declared.tree.Top.{Top}
-use Rattle.array_bitmap.proofs.ShortRows.{start_small}
-use Rattle.array_bitmap.proofs.Walks.{block-first}
+use Rattle.array_bitmap.proofs.{ShortRows.start_small, Walks.block-first}
 use Rattle.array_bitmap.proofs.tree.Tree.top.Goals as goal
 
 -- the index, by the first bits, is one of the array

@@ -1,11 +1,8 @@
 use Rattle.std.proofs.Common.{ℕ, ◌≡◌, ◌≢◌, ◌+◌, ◌-◌, ◌≤◌, arith, ap, sym, subst, ◌∙◌}
 use Rattle.std.specs.Int.{bit_at}
 use Rattle.word_pool.specs.Pool.{blocks}
-use Rattle.array_bitmap.specs.Blocks.{kid_map}
+use Rattle.array_bitmap.specs.{Blocks.kid_map, Changes.WritesName, Image.cells_of, Image.IsStand, declared.tree.Stand.Stand}
 use Rattle.array_bitmap.specs.Tree.{Cells, IsSoundCells, words_in_block, block_at}
-use Rattle.array_bitmap.specs.Changes.{WritesName}
-use Rattle.array_bitmap.specs.Image.{cells_of, IsStand}
-use Rattle.array_bitmap.specs.declared.tree.Stand.{Stand}
 use Rattle.array_bitmap.proofs.Stands.{stand_is, holder_bit, holder_index, holder_stays_block, holder_stays_bit, holder_above, top_lost, kid_lost}
 use Rattle.array_bitmap.proofs.tree.Tree.unname.Goals as goal
 

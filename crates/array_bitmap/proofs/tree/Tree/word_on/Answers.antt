@@ -3,15 +3,9 @@ use Rattle.std.specs.Int.{bit_at}
 use Rattle.std.proofs.lemmas.Bool.{both_ways}
 use Rattle.word_pool.specs.Pool.{blocks}
 use Rattle.bitmaps.specs.Bits.{rank}
-use Rattle.array_bitmap.specs.Blocks.{row_map, row_index}
-use Rattle.array_bitmap.specs.Tree.{words_in_block, words_at, word_at}
-use Rattle.array_bitmap.specs.Image.{cells_of}
+use Rattle.array_bitmap.specs.{Blocks.row_map, Blocks.row_index, Tree.words_in_block, Tree.words_at, Tree.word_at, Image.cells_of}
 use Rattle.bitmaps.proofs.Ranks.{rank_lt}
-use Rattle.array_bitmap.proofs.Covering.{row-set, row-clear}
-use Rattle.array_bitmap.proofs.Lookups.{block_is}
-use Rattle.array_bitmap.proofs.PoolWords.{block_head, block_holds, word_listed}
-use Rattle.array_bitmap.proofs.ShortRows.{row_shown}
-use Rattle.array_bitmap.proofs.Stands.{word_of_len}
+use Rattle.array_bitmap.proofs.{Covering.row-set, Covering.row-clear, Lookups.block_is, PoolWords.block_head, PoolWords.block_holds, PoolWords.word_listed, ShortRows.row_shown, Stands.word_of_len}
 use Rattle.array_bitmap.proofs.tree.Tree.word_on.Goals as goal
 
 pub rows_of-rows-requires : goal.rows_of-rows-requires

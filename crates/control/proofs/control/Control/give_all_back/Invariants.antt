@@ -1,7 +1,6 @@
 use Rattle.std.proofs.Common.{◌≡◌, ◌⊎◌, ◌+◌, ◌≤◌, Err, IfErr, vec_len}
 use Rattle.network_model.specs.declared.step.Refusal.{Refusal}
-use Rattle.guarded.specs.Served.{IsTurnRefused}
-use Rattle.guarded.specs.Shares.{IsHolder, owes}
+use Rattle.guarded.specs.{Served.IsTurnRefused, Shares.IsHolder, Shares.owes}
 use Rattle.control.proofs.control.Control.give_all_back.Given as goal
 
 abbrev pub invariant-loop-errand : goal.invariant-loop-errand

@@ -1,11 +1,8 @@
 use Rattle.std.proofs.Common.{subst, ◌≡◌, length}
 use Rattle.world.specs.Headline.{HasWorldHeadline, IsReached}
 use Rattle.world.proofs.Headline.{sound_there}
-use Rattle.course.specs.Course.{Course, course_of}
-use Rattle.course.specs.Links.{HasShortWays, LeadsToRouters}
-use Rattle.course.proofs.Courses.{reached}
-use Rattle.course.proofs.Idle.{router_count}
-use Rattle.course.proofs.Links.{leads_to_routers, short_ways}
+use Rattle.course.specs.{Course.Course, Course.course_of, Links.HasShortWays, Links.LeadsToRouters}
+use Rattle.course.proofs.{Courses.reached, Idle.router_count, Links.leads_to_routers, Links.short_ways}
 use Rattle.course.proofs.course.Course.holds.Goals as goal
 
 pub returns-clause-reached : goal.returns-clause-reached

@@ -1,11 +1,8 @@
 use Rattle.std.proofs.Common.{◌≡◌, ◌∙◌, ◌+◌, ◌<◌, ◌^◌, true, Option, Err, MatchOption, is_ok, sym, ap, subst, arith}
 use Rattle.no_packet_loops.proofs.Common.{Refusal, refusal}
-use Rattle.world.specs.declared.touched.Touched.{Touched}
-use Rattle.world.specs.Steps.{IsDoneOr}
+use Rattle.world.specs.{declared.touched.Touched.Touched, Steps.IsDoneOr}
 use Rattle.world.proofs.Causes.{done_for, done_only, passes_on, passes_only}
-use Rattle.course.specs.Counts.{leaving, with_sent}
-use Rattle.course.specs.Links.{HasLinksOfPorts}
-use Rattle.course.specs.Course.{IsCourse, course_of}
+use Rattle.course.specs.{Counts.leaving, Counts.with_sent, Links.HasLinksOfPorts, Course.IsCourse, Course.course_of}
 use Rattle.course.proofs.Links.{links_of_ports}
 use Rattle.course.proofs.Courses.{counted_seen, is_after, kept_after, room_left}
 use Rattle.course.proofs.course.Course.step.Goals as goal

@@ -1,14 +1,9 @@
 use Rattle.std.proofs.Common.{◌≡◌, ℕ, true, List, Bool, map, length, arith, ap, subst, sym, ◌∙◌}
-use Rattle.std.specs.List.{list_any}
-use Rattle.std.specs.FinSet.{contains}
+use Rattle.std.specs.{List.list_any, FinSet.contains}
 use Rattle.std.proofs.lemmas.Grind.{common_steps}
-use Rattle.network_model.specs.declared.machine.Neighbour.{Neighbour}
-use Rattle.network_model.specs.Machine.{port_count}
+use Rattle.network_model.specs.{declared.machine.Neighbour.Neighbour, Machine.port_count}
 use Rattle.diffusing_replies.specs.Ports.{Ports}
-use Rattle.dual_machine.specs.State.{MachineState}
-use Rattle.dual_machine.specs.Parts.{IsDebtOf}
-use Rattle.dual_machine.specs.Awaited.{awaited_of}
-use Rattle.dual_machine.specs.Event.{is_neighbour_up}
+use Rattle.dual_machine.specs.{State.MachineState, Parts.IsDebtOf, Awaited.awaited_of, Event.is_neighbour_up}
 use Rattle.dual_machine.proofs.Awaiting.{list_any-map, awaited_of-up, AwaitsBelow-up}
 use Rattle.dual_machine.proofs.machine.Machine.begin.Goals as goal
 

@@ -1,11 +1,7 @@
 use Rattle.std.proofs.Common.{◌≡◌, ◌≤◌, List, length, length-append, count_by, arith, ap, refl, subst, ◌∙◌}
-use Rattle.network_model.specs.declared.machine.Event.{Event}
-use Rattle.network_model.specs.declared.machine.Neighbour.{Neighbour}
-use Rattle.network_model.specs.Machine.{Reaction, decision, with_records}
-use Rattle.dual_machine.specs.Outbox.{most_sent}
-use Rattle.dual_machine.specs.State.{MachineState}
-use Rattle.dual_machine.proofs.Closing.{IsSound_after, IsAsking-computation_of}
-use Rattle.dual_machine.proofs.Room.{IsAsking, length-reaction, reaction-decision}
+use Rattle.network_model.specs.{declared.machine.Event.Event, declared.machine.Neighbour.Neighbour, Machine.Reaction, Machine.decision, Machine.with_records}
+use Rattle.dual_machine.specs.{Outbox.most_sent, State.MachineState}
+use Rattle.dual_machine.proofs.{Closing.IsSound_after, Closing.IsAsking-computation_of, Room.IsAsking, Room.length-reaction, Room.reaction-decision}
 use Rattle.dual_machine.proofs.machine.Machine.event.Goals as goal
 
 pub invariant_of-self : goal.invariant_of-self

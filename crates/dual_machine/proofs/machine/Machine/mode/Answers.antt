@@ -1,9 +1,7 @@
 use Rattle.std.proofs.Common.{sym, ap, subst, IfSome, Option, length, ◌∙◌}
 use Rattle.std.specs.FinSet.{contains}
 use Rattle.diffusing_replies.specs.Ports.{Ports}
-use Rattle.dual_machine.specs.declared.mode.Active.{Active}
-use Rattle.dual_machine.specs.Parts.{IsUnderWay, computation_of}
-use Rattle.dual_machine.specs.State.{MachineState, awaits_at}
+use Rattle.dual_machine.specs.{declared.mode.Active.Active, Parts.IsUnderWay, Parts.computation_of, State.MachineState, State.awaits_at}
 use Rattle.dual_machine.proofs.Awaiting.{awaited_of-at}
 use Rattle.dual_machine.proofs.machine.Machine.mode.Goals as goal
 

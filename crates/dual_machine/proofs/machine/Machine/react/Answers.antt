@@ -2,20 +2,12 @@ use Rattle.std.proofs.Common.{◌≡◌, ◌≤◌, ℕ, false, not, Option, Som
 use Rattle.std.specs.List.{list_any, length_refill}
 use Rattle.std.proofs.lemmas.Grind.{common_steps}
 use Rattle.metric.specs.Distance.{IsCost}
-use Rattle.network_model.specs.declared.machine.Neighbour.{Neighbour}
-use Rattle.network_model.specs.declared.machine.Outgoing.{Outgoing}
+use Rattle.network_model.specs.{declared.machine.Neighbour.Neighbour, declared.machine.Outgoing.Outgoing}
 use Rattle.network_model.specs.Machine.{Machine, Computation, Reaction, home_ways, port_count, via_successor, with_records, answers_at_once, completion, awaited_after, debt_after, successor_after, passive_reaction, decision}
-use Rattle.diffusing_replies.specs.declared.origin.Origin.{Origin}
-use Rattle.dual_machine.specs.declared.mode.Active.{Active}
-use Rattle.diffusing_replies.specs.Origin.{needs_test}
-use Rattle.dual_machine.specs.Event.{IsKnown}
-use Rattle.dual_machine.specs.Awaited.{awaited_of}
-use Rattle.dual_machine.specs.Parts.{IsUnderWay, IsDebtOf, computation_of}
-use Rattle.dual_machine.specs.State.{MachineState, moved}
-use Rattle.dual_machine.proofs.Closing.{costs_after, IsSound_after, asking_after}
-use Rattle.dual_machine.proofs.Awaiting.{asking-done}
+use Rattle.diffusing_replies.specs.{declared.origin.Origin.Origin, Origin.needs_test}
+use Rattle.dual_machine.specs.{declared.mode.Active.Active, Event.IsKnown, Awaited.awaited_of, Parts.IsUnderWay, Parts.IsDebtOf, Parts.computation_of, State.MachineState, State.moved}
+use Rattle.dual_machine.proofs.{Closing.costs_after, Closing.IsSound_after, Closing.asking_after, Awaiting.asking-done, Debts.not_risen, Debts.IsDebtOf_after}
 use Rattle.dual_machine.proofs.Costs.{condition_holds_near, not_above, HasCost-attachment_after, HasCost-ways}
-use Rattle.dual_machine.proofs.Debts.{not_risen, IsDebtOf_after}
 use Rattle.dual_machine.proofs.Deciding.{then, recorded, decision-passive, decision-done}
 use Rattle.dual_machine.proofs.machine.Machine.react.Goals as goal
 use Rattle.dual_machine.proofs.machine.Machine.react.Goals.{After-push_to, After-is_done}

@@ -1,7 +1,6 @@
 use Rattle.std.proofs.Common.{sym, ap, subst, ◌∙◌, ◌≡◌}
 use Rattle.publication.specs.Lists.{Covers, patch_of}
-use Rattle.fabric.specs.Desks.{Desk, desk_in}
-use Rattle.fabric.specs.Places.{desk_of}
+use Rattle.fabric.specs.{Desks.Desk, Desks.desk_in, Places.desk_of}
 use Rattle.fabric.proofs.desk.Desk.lend.Goals as goal
 
 pub new-requires-clause-covers : goal.new-requires-clause-covers

@@ -1,8 +1,7 @@
 use Rattle.std.proofs.Common.{refl, sym, ap, ◌∙◌, ◌≡◌, Some}
 use Rattle.no_packet_loops.proofs.Common.{false≢true}
 use Rattle.publication.specs.declared.known.Known.{Known}
-use Rattle.fabric.specs.Desks.{Desk, desk_out}
-use Rattle.fabric.specs.Places.{desk_of}
+use Rattle.fabric.specs.{Desks.Desk, Desks.desk_out, Places.desk_of}
 use Rattle.fabric.proofs.desk.Desk.take_back.Given as given
 use Rattle.fabric.proofs.desk.Desk.take_back.Goals as goal
 use Rattle.fabric.proofs.desk.Desk.take_back.Goals.{in-In, in-Out}

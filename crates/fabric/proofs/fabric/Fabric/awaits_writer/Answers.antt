@@ -1,6 +1,5 @@
 use Rattle.std.proofs.Common.{ap, ◌∙◌, List}
-use Rattle.fabric.specs.Desks.{Desk, all_lent}
-use Rattle.fabric.specs.Fabric.{Fabric, awaits_lent, awaits_writer}
+use Rattle.fabric.specs.{Desks.Desk, Desks.all_lent, Fabric.Fabric, Fabric.awaits_lent, Fabric.awaits_writer}
 use Rattle.fabric.proofs.fabric.Fabric.awaits_writer.Goals as goal
 
 pub returns : goal.returns

@@ -5,16 +5,13 @@ use Rattle.world.specs.Steps.{DeliveryNeedsMemory, HasRoomForSteps, is_stale}
 use Rattle.world.proofs.Done.{memory_lacked, not_caused, only_cause}
 use Rattle.publication.specs.declared.known.Known.{Known}
 use Rattle.image_patch.specs.Patches.{patched}
-use Rattle.course.specs.Course.{Course}
-use Rattle.fabric.specs.Desks.{all_lent, writings}
+use Rattle.course.specs.{Course.Course, Images.due_at, Images.image_in_force, Images.images_in_force}
+use Rattle.fabric.specs.{Desks.all_lent, Desks.writings, Patches.IsPatchDue}
 use Rattle.fabric.specs.Fabric.{Fabric, awaits_writer, count_lent, fabric_of, after_step, fabric_refusal, lent_at, IsFabric, IsSumOf}
-use Rattle.fabric.specs.Patches.{IsPatchDue}
-use Rattle.course.specs.Images.{due_at, image_in_force, images_in_force}
 use Rattle.fabric.specs.Writers.{FitTogether, ArePending, AreReaders, AreWriters, shown_images, waiting_at, fabric_seen}
 use Rattle.course.proofs.Images.{due_lawful, due_of}
-use Rattle.fabric.proofs.Causes.{admitted, due_seen, passed_on}
+use Rattle.fabric.proofs.{Causes.admitted, Causes.due_seen, Causes.passed_on, WritersOut.all_pending_next}
 use Rattle.fabric.proofs.Fabrics.{room_left, images_stay, images_due, kept_as, summed_more}
-use Rattle.fabric.proofs.WritersOut.{all_pending_next}
 use Rattle.fabric.proofs.Seats.{desk_within, due_desk, is_in, lent_same, none_kept, pending_same, seat, writings_set}
 use Rattle.fabric.proofs.Publications.{IsDue, due_there, none_heard, number_is, names_all, next_number, readers_next, shown_done, still_heard, unseen_shown, writers_next, writers_set}
 use Rattle.fabric.proofs.fabric.Fabric.do_step.Given as given

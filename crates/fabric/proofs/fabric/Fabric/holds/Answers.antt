@@ -1,8 +1,7 @@
 use Rattle.std.proofs.Common.{subst, vec_capacity}
 use Rattle.no_packet_loops.proofs.Common.{IsNetwork}
 use Rattle.fabric.specs.Writers.{fabric_seen}
-use Rattle.fabric.proofs.Headline.{never_twice}
-use Rattle.fabric.proofs.WritersOut.{lent_due}
+use Rattle.fabric.proofs.{Headline.never_twice, WritersOut.lent_due}
 use Rattle.fabric.proofs.fabric.Fabric.holds.Goals as goal
 
 pub returns-clause-no_loop : goal.returns-clause-no_loop

@@ -1,13 +1,10 @@
 use Rattle.std.proofs.Common.{◌≡◌, ◌∙◌, ◌⊎◌, ◌<◌, Some, length, refl, ap, sym, subst, arith, IfErr, MatchOption, option_map, length-set}
 use Rattle.no_packet_loops.proofs.Common.{IfOk-weaker, Answer, UnknownRouter, Stale, NoImage, Router, answer_of}
-use Rattle.publication.specs.declared.known.Known.{Known}
-use Rattle.publication.specs.Lists.{image_of}
+use Rattle.publication.specs.{declared.known.Known.Known, Lists.image_of}
 use Rattle.publication.proofs.Places.{each_set}
-use Rattle.fabric.specs.Fabric.{Fabric}
+use Rattle.fabric.specs.{Fabric.Fabric, Images.answer_at}
 use Rattle.course.specs.Images.{image_in_force, images_in_force}
-use Rattle.fabric.specs.Images.{answer_at}
-use Rattle.fabric.proofs.Causes.{nothing_at}
-use Rattle.fabric.proofs.ImagesInForce.{answer_shown}
+use Rattle.fabric.proofs.{Causes.nothing_at, ImagesInForce.answer_shown}
 use Rattle.fabric.proofs.fabric.Fabric.lookup.Given as given
 use Rattle.fabric.proofs.fabric.Fabric.lookup.Goals as goal
 

@@ -3,16 +3,13 @@ use Rattle.no_packet_loops.proofs.Common.{IsNetwork, slice_get-map, most_steps, 
 use Rattle.image_patch.specs.Patches.{patched}
 use Rattle.world.specs.Steps.{HasRoomForSteps}
 use Rattle.world.proofs.Done.{memory_lacked, not_caused}
-use Rattle.publication.specs.Lists.{Writing, image_of, patch_of}
-use Rattle.publication.specs.Outings.{Outing}
-use Rattle.fabric.specs.Desks.{all_lent, desk_out, writings}
+use Rattle.publication.specs.{Lists.Writing, Lists.image_of, Lists.patch_of, Outings.Outing}
+use Rattle.fabric.specs.{Desks.all_lent, Desks.desk_out, Desks.writings, Patches.IsPatchDue}
 use Rattle.fabric.specs.Fabric.{Fabric, count_lent, fabric_of, fabric_refusal, lent_at, with_lent, IsFabric}
 use Rattle.course.specs.Images.{due_at}
-use Rattle.fabric.specs.Patches.{IsPatchDue}
 use Rattle.fabric.specs.Writers.{ArePending, AreWriters, shown_images, waiting_at, fabric_seen}
 use Rattle.course.proofs.Images.{due_lawful}
-use Rattle.fabric.proofs.Causes.{admitted, due_seen}
-use Rattle.fabric.proofs.Fabrics.{room_left}
+use Rattle.fabric.proofs.{Causes.admitted, Causes.due_seen, Fabrics.room_left}
 use Rattle.fabric.proofs.Publications.{IsDue, due_there, names_all, next_number, number_is, shows}
 use Rattle.fabric.proofs.Seats.{count_away, desk_within, due_desk, is_in, kept_away, lent_away, none_kept, pending_away, seat, shown_away, writers_away, writing_there}
 use Rattle.fabric.proofs.fabric.Fabric.make_ticket.Given as given

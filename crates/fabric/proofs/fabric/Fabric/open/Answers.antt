@@ -2,13 +2,10 @@ use Rattle.std.proofs.Common.{rules, ◌≡◌, ◌∙◌, ◌≤◌, ◌+◌, [
 use Rattle.no_packet_loops.proofs.Common.{most_routers, length-map, World, opening, Image}
 use Rattle.no_packet_loops.proofs.Wiring.{few_routers}
 use Rattle.publication.specs.Lists.{no_patches}
-use Rattle.course.specs.Course.{Course}
-use Rattle.course.specs.Images.{chosen_image}
-use Rattle.fabric.specs.Desks.{all_lent, desk_in, writings}
-use Rattle.fabric.specs.Fabric.{count_lent, fabric_of, IsFabric}
+use Rattle.course.specs.{Course.Course, Images.chosen_image}
+use Rattle.fabric.specs.{Desks.all_lent, Desks.desk_in, Desks.writings, Fabric.count_lent, Fabric.fabric_of, Fabric.IsFabric}
 use Rattle.fabric.specs.Writers.{ArePending, AreWriters, FitTogether, IsReaderPort, shown_images, fabric_seen}
-use Rattle.fabric.proofs.WritersOut.{count-none, none_lent}
-use Rattle.fabric.proofs.Fabrics.{summed_none}
+use Rattle.fabric.proofs.{WritersOut.count-none, WritersOut.none_lent, Fabrics.summed_none}
 use Rattle.course.proofs.Idle.{router_count}
 use Rattle.fabric.proofs.Openings.{chosen_rows_are, chosen_zero, each_map, is_opening, kept_open, new_readers, new_writers, none_pending, writings_in}
 use Rattle.fabric.proofs.fabric.Fabric.open.Given as given

@@ -6,9 +6,7 @@ use Rattle.publication.proofs.Places.{each_there}
 use Rattle.fabric.specs.Desks.{all_lent, desk_in, writings}
 use Rattle.fabric.specs.Fabric.{Fabric, after_step, count_lent, fabric_of, lent_at, with_lent, IsFabric}
 use Rattle.fabric.specs.Writers.{ArePending, AreReaders, AreWriters, shown_images, fabric_seen}
-use Rattle.fabric.proofs.Fabrics.{kept_as, summed_more}
-use Rattle.fabric.proofs.WritersOut.{lent_there}
-use Rattle.fabric.proofs.Publications.{readers_next, writers_next}
+use Rattle.fabric.proofs.{Fabrics.kept_as, Fabrics.summed_more, WritersOut.lent_there, Publications.readers_next, Publications.writers_next}
 use Rattle.fabric.proofs.Seats.{count_back, set_again, images_back, kept_back, lawful_back, lent_was, none_lent_at, pending_back, pending_on, published_is, seat, short_back, shown_back, unpublished_is, writers_back, writing_there}
 use Rattle.fabric.proofs.fabric.Fabric.take_ticket.Given as given
 use Rattle.fabric.proofs.fabric.Fabric.take_ticket.Goals as goal

@@ -1,12 +1,9 @@
 use Rattle.std.proofs.Common.{◌≡◌, ◌∙◌, ◌≤◌, Some, length, refl, ap, sym, subst, arith, IfSome, is_some, option_map, slice_get}
 use Rattle.no_packet_loops.proofs.Common.{slice_get-map, slice_get_read, false≢true, Router}
-use Rattle.publication.specs.Lists.{Writing, image_of}
-use Rattle.publication.specs.declared.known.Known.{Known}
+use Rattle.publication.specs.{Lists.Writing, Lists.image_of, declared.known.Known.Known}
 use Rattle.publication.proofs.Places.{each_there}
-use Rattle.fabric.specs.Desks.{Desk, writings}
-use Rattle.fabric.specs.Fabric.{Fabric}
-use Rattle.fabric.proofs.Seats.{desk_count}
-use Rattle.fabric.proofs.ImagesInForce.{list_is_last}
+use Rattle.fabric.specs.{Desks.Desk, Desks.writings, Fabric.Fabric}
+use Rattle.fabric.proofs.{Seats.desk_count, ImagesInForce.list_is_last}
 use Rattle.fabric.proofs.fabric.Fabric.told.Given as given
 use Rattle.fabric.proofs.fabric.Fabric.told.Goals as goal
 

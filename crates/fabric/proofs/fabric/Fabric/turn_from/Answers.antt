@@ -1,9 +1,6 @@
 use Rattle.std.proofs.Common.{◌≡◌, ◌∙◌, ◌<◌, List, Some, IfSome, length, sym, ap, subst, vec_capacity}
-use Rattle.course.specs.Course.{Course}
-use Rattle.course.specs.Turns.{open_step}
-use Rattle.fabric.specs.Desks.{Desk, all_lent}
-use Rattle.fabric.specs.Fabric.{Fabric, awaits_lent, next_fabric_step}
-use Rattle.fabric.specs.Writers.{FitTogether, fabric_seen}
+use Rattle.course.specs.{Course.Course, Turns.open_step}
+use Rattle.fabric.specs.{Desks.Desk, Desks.all_lent, Fabric.Fabric, Fabric.awaits_lent, Fabric.next_fabric_step, Writers.FitTogether, Writers.fabric_seen}
 use Rattle.fabric.proofs.fabric.Fabric.turn_from.Goals as goal
 
 -- the course is what it was

@@ -1,8 +1,7 @@
 use Rattle.std.proofs.Common.{◌≡◌, ◌∙◌, ◌+◌, Ok, None, Some, false, IfSome, MatchOption, ap, subst, sym, arith}
 use Rattle.network_model.specs.declared.step.Step.TheVariants.{Publish}
 use Rattle.fabric.specs.Fabric.{Fabric, fabric_refusal, next_fabric_step}
-use Rattle.guarded.specs.Served.{IsTurn}
-use Rattle.guarded.specs.Shares.{owes}
+use Rattle.guarded.specs.{Served.IsTurn, Shares.owes}
 use Rattle.guarded.proofs.guarded.Guarded.begin.Goals as goal
 
 pub take_turn-requires : goal.take_turn-requires

@@ -3,9 +3,8 @@ use Rattle.network_model.proofs.Common.{sum_by_push, Lawful, Fits, journal_sum, 
 use Rattle.network_model.specs.declared.step.Step.TheVariants.{Publish}
 use Rattle.publication.specs.Outings.{Outing}
 use Rattle.fabric.specs.Fabric.{Fabric, after_step, count_lent, is_lent, with_lent}
-use Rattle.guarded.proofs.WritersOut.{count_in}
+use Rattle.guarded.proofs.{WritersOut.count_in, Served.served_published, Served.served_unpublished}
 use Rattle.guarded.specs.Served.{IsServed}
-use Rattle.guarded.proofs.Served.{served_published, served_unpublished}
 use Rattle.guarded.proofs.guarded.Guarded.finish.Goals as goal
 use Rattle.guarded.proofs.guarded.Guarded.finish.Goals.{then-published, else-published}
 

@@ -1,6 +1,5 @@
 use Rattle.std.proofs.Common.{sym, subst, ◌∙◌, ap}
-use Rattle.network_model.specs.declared.trace.Ending.TheVariants.{Crossed}
-use Rattle.network_model.specs.declared.trace.Trace.{Trace as Traced}
+use Rattle.network_model.specs.{declared.trace.Ending.TheVariants.Crossed, declared.trace.Trace.Trace as Traced}
 use Rattle.interpreter.specs.Traces.{IsTrace, crossing_on}
 use Rattle.interpreter.proofs.Crossings.{cut_short, uncrossed}
 use Rattle.interpreter.proofs.counted.CountedLive.trace.Goals as goal

@@ -1,6 +1,5 @@
 use Rattle.std.proofs.Common.{◌≡◌, ◌-◌, ◌*◌, ◌/◌, ◌%◌, ◌^◌, ◌∙◌, arith, ap, eq-eqb}
-use Rattle.std.proofs.Math.Nat.{div-mul-le_self}
-use Rattle.std.proofs.lemmas.Nat.{shl-shr}
+use Rattle.std.proofs.{Math.Nat.div-mul-le_self, lemmas.Nat.shl-shr}
 use Rattle.ipv4_prefix.proofs.prefix.Prefix.covering.Goals as goal
 
 pub returns-clause-covers : goal.returns-clause-covers

@@ -1,8 +1,7 @@
 use Rattle.std.proofs.Common.{[], ◌∷◌, ◌∙◌, Some, codes, decimal, sym, ap}
 use Rattle.std.proofs.Output.{has_written_of_eq}
 use Rattle.script.specs.Directories.{name_text}
-use Rattle.lines.specs.Texts.{asked_text}
-use Rattle.lines.specs.Objects.{answer_json, asked_json, found_json}
+use Rattle.lines.specs.{Texts.asked_text, Objects.answer_json, Objects.asked_json, Objects.found_json}
 use Rattle.lines.proofs.Joined.{as_json, pieced}
 use Rattle.lines.proofs.answers.ToldAskedDisplay.fmt.Goals as goal
 

@@ -1,7 +1,6 @@
 use Rattle.std.proofs.Common.{[], ◌∷◌, ◌∙◌, codes, decimal, sym, ap}
 use Rattle.std.proofs.Output.{has_written_of_eq}
-use Rattle.lines.specs.Texts.{ended_text, fault_text}
-use Rattle.lines.specs.Objects.{ended_json}
+use Rattle.lines.specs.{Texts.ended_text, Texts.fault_text, Objects.ended_json}
 use Rattle.lines.proofs.Joined.{as_json, pieced}
 use Rattle.lines.proofs.ends.ToldEndedDisplay.fmt.Goals as goal
 

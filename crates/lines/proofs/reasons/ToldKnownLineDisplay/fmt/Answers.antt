@@ -2,8 +2,7 @@ use Rattle.std.proofs.Common.{[], ◌∷◌, ◌∙◌, Some, codes, decimal, sy
 use Rattle.std.proofs.Output.{has_written_of_eq}
 use Rattle.ipv4_prefix.specs.Texts.{prefix_text}
 use Rattle.script.specs.Directories.{name_text}
-use Rattle.lines.specs.Texts.{known_text}
-use Rattle.lines.specs.Objects.{known_json, over_link_json, router_name_json}
+use Rattle.lines.specs.{Texts.known_text, Objects.known_json, Objects.over_link_json, Objects.router_name_json}
 use Rattle.lines.proofs.Joined.{as_json, pieced}
 use Rattle.lines.proofs.reasons.ToldKnownLineDisplay.fmt.Goals as goal
 

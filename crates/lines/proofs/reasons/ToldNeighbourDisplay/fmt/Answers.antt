@@ -1,7 +1,6 @@
 use Rattle.std.proofs.Common.{[], ◌∷◌, ◌++◌, ◌∙◌, if◌then◌else◌, codes, decimal, sym, ap}
 use Rattle.std.proofs.Output.{has_written_of_eq}
-use Rattle.lines.specs.Texts.{over_link_text}
-use Rattle.lines.specs.Objects.{distance_json, over_link_json}
+use Rattle.lines.specs.{Texts.over_link_text, Objects.distance_json, Objects.over_link_json}
 use Rattle.lines.proofs.Joined.{as_json, pieced}
 use Rattle.lines.proofs.reasons.ToldNeighbourDisplay.fmt.Goals as goal
 

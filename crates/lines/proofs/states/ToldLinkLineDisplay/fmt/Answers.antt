@@ -1,8 +1,7 @@
 use Rattle.std.proofs.Common.{[], ◌∷◌, Some, codes, decimal}
 use Rattle.std.proofs.Output.{has_written_of_eq}
 use Rattle.script.specs.Directories.{name_text}
-use Rattle.lines.specs.Texts.{link_text, loads_text, up_text}
-use Rattle.lines.specs.Objects.{flag_json, link_json, loads_json}
+use Rattle.lines.specs.{Texts.link_text, Texts.loads_text, Texts.up_text, Objects.flag_json, Objects.link_json, Objects.loads_json}
 use Rattle.lines.proofs.Joined.{as_json, for_people, pieced}
 use Rattle.lines.proofs.states.ToldLinkLineDisplay.fmt.Goals as goal
 

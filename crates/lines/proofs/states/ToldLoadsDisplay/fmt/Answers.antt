@@ -1,7 +1,6 @@
 use Rattle.std.proofs.Common.{[], ◌∷◌, codes, decimal}
 use Rattle.std.proofs.Output.{has_written_of_eq}
-use Rattle.lines.specs.Texts.{loads_text}
-use Rattle.lines.specs.Objects.{loads_json}
+use Rattle.lines.specs.{Texts.loads_text, Objects.loads_json}
 use Rattle.lines.proofs.Joined.{as_json, for_people, pieced}
 use Rattle.lines.proofs.states.ToldLoadsDisplay.fmt.Goals as goal
 

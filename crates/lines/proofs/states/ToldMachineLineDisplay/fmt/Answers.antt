@@ -2,8 +2,7 @@ use Rattle.std.proofs.Common.{[], ◌∷◌, Some, codes}
 use Rattle.std.proofs.Output.{has_written_of_eq}
 use Rattle.ipv4_prefix.specs.Texts.{prefix_text}
 use Rattle.script.specs.Directories.{name_text}
-use Rattle.lines.specs.Texts.{entry_text, machine_text, state_text}
-use Rattle.lines.specs.Objects.{entry_json, machine_json, state_json}
+use Rattle.lines.specs.{Texts.entry_text, Texts.machine_text, Texts.state_text, Objects.entry_json, Objects.machine_json, Objects.state_json}
 use Rattle.lines.proofs.Joined.{as_json, for_people, pieced}
 use Rattle.lines.proofs.states.ToldMachineLineDisplay.fmt.Goals as goal
 

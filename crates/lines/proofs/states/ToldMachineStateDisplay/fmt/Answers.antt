@@ -1,7 +1,6 @@
 use Rattle.std.proofs.Common.{[], ◌∷◌, codes}
 use Rattle.std.proofs.Output.{has_written_of_eq}
-use Rattle.lines.specs.Texts.{state_text}
-use Rattle.lines.specs.Objects.{distance_json, number_json, state_json}
+use Rattle.lines.specs.{Texts.state_text, Objects.distance_json, Objects.number_json, Objects.state_json}
 use Rattle.lines.proofs.Joined.{as_json, pieced}
 use Rattle.lines.proofs.states.ToldMachineStateDisplay.fmt.Goals as goal
 

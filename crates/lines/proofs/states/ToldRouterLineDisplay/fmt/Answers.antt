@@ -1,8 +1,7 @@
 use Rattle.std.proofs.Common.{[], ◌∷◌, Some, codes, decimal}
 use Rattle.std.proofs.Output.{has_written_of_eq}
 use Rattle.script.specs.Directories.{name_text}
-use Rattle.lines.specs.Texts.{router_text}
-use Rattle.lines.specs.Objects.{router_json}
+use Rattle.lines.specs.{Texts.router_text, Objects.router_json}
 use Rattle.lines.proofs.Joined.{as_json, for_people, pieced}
 use Rattle.lines.proofs.states.ToldRouterLineDisplay.fmt.Goals as goal
 

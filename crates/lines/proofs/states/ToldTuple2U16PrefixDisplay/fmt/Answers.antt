@@ -2,8 +2,7 @@ use Rattle.std.proofs.Common.{[], ◌∷◌, Some, codes}
 use Rattle.std.proofs.Output.{has_written_of_eq}
 use Rattle.ipv4_prefix.specs.Texts.{prefix_text}
 use Rattle.script.specs.Directories.{name_text}
-use Rattle.lines.specs.Texts.{unheard_text}
-use Rattle.lines.specs.Objects.{unheard_json}
+use Rattle.lines.specs.{Texts.unheard_text, Objects.unheard_json}
 use Rattle.lines.proofs.Joined.{as_json, pieced}
 use Rattle.lines.proofs.states.ToldTuple2U16PrefixDisplay.fmt.Goals as goal
 

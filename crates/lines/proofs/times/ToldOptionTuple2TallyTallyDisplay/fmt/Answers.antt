@@ -1,7 +1,6 @@
 use Rattle.std.proofs.Common.{[], ◌∷◌, ◌∙◌, codes, decimal, sym, ap}
 use Rattle.std.proofs.Output.{has_written_of_eq}
-use Rattle.lines.specs.Texts.{tallies_text}
-use Rattle.lines.specs.Objects.{tallies_json}
+use Rattle.lines.specs.{Texts.tallies_text, Objects.tallies_json}
 use Rattle.lines.proofs.Joined.{as_json, for_people, pieced}
 use Rattle.lines.proofs.times.ToldOptionTuple2TallyTallyDisplay.fmt.Goals as goal
 

@@ -1,8 +1,7 @@
 use Rattle.std.proofs.Common.{[], ◌∷◌, codes, decimal}
 use Rattle.std.proofs.Output.{has_written_of_eq}
 use Rattle.journal.specs.Steps.{step_text}
-use Rattle.lines.specs.Texts.{came_text, change_text}
-use Rattle.lines.specs.Objects.{came_json, change_json}
+use Rattle.lines.specs.{Texts.came_text, Texts.change_text, Objects.came_json, Objects.change_json}
 use Rattle.lines.proofs.Joined.{as_json, for_people, pieced}
 use Rattle.lines.proofs.times.ToldRefChangeLineDisplay.fmt.Goals as goal
 

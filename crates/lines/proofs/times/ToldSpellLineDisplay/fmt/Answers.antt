@@ -2,8 +2,7 @@ use Rattle.std.proofs.Common.{[], ◌∷◌, Some, codes, decimal}
 use Rattle.std.proofs.Output.{has_written_of_eq}
 use Rattle.ipv4_prefix.specs.Texts.{prefix_text}
 use Rattle.script.specs.Directories.{name_text}
-use Rattle.lines.specs.Texts.{spell_text, spell_word}
-use Rattle.lines.specs.Objects.{spell_json}
+use Rattle.lines.specs.{Texts.spell_text, Texts.spell_word, Objects.spell_json}
 use Rattle.lines.proofs.Joined.{as_json, for_people, pieced}
 use Rattle.lines.proofs.times.ToldSpellLineDisplay.fmt.Goals as goal
 

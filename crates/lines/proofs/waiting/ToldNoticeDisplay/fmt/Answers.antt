@@ -1,8 +1,7 @@
 use Rattle.std.proofs.Common.{[], ◌∷◌, ◌∙◌, codes, decimal, sym, ap}
 use Rattle.std.proofs.Output.{has_written_of_eq}
 use Rattle.ipv4_prefix.specs.Texts.{prefix_text}
-use Rattle.lines.specs.Texts.{notice_text}
-use Rattle.lines.specs.Objects.{attachment_json, notice_json}
+use Rattle.lines.specs.{Texts.notice_text, Objects.attachment_json, Objects.notice_json}
 use Rattle.lines.proofs.Joined.{as_json, pieced}
 use Rattle.lines.proofs.waiting.ToldNoticeDisplay.fmt.Goals as goal
 

@@ -1,7 +1,6 @@
 use Rattle.std.proofs.Common.{[], ◌∷◌, ◌∙◌, codes, decimal, sym, ap}
 use Rattle.std.proofs.Output.{has_written_of_eq}
-use Rattle.lines.specs.Texts.{item_text}
-use Rattle.lines.specs.Objects.{item_json}
+use Rattle.lines.specs.{Texts.item_text, Objects.item_json}
 use Rattle.lines.proofs.Joined.{as_json, pieced}
 use Rattle.lines.proofs.waiting.ToldTuple2U16ItemDisplay.fmt.Goals as goal
 

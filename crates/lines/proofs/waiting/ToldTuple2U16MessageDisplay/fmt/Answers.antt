@@ -1,8 +1,7 @@
 use Rattle.std.proofs.Common.{[], ◌∷◌, codes, decimal}
 use Rattle.std.proofs.Output.{has_written_of_eq}
 use Rattle.ipv4_prefix.specs.Texts.{prefix_text}
-use Rattle.lines.specs.Texts.{kind_text, message_text}
-use Rattle.lines.specs.Objects.{distance_json, message_json}
+use Rattle.lines.specs.{Texts.kind_text, Texts.message_text, Objects.distance_json, Objects.message_json}
 use Rattle.lines.proofs.Joined.{as_json, pieced}
 use Rattle.lines.proofs.waiting.ToldTuple2U16MessageDisplay.fmt.Goals as goal
 

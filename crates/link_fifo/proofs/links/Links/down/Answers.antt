@@ -1,8 +1,7 @@
 use Rattle.std.proofs.Common.{ap}
 use Rattle.network_model.specs.Step as step
 use Rattle.link_fifo.specs.Side.{LinksAndRooms}
-use Rattle.link_fifo.proofs.Changes.{written_in}
-use Rattle.link_fifo.proofs.Rooms.{rooms_written}
+use Rattle.link_fifo.proofs.{Changes.written_in, Rooms.rooms_written}
 use Rattle.link_fifo.proofs.links.Links.down.Goals as goal
 
 pub returns-clause-ok : goal.returns-clause-ok

@@ -1,11 +1,9 @@
 use Rattle.std.proofs.Common.{◌≡◌, true, false, refl, sym, ap, arith, rules}
 use Rattle.network_model.specs.Step as step
-use Rattle.link_fifo.specs.Refusals.{sent_in}
+use Rattle.link_fifo.specs.{Refusals.sent_in, Side.LinksAndRooms}
 use Rattle.network_model.specs.World.{other}
-use Rattle.link_fifo.specs.Side.{LinksAndRooms}
 use Rattle.link_fifo.proofs.Changes.{written_in, kept_in, slice_get-read_in, IfSome-holds, changed_at-stale}
-use Rattle.link_fifo.proofs.Rooms.{rooms_written, no_room}
-use Rattle.link_fifo.proofs.Answers.{OnErr-always, AnswersPut-known}
+use Rattle.link_fifo.proofs.{Rooms.rooms_written, Rooms.no_room, Answers.OnErr-always, Answers.AnswersPut-known}
 use Rattle.link_fifo.proofs.links.Links.put.Goals as goal
 
 pub returns-then-not-is_up_in-clause-ok : goal.returns-then-not-is_up_in-clause-ok

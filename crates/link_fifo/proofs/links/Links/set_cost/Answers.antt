@@ -1,9 +1,7 @@
 use Rattle.std.proofs.Common.{ap}
 use Rattle.network_model.specs.Step as step
 use Rattle.link_fifo.specs.Side.{LinksAndRooms}
-use Rattle.link_fifo.proofs.Changes.{written_in, kept_in}
-use Rattle.link_fifo.proofs.Answers.{OnErr-always}
-use Rattle.link_fifo.proofs.Rooms.{rooms_written, no_room}
+use Rattle.link_fifo.proofs.{Changes.written_in, Changes.kept_in, Answers.OnErr-always, Rooms.rooms_written, Rooms.no_room}
 use Rattle.link_fifo.proofs.links.Links.set_cost.Goals as goal
 
 pub returns-clause-ok : goal.returns-clause-ok

@@ -1,9 +1,7 @@
 use Rattle.std.proofs.Common.{ap}
 use Rattle.network_model.specs.Step as step
 use Rattle.link_fifo.specs.Side.{LinksAndRooms}
-use Rattle.link_fifo.proofs.Changes.{written_in, kept_in}
-use Rattle.link_fifo.proofs.Answers.{OnOk-always, OnErr-nothing}
-use Rattle.link_fifo.proofs.Rooms.{rooms_written}
+use Rattle.link_fifo.proofs.{Changes.written_in, Changes.kept_in, Answers.OnOk-always, Answers.OnErr-nothing, Rooms.rooms_written}
 use Rattle.link_fifo.proofs.links.Links.take.Goals as goal
 
 pub returns-clause-ok : goal.returns-clause-ok

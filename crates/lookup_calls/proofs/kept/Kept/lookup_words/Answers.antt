@@ -1,6 +1,5 @@
 use Rattle.std.proofs.Common.{rules, ◌∙◌, replicate, ap}
-use Rattle.lookup_calls.specs.Rows.{answer_words}
-use Rattle.lookup_calls.specs.Tables.{no_word}
+use Rattle.lookup_calls.specs.{Rows.answer_words, Tables.no_word}
 use Rattle.lookup_calls.proofs.Wordless.{its_table, wordless_words}
 use Rattle.lookup_calls.proofs.kept.Kept.lookup_words.Goals as goal
 

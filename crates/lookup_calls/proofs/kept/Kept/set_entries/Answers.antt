@@ -1,8 +1,7 @@
 use Rattle.std.proofs.Common.{◌≡◌, ◌∙◌, OnOk, ap, sym, subst}
 use Rattle.std.proofs.lemmas.Result.{on_ok_weaker}
 use Rattle.row_words.specs.Rows.{WordTable, with_marked}
-use Rattle.lookup_calls.specs.Kept.{form_table, IsInOrder}
-use Rattle.lookup_calls.specs.Tables.{wordless_rows}
+use Rattle.lookup_calls.specs.{Kept.form_table, Kept.IsInOrder, Tables.wordless_rows}
 use Rattle.lookup_calls.proofs.Wordless.{set_in_table, sorted_either, words_table}
 use Rattle.lookup_calls.proofs.kept.Kept.set_entries.Goals as goal
 use Rattle.lookup_calls.proofs.kept.Kept.set_entries.Goals.{in-Plain, in-Words}

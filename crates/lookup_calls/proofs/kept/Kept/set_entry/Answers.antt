@@ -3,8 +3,7 @@ use Rattle.std.specs.FinMap.{put}
 use Rattle.std.proofs.lemmas.Result.{on_ok_weaker}
 use Rattle.ipv4_prefix.specs.Prefix.{prefix_cmp}
 use Rattle.row_words.specs.Rows.{WordTable}
-use Rattle.lookup_calls.specs.Kept.{form_table, IsInOrder}
-use Rattle.lookup_calls.specs.Tables.{wordless}
+use Rattle.lookup_calls.specs.{Kept.form_table, Kept.IsInOrder, Tables.wordless}
 use Rattle.lookup_calls.proofs.Wordless.{set_in_table, sorted_either, words_table}
 use Rattle.lookup_calls.proofs.kept.Kept.set_entry.Goals as goal
 use Rattle.lookup_calls.proofs.kept.Kept.set_entry.Goals.{in-Plain, in-Words}

@@ -14,9 +14,8 @@ use denote.Triple.Walked.{Stays, stay_dropped, Goes-dropped, walk_of, ends_at, s
 use Rattle.std.proofs.raw_atomic.Walks.{proved}
 use Rattle.std_heap.proofs.Global.TheLaws as heap_laws
 use Rattle.c_interface.proofs.Handles.{Heap, heap_bits, heap_fits, bits, leaves_result}
-use Rattle.lookup_ffi.proofs.WriterWords.{Handle, fits, handle_had}
+use Rattle.lookup_ffi.proofs.{WriterWords.Handle, WriterWords.fits, WriterWords.handle_had, writer_handle.WriterHandle.none.Statement.statement}
 use Rattle.lookup_ffi.specs.contracts.writer_handle.WriterHandle.none as f
-use Rattle.lookup_ffi.proofs.writer_handle.WriterHandle.none.Statement.{statement}
 use Rattle.lookup_ffi.proofs.writer_handle.WriterHandle.none.Code as code
 
 abbrev stayed : Stays f.ended.signature.params f.ended.kept

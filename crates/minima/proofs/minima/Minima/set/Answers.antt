@@ -1,6 +1,5 @@
 use Rattle.std.proofs.Common.{◌+◌, ◌∙◌, arith, ap, drop, length, set}
-use Rattle.minima.proofs.Nodes.{moments_length}
-use Rattle.minima.proofs.Written.{moments_written, tree_written}
+use Rattle.minima.proofs.{Nodes.moments_length, Written.moments_written, Written.tree_written}
 use Rattle.minima.proofs.minima.Minima.set.Goals as goal
 
 pub write-requires-clause-router : goal.write-requires-clause-router

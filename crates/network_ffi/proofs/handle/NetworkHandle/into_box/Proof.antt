@@ -25,22 +25,17 @@ use denote.Triple.Spec.{triple_of}
 use denote.Triple.Table.{framed}
 use denote.Triple.Walked.{Stays, stay_dropped, Goes-dropped, walk_of, ends_at, says}
 use Rattle.std.proofs.raw_atomic.Walks.{proved}
-use Rattle.core.proofs.atomic.Steps.{Ptr-Good}
-use Rattle.core.proofs.cell.Inside.{Good}
-use Rattle.core.proofs.option.Made.{Some-of, none_of}
-use Rattle.std_alloc.proofs.ResultValues.{and_tt}
+use Rattle.core.proofs.{atomic.Steps.Ptr-Good, cell.Inside.Good, option.Made.Some-of, option.Made.none_of}
+use Rattle.std_alloc.proofs.{ResultValues.and_tt, boxed.Box.from_raw.Met.met}
 use Rattle.std_alloc.specs.contracts.boxed.Box.from_raw as g
-use Rattle.std_alloc.proofs.boxed.Box.from_raw.Met.{met}
-use Rattle.std_heap.proofs.Calls.{T_true, T_false}
+use Rattle.std_heap.proofs.{Calls.T_true, Calls.T_false, GlobalAllocator.TheImpl.Met.passed}
 use Rattle.std_heap.specs.contracts.GlobalAllocator.TheImpl.{ghosts, dict}
-use Rattle.std_heap.proofs.GlobalAllocator.TheImpl.Met.{passed}
 use Rattle.c_interface.specs.Handles.{held, held_owns}
 use Rattle.c_interface.proofs.Handles.{HeapArg, heap_laws, tokens, heap_bits, heap_fits, heap_had, bits, leaves_result}
 use Rattle.network_ffi.proofs.Words.{Inner, Boxed, Handle, boxed_laws, RunningArg, running_laws, drops_heap, hands, fits}
 use Rattle.network_ffi.proofs.Destruct++none.drop.Symbol.{glues}
 use Rattle.network_ffi.specs.contracts.handle.NetworkHandle.into_box as f
-use Rattle.network_ffi.proofs.handle.NetworkHandle.TheLaws.{lowers}
-use Rattle.network_ffi.proofs.handle.NetworkHandle.into_box.Statement.{statement}
+use Rattle.network_ffi.proofs.{handle.NetworkHandle.TheLaws.lowers, handle.NetworkHandle.into_box.Statement.statement}
 use Rattle.network_ffi.proofs.handle.NetworkHandle.into_box.Code as code
 
 abbrev stayed : Stays f.ended.signature.params f.ended.kept

@@ -14,10 +14,9 @@ use denote.Triple.Walked.{Stays, stay_dropped, Goes-dropped, walk_of, ends_at, s
 use Rattle.std.proofs.raw_atomic.Walks.{proved}
 use Rattle.std_heap.proofs.Global.TheLaws as heap_laws
 use Rattle.c_interface.proofs.Handles.{Heap, heap_bits, heap_fits, bits, leaves_result}
-use Rattle.network_ffi.proofs.Words.{Handle, fits, handle_had}
+use Rattle.network_ffi.proofs.{Words.Handle, Words.fits, Words.handle_had, handle.NetworkHandle.none.Statement.statement}
 use Rattle.network_ffi.specs.Handles.{nothing_held}
 use Rattle.network_ffi.specs.contracts.handle.NetworkHandle.none as f
-use Rattle.network_ffi.proofs.handle.NetworkHandle.none.Statement.{statement}
 use Rattle.network_ffi.proofs.handle.NetworkHandle.none.Code as code
 
 abbrev stayed : Stays f.ended.signature.params f.ended.kept

@@ -1,6 +1,5 @@
 use Rattle.std.proofs.Common.{◌-◌, arith, rules}
-use Rattle.node_pool.specs.FreeLists.{free_list}
-use Rattle.node_pool.specs.declared.cells.Cell.TheVariants.{Free}
+use Rattle.node_pool.specs.{FreeLists.free_list, declared.cells.Cell.TheVariants.Free}
 use Rattle.node_pool.proofs.Blocks.{used_within, filled_put, few_spare, give_linked}
 use Rattle.node_pool.proofs.pool.Pool.give.Goals as goal
 

@@ -1,7 +1,5 @@
 use Rattle.std.proofs.Common.{◌+◌, ◌-◌, is_some, ap, arith, ◌∙◌, is_ok, vec_len, if◌then◌else◌}
-use Rattle.node_pool.specs.Cell.{value_of, next_free}
-use Rattle.node_pool.specs.FreeLists.{free_list}
-use Rattle.node_pool.specs.declared.cells.Cell.TheVariants.{Used}
+use Rattle.node_pool.specs.{Cell.value_of, Cell.next_free, FreeLists.free_list, declared.cells.Cell.TheVariants.Used}
 use Rattle.node_pool.proofs.Blocks.{head_within, head_read, head_free, head_fresh, filled_put, take_linked, longer_or_same, more_linked}
 use Rattle.node_pool.proofs.pool.Pool.take.Goals as goal
 

@@ -1,9 +1,7 @@
 use Rattle.std.proofs.Common.{◌≡◌, ◌≤◌, ◌-◌, [], All, vec_len}
 use Rattle.std.specs.Vec.{vec_capacity}
-use Rattle.crossbeam_channel.specs.Claims.{view, IsSeatAt}
-use Rattle.crossbeam_channel.specs.Ends.{sends_on, receives_on}
-use Rattle.packet_queue.specs.Hands.{hand}
-use Rattle.packet_queue.specs.Ends.{queue_name, IsFresh}
+use Rattle.crossbeam_channel.specs.{Claims.view, Claims.IsSeatAt, Ends.sends_on, Ends.receives_on}
+use Rattle.packet_queue.specs.{Hands.hand, Ends.queue_name, Ends.IsFresh}
 use Rattle.packet_queue.proofs.queue.PacketQueue.new.Given as goal
 
 -- each taker has a part, and the rest is the injector's

@@ -1,7 +1,6 @@
 use Rattle.std.proofs.Common.{subst, rules}
 use Rattle.publication.specs.Lists.{Begins}
-use Rattle.publication.proofs.Beginnings.{begins_self}
-use Rattle.publication.proofs.Ruling.{stays_on}
+use Rattle.publication.proofs.{Beginnings.begins_self, Ruling.stays_on}
 use Rattle.publication.proofs.reader.ImageReader.lookup_held.Goals as goal
 
 pub enter_as-requires : goal.enter_as-requires

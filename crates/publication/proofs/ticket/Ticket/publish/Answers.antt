@@ -1,7 +1,6 @@
 use Rattle.std.proofs.Common.{◌≡◌, ◌⊎◌, ◌∙◌, ◌++◌, ◌∷◌, [], ap, subst, rules}
 use Rattle.network_model.specs.Publication.{Patch}
-use Rattle.publication.specs.Lists.{patch_of}
-use Rattle.publication.specs.Outings.{Outing}
+use Rattle.publication.specs.{Lists.patch_of, Outings.Outing}
 use Rattle.publication.proofs.Outings.{out_still}
 use Rattle.publication.proofs.ticket.Ticket.publish.Goals as goal
 

@@ -1,7 +1,6 @@
 use Rattle.std.proofs.Common.{◌≡◌, ◌++◌, ◌∷◌, [], map, sym, ◌∙◌, ap}
 use Rattle.receipts.specs.Logs.{head_of}
-use Rattle.publication.specs.Lists.{bundle_of, patch_of}
-use Rattle.publication.specs.Names.{book_of}
+use Rattle.publication.specs.{Lists.bundle_of, Lists.patch_of, Names.book_of}
 use Rattle.publication.proofs.Tables.{generation-more}
 use Rattle.publication.proofs.told.Told.add.Goals as goal
 

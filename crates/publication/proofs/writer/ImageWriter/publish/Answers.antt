@@ -2,8 +2,7 @@ use Rattle.std.proofs.Common.{rules, ◌≡◌, ◌++◌, ◌∷◌, [], List, l
 use Rattle.image_patch.specs.declared.Patch.{Patch as PatchFields}
 use Rattle.publication.specs.declared.known.Known.{Known}
 use Rattle.publication.specs.Lists.{Writing, bundle_of, generation_of, image_of, patch_of, patched_prefixes, with_publication}
-use Rattle.publication.proofs.Tables.{image-covered, numbered-more}
-use Rattle.publication.proofs.Waiting.{waits_too}
+use Rattle.publication.proofs.{Tables.image-covered, Tables.numbered-more, Waiting.waits_too}
 use Rattle.publication.proofs.writer.ImageWriter.publish.Goals as goal
 
 pub invariant_of-self-in_err-publish : goal.invariant_of-self-in_err-publish

@@ -1,11 +1,9 @@
 use Rattle.std.proofs.Common.{sym, ap, subst, ◌∙◌, ◌≡◌, ◌↔◌, ℕ, Bool, true, List, length, rules}
-use Rattle.std.specs.Vec.{with_items}
-use Rattle.std.specs.declared.vec.Vec.{Vec}
+use Rattle.std.specs.{Vec.with_items, declared.vec.Vec.Vec}
 use Rattle.std.proofs.lemmas.List.{with_items_is}
 use Rattle.ipv4_prefix.specs.Prefix.{Prefix}
 use Rattle.network_model.specs.World.{World}
-use Rattle.reachability.specs.Ways.{HasWay, Reaches}
-use Rattle.reachability.specs.Marks.{Marks, is_in}
+use Rattle.reachability.specs.{Ways.HasWay, Ways.Reaches, Marks.Marks, Marks.is_in}
 use Rattle.reachability.proofs.Laws.{AreMarks, found, told, unmarked_at_best}
 use Rattle.reachability.proofs.cut_off.CutOff.look.Goals as goal
 

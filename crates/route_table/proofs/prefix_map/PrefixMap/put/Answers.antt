@@ -1,6 +1,5 @@
 use Rattle.std.proofs.Common.{ap, ◌∙◌, arith}
-use Rattle.std.specs.FinMap.{is_sorted}
-use Rattle.std.specs.Result.{is_ok}
+use Rattle.std.specs.{FinMap.is_sorted, Result.is_ok}
 use Rattle.ipv4_prefix.specs.Prefix.{prefix_cmp}
 use Rattle.route_table.proofs.PrefixPlaces.{written_row, sorted-written, new_row, sorted-insert, room_for_row}
 use Rattle.route_table.proofs.prefix_map.PrefixMap.put.Goals as goal

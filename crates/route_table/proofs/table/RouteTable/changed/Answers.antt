@@ -2,8 +2,7 @@ use Rattle.std.proofs.Common.{ap, ◌∙◌}
 use Rattle.std.specs.FinMap.{is_sorted}
 use Rattle.ipv4_prefix.specs.Prefix.{prefix_cmp}
 use Rattle.network_model.specs.Publication.{with_rows}
-use Rattle.route_table.proofs.Patched.{patched_at}
-use Rattle.route_table.proofs.RowReads.{changed_at}
+use Rattle.route_table.proofs.{Patched.patched_at, RowReads.changed_at}
 use Rattle.route_table.proofs.table.RouteTable.changed.Goals as goal
 
 pub returns-clause-all : goal.returns-clause-all

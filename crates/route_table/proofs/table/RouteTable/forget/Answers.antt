@@ -1,6 +1,5 @@
 use Rattle.std.proofs.Common.{arith}
-use Rattle.route_table.proofs.Forgotten.{table-without, length-without}
-use Rattle.route_table.proofs.Kept.{kept_without}
+use Rattle.route_table.proofs.{Forgotten.table-without, Forgotten.length-without, Kept.kept_without}
 use Rattle.route_table.proofs.table.RouteTable.forget.Goals as goal
 
 pub invariant_of-self : goal.invariant_of-self

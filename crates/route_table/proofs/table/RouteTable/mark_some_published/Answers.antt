@@ -1,11 +1,9 @@
 use Rattle.std.proofs.Common.{◌≡◌, take, min, length, sym, ap, ◌∙◌}
 use Rattle.std.proofs.lemmas.List.{take_min}
-use Rattle.network_model.specs.Step.{changed_rows}
-use Rattle.network_model.specs.Publication.{with_rows}
+use Rattle.network_model.specs.{Step.changed_rows, Publication.with_rows}
 use Rattle.route_table.specs.Parts.{with_some_published}
 use Rattle.route_table.specs.Rows.{TableAndRoom, control_rows, published_rows, table_of, differing_rows, with_in_force}
-use Rattle.route_table.proofs.Changed.{changed_rows-table_of}
-use Rattle.route_table.proofs.PublishedInPart.{table-first}
+use Rattle.route_table.proofs.{Changed.changed_rows-table_of, PublishedInPart.table-first}
 use Rattle.route_table.proofs.Kept.{first_in_force, length-first_in_force, first_fits, kept_some_published}
 use Rattle.route_table.proofs.table.RouteTable.mark_some_published.Goals as goal
 

@@ -1,8 +1,7 @@
 use Rattle.std.proofs.Common.{ap, ◌∙◌}
 use Rattle.std.specs.FinMap.{is_sorted}
 use Rattle.ipv4_prefix.specs.Prefix.{prefix_cmp}
-use Rattle.route_table.specs.declared.row.Row.{Row}
-use Rattle.route_table.specs.Rows.{control_rows}
+use Rattle.route_table.specs.{declared.row.Row.Row, Rows.control_rows}
 use Rattle.network_model.proofs.RowLaws.{sorted-map}
 use Rattle.route_table.proofs.table.RouteTable.rows.Goals as goal
 

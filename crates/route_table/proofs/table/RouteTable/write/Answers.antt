@@ -1,12 +1,10 @@
 use Rattle.std.proofs.Common.{sym, ◌∙◌, subst, IsSome, refl, arith}
 use Rattle.std.specs.FinMap.{find as row_of}
 use Rattle.ipv4_prefix.specs.Prefix.{prefix_cmp}
-use Rattle.route_table.specs.declared.row.Row.{Row}
-use Rattle.route_table.specs.Rows.{TableAndRoom}
+use Rattle.route_table.specs.{declared.row.Row.Row, Rows.TableAndRoom}
 use Rattle.network_model.proofs.RowLaws.{map-put}
-use Rattle.route_table.proofs.InForce.{published-put}
+use Rattle.route_table.proofs.{InForce.published-put, RowReads.published_at, RowReads.room_at}
 use Rattle.route_table.proofs.Kept.{row_fits, change_fits, kept_put, length-put_known, length-put_at_most}
-use Rattle.route_table.proofs.RowReads.{published_at, room_at}
 use Rattle.route_table.proofs.table.RouteTable.write.Goals as goal
 
 pub put-requires : goal.put-requires

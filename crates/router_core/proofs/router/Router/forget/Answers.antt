@@ -3,8 +3,7 @@ use Rattle.network_model.proofs.Common.{Prefix, prefix_cmp, sorted-map, Router}
 use Rattle.dual_machine.specs.State.{MachineState}
 use Rattle.route_table.specs.Place.{without}
 use Rattle.route_table.proofs.Forgotten.{map-without}
-use Rattle.router_core.specs.Alone.{router_forgetting}
-use Rattle.router_core.specs.Parts.{router_of, machines_of, IsRouter}
+use Rattle.router_core.specs.{Alone.router_forgetting, Parts.router_of, Parts.machines_of, Parts.IsRouter}
 use Rattle.router_core.proofs.Kept.{kept-forgetting}
 use Rattle.router_core.proofs.router.Router.forget.Given as given
 use Rattle.router_core.proofs.router.Router.forget.Goals as goal

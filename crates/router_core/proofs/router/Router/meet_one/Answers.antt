@@ -1,17 +1,12 @@
 use Rattle.std.proofs.Common.{◌≡◌, ℕ, inl, option_map, ◌+◌, ◌≤◌, ◌++◌, true, None, length, set, List, Ok, Err, Some, sym, ap, subst, ◌∙◌, arith, refl, false, Bool, ◌||◌, nat_lt, map, is_some}
 use Rattle.network_model.proofs.Common.{nat_tests, Prefix, prefix_cmp, reaction, opening_machine, Router, machine_of, neighbours, router_meeting, entry_of, held_of, sorted-map, find-map, insert, find as row_of, put, is_sorted}
 use Rattle.network_model.specs.declared.network.Port.{Port}
-use Rattle.dual_machine.specs.State.{MachineState}
-use Rattle.dual_machine.specs.Event.{IsKnown, IsTimely}
-use Rattle.dual_machine.specs.Outbox.{most_sent}
+use Rattle.dual_machine.specs.{State.MachineState, Event.IsKnown, Event.IsTimely, Outbox.most_sent}
 use Rattle.route_table.specs.Place.{IsPlace}
 use Rattle.route_table.proofs.PrefixPlaces.{found_row, written_row, missed_row, new_row}
 use Rattle.router_core.specs.Parts.{machines_of, router_of, ups, port_ups, ups_after, IsRouter}
 use Rattle.router_core.specs.Router.{is_port_up}
-use Rattle.router_core.proofs.Refused.{gave_up}
-use Rattle.router_core.proofs.Ports.{ups-neighbours}
-use Rattle.router_core.proofs.Kept.{kept-meeting}
-use Rattle.router_core.proofs.Opening.{machines_of-put}
+use Rattle.router_core.proofs.{Refused.gave_up, Ports.ups-neighbours, Kept.kept-meeting, Opening.machines_of-put}
 use Rattle.router_core.proofs.Notices.{has_ports_at, timely_over, known_over, most_sent_over, meeting_parts, machine_there, machine_new, row_known}
 use Rattle.router_core.proofs.router.Router.meet_one.Goals as goal
 use Rattle.router_core.proofs.router.Router.meet_one.Given as given

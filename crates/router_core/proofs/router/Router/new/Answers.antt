@@ -1,8 +1,6 @@
 use Rattle.std.proofs.Common.{◌≡◌, ℕ, Some, sym, ap, subst, ◌∙◌, arith, ◌-◌, drop, map, List}
 use Rattle.network_model.proofs.Common.{put, is_sorted, AllByRecursion, chosen_rows, Prefix, prefix_cmp, Machine, opening_machine, Router, Table, Gate, neighbours, rows_of, opening_router, sorted-map, sorted-rows_of}
-use Rattle.network_model.specs.declared.network.Port.{Port}
-use Rattle.network_model.specs.declared.route.Entry.{Entry}
-use Rattle.network_model.specs.declared.route.Entry.TheVariants.{Local}
+use Rattle.network_model.specs.{declared.network.Port.Port, declared.route.Entry.Entry, declared.route.Entry.TheVariants.Local}
 use Rattle.dual_machine.specs.State.{opening_neighbours}
 use Rattle.router_core.specs.Parts.{machines_of, HasPorts, IsRouter}
 use Rattle.router_core.proofs.Kept.{kept-opening}

@@ -1,6 +1,5 @@
 use Rattle.std.proofs.Common.{◌≡◌, suc, ◌+◌, ◌≤◌, List, [], ◌∷◌, drop, length, Option, Some, None, OnSome, IfNone, sym, ap, subst, ◌∙◌, arith, rules}
-use Rattle.network_model.specs.World.{Gate}
-use Rattle.network_model.specs.Step.{with_front_released, router_releasing}
+use Rattle.network_model.specs.{World.Gate, Step.with_front_released, Step.router_releasing}
 use Rattle.release_gate.specs.GateState.{GateState}
 use Rattle.router_core.specs.Parts.{router_of}
 use Rattle.router_core.proofs.router.Router.release.Goals as goal

@@ -2,13 +2,10 @@ use Rattle.std.proofs.Common.{◌≡◌, ℕ, ◌+◌, ◌*◌, ◌^◌, ◌<◌
 use Rattle.std.proofs.Math.ListN.{length-set}
 use Rattle.network_model.proofs.Common.{Prefix, prefix_cmp, Router, router_noticing, chosen_rows, with_rows, find as row_of}
 use Rattle.network_model.specs.declared.network.Port.{Port}
-use Rattle.dual_machine.specs.State.{MachineState}
-use Rattle.dual_machine.specs.Event.{IsKnown, IsTimely, is_neighbour_up}
-use Rattle.dual_machine.specs.Outbox.{most_sent}
+use Rattle.dual_machine.specs.{State.MachineState, Event.IsKnown, Event.IsTimely, Event.is_neighbour_up, Outbox.most_sent}
 use Rattle.router_core.specs.Parts.{machines_of, router_of, port_ups, ups_after, IsRouter}
 use Rattle.router_core.specs.Router.{is_port_up}
-use Rattle.router_core.proofs.Meetings.{reacted, sent}
-use Rattle.router_core.proofs.Kept.{kept-noticing}
+use Rattle.router_core.proofs.{Meetings.reacted, Meetings.sent, Kept.kept-noticing}
 use Rattle.router_core.proofs.Notices.{has_ports_at, timely_over, known_over, most_sent_over, row_there, refilled, noticing_parts}
 use Rattle.router_core.proofs.router.Router.take_notice.Goals as goal
 use Rattle.router_core.proofs.router.Router.take_notice.Given as given

@@ -15,9 +15,8 @@ use Rattle.std.proofs.raw_atomic.Walks.{proved}
 use Rattle.std_heap.proofs.Global.TheLaws as heap_laws
 use Rattle.single_router.specs.Bounded.{bounded_router}
 use Rattle.c_interface.proofs.Handles.{Heap, heap_bits, heap_fits, bits, leaves_result}
-use Rattle.router_ffi.proofs.Words.{Handle, fits, handle_had}
+use Rattle.router_ffi.proofs.{Words.Handle, Words.fits, Words.handle_had, handle.RouterHandle.none.Statement.statement}
 use Rattle.router_ffi.specs.contracts.handle.RouterHandle.none as f
-use Rattle.router_ffi.proofs.handle.RouterHandle.none.Statement.{statement}
 use Rattle.router_ffi.proofs.handle.RouterHandle.none.Code as code
 
 abbrev stayed : Stays f.ended.signature.params f.ended.kept

@@ -28,8 +28,7 @@ use denote.Triple.Walked.{Stays, stay_dropped, Goes-dropped, walk_of, ends_at, s
 use denote.Param.Glue.{Met}
 use denote.Triple.Carry.{spared}
 use Rattle.std.proofs.raw_atomic.Walks.{proved_at}
-use Rattle.core.proofs.atomic.Steps.{Ptr-Good}
-use Rattle.core.proofs.cell.Inside.{one}
+use Rattle.core.proofs.{atomic.Steps.Ptr-Good, cell.Inside.one}
 use Rattle.std_alloc.specs.contracts.boxed.Box.into_raw_with_allocator as g
 use Rattle.std_alloc.proofs.boxed.Box.into_raw_with_allocator.Met.{met}
 use Rattle.std_heap.specs.contracts.GlobalAllocator.TheImpl.{ghosts, dict}

@@ -2,9 +2,7 @@ use Rattle.std.proofs.Common.{◌≡◌, ◌<◌, ◌+◌, ℕ, Some, length, re
 use Rattle.std.specs.Bool.{⊤}
 use Rattle.std.proofs.lemmas.Option.{MatchOption-at_some, slice_get_read}
 use Rattle.network_model.specs.World.{Link}
-use Rattle.run_states.specs.declared.link_book.LinkBook.{LinkBook}
-use Rattle.run_states.specs.Books.{LinkFollows, ShowsLink}
-use Rattle.run_states.specs.Recorders.{LinksFollow}
+use Rattle.run_states.specs.{declared.link_book.LinkBook.LinkBook, Books.LinkFollows, Books.ShowsLink, Recorders.LinksFollow}
 use Rattle.run_states.proofs.Followed.{AreShownBelow, follow_last, shown_next, shown_still}
 use Rattle.run_states.proofs.Lists.{written_same}
 use Rattle.run_states.proofs.recorder.Recorder.link_changes.Goals as goal

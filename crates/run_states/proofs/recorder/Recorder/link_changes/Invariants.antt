@@ -1,8 +1,6 @@
 use Rattle.std.proofs.Common.{◌≡◌, Some, slice_get, vec_len}
 use Rattle.network_model.specs.World.{Link}
-use Rattle.run_states.specs.declared.link_book.LinkBook.{LinkBook}
-use Rattle.run_states.specs.Books.{ShowsLink}
-use Rattle.run_states.specs.Recorders.{LinksFollow}
+use Rattle.run_states.specs.{declared.link_book.LinkBook.LinkBook, Books.ShowsLink, Recorders.LinksFollow}
 use Rattle.run_states.proofs.Followed.{AreShownBelow}
 use Rattle.run_states.proofs.recorder.Recorder.link_changes.Given as goal
 

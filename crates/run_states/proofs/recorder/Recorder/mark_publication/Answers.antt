@@ -2,8 +2,7 @@ use Rattle.std.proofs.Common.{◌≡◌, false, cond, Some, ap, sym, ◌∙◌, 
 use Rattle.network_model.proofs.Common.{find as row_of, option_map_or, Prefix, prefix_cmp, prefix_eq, changed_rows}
 use Rattle.network_model.specs.declared.step.Step.TheVariants.{Publish}
 use Rattle.run_states.specs.Marks.{may_touch}
-use Rattle.run_states.proofs.Lists.{none_there, read_there}
-use Rattle.run_states.proofs.Marked.{marked_twice, spares_also}
+use Rattle.run_states.proofs.{Lists.none_there, Lists.read_there, Marked.marked_twice, Marked.spares_also}
 use Rattle.run_states.proofs.recorder.Recorder.mark_publication.Goals as goal
 
 pub loop-prefix-init : goal.loop-prefix-init

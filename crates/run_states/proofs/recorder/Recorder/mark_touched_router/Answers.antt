@@ -1,7 +1,6 @@
 use Rattle.std.proofs.Common.{◌≡◌, false, refl, ap, sym, subst, ◌∙◌}
 use Rattle.network_model.specs.declared.step.Step.TheVariants.{Deliver, Publish, Release, Attach, Detach}
-use Rattle.run_states.specs.Books.{matches_prefix}
-use Rattle.run_states.specs.Marks.{StepMarked, may_touch}
+use Rattle.run_states.specs.{Books.matches_prefix, Marks.StepMarked, Marks.may_touch}
 use Rattle.run_states.proofs.Marked.{one_marked, spares_also}
 use Rattle.run_states.proofs.recorder.Recorder.mark_touched_router.Goals as goal
 

@@ -1,8 +1,5 @@
 use Rattle.std.proofs.Common.{◌≡◌, ◌∙◌, ap, sym, false, true, All, None, Some, length, vec_len, arith}
-use Rattle.std.proofs.lemmas.Bool.{false≢true}
-use Rattle.std.proofs.lemmas.List.{length-map}
-use Rattle.std.proofs.lemmas.List.FromFn.{length-map-range_with_len}
-use Rattle.std.proofs.lemmas.Option.{slice_get_within}
+use Rattle.std.proofs.{lemmas.Bool.false≢true, lemmas.List.length-map, lemmas.List.FromFn.length-map-range_with_len, lemmas.Option.slice_get_within}
 use Rattle.network_model.specs.World.{opening_link, opening_router_of}
 use Rattle.network_model.proofs.ListLaws.{element_there}
 use Rattle.run_states.specs.Books.{HasPlaces, IsBlankRouter}

@@ -1,11 +1,9 @@
 use Rattle.std.proofs.Common.{◌≡◌, ◌<◌, ◌+◌, ℕ, Some, List, All, length, refl, ap, sym, subst, ◌∙◌, set, slice_get, option_map, vec_len, arith}
-use Rattle.std.proofs.lemmas.List.Elements.{All-set}
-use Rattle.std.proofs.lemmas.Option.{same_Some, slice_get_read}
+use Rattle.std.proofs.{lemmas.List.Elements.All-set, lemmas.Option.same_Some, lemmas.Option.slice_get_read}
 use Rattle.ipv4_prefix.specs.Prefix.{Prefix}
 use Rattle.network_model.specs.World.{Attachments, Router}
-use Rattle.run_states.specs.declared.router_book.RouterBook.{RouterBook}
+use Rattle.run_states.specs.{declared.router_book.RouterBook.RouterBook, Recorders.RoutersFollow}
 use Rattle.run_states.specs.Books.{HasPlaces, RouterFollows, ShowsRouter, ShowsUnmarked}
-use Rattle.run_states.specs.Recorders.{RoutersFollow}
 use Rattle.run_states.proofs.Followed.{AreShownBelow, follow_last, shown_all, shown_next, shown_still}
 use Rattle.run_states.proofs.Lists.{made_of, slice_get-set_other, written_same}
 use Rattle.run_states.proofs.recorder.Recorder.router_changes.Goals as goal

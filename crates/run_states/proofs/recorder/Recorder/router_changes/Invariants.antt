@@ -1,8 +1,6 @@
 use Rattle.std.proofs.Common.{◌≡◌, ◌≤◌, ℕ, Some, All, length, slice_get, vec_len}
 use Rattle.network_model.specs.World.{Attachments, Router}
-use Rattle.run_states.specs.declared.router_book.RouterBook.{RouterBook}
-use Rattle.run_states.specs.Books.{HasPlaces, ShowsRouter}
-use Rattle.run_states.specs.Recorders.{RoutersFollow}
+use Rattle.run_states.specs.{declared.router_book.RouterBook.RouterBook, Books.HasPlaces, Books.ShowsRouter, Recorders.RoutersFollow}
 use Rattle.run_states.proofs.Followed.{AreShownBelow}
 use Rattle.run_states.proofs.recorder.Recorder.router_changes.Given as goal
 

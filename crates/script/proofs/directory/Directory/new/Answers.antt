@@ -1,7 +1,6 @@
 use Rattle.std.proofs.Common.{◌∙◌}
 use Rattle.script.specs.Directories.{neighbours_of}
-use Rattle.script.proofs.Ranges.{vectors_more}
-use Rattle.script.proofs.Ports.{far_all}
+use Rattle.script.proofs.{Ranges.vectors_more, Ports.far_all}
 use Rattle.script.proofs.directory.Directory.new.Goals as goal
 
 pub loop-router-preserved : goal.loop-router-preserved

@@ -1,7 +1,6 @@
 use Rattle.std.proofs.Common.{◌∙◌, ap, map}
 use Rattle.no_packet_loops.proofs.Common.{World}
-use Rattle.course.specs.Course.{Course}
-use Rattle.course.specs.Images.{chosen_image}
+use Rattle.course.specs.{Course.Course, Images.chosen_image}
 use Rattle.simulation.proofs.Simulations.{images_opened, is_opening}
 use Rattle.simulation.proofs.simulation.Simulation.open.Goals as goal
 

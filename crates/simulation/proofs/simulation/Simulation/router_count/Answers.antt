@@ -1,6 +1,5 @@
 use Rattle.std.proofs.Common.{subst}
-use Rattle.simulation.specs.Simulation.{with_images}
-use Rattle.simulation.specs.Tracing.{HasImageWays}
+use Rattle.simulation.specs.{Simulation.with_images, Tracing.HasImageWays}
 use Rattle.simulation.proofs.Walks.{short_ways}
 use Rattle.simulation.proofs.simulation.Simulation.router_count.Goals as goal
 

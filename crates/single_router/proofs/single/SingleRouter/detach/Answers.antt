@@ -1,7 +1,6 @@
 use Rattle.std.proofs.Common.{rules, ◌≡◌, true, None, is_some, refl, ap, ◌∙◌}
 use Rattle.network_model.specs.Step.{router_at_home}
-use Rattle.single_router.specs.Bounded.{with_router}
-use Rattle.single_router.specs.Inputs.{attachment_of}
+use Rattle.single_router.specs.{Bounded.with_router, Inputs.attachment_of}
 use Rattle.single_router.proofs.single.SingleRouter.detach.Goals as goal
 
 pub returns-clause-ok : goal.returns-clause-ok

@@ -1,8 +1,6 @@
 use Rattle.std.proofs.Common.{rules, ◌≡◌, ◌==◌, true, None, ap, ◌∙◌}
-use Rattle.network_model.specs.Step.{router_told}
-use Rattle.network_model.specs.World.{machine_of}
-use Rattle.single_router.specs.Bounded.{crowd_fault, with_router}
-use Rattle.single_router.specs.Inputs.{kind_fault}
+use Rattle.network_model.specs.{Step.router_told, World.machine_of}
+use Rattle.single_router.specs.{Bounded.crowd_fault, Bounded.with_router, Inputs.kind_fault}
 use Rattle.single_router.proofs.single.SingleRouter.take_message.Goals as goal
 
 pub returns-clause-ok : goal.returns-clause-ok

@@ -1,8 +1,7 @@
 use Rattle.std.proofs.Common.{◌≡◌, ◌∙◌, refl, ap, sym, subst, length}
 use Rattle.std.proofs.lemmas.Result.{on_err_weaker, on_ok_weaker}
 use Rattle.simulation.specs.Simulation.{Simulation}
-use Rattle.timed_simulation.specs.Timed.{Timed, with_timed_change}
-use Rattle.timed_simulation.specs.Runs.{IsGivenOr}
+use Rattle.timed_simulation.specs.{Timed.Timed, Timed.with_timed_change, Runs.IsGivenOr}
 use Rattle.reachability.specs.Marks.{size}
 use Rattle.timed_reports.specs.Reports.{Reported, reported_of}
 use Rattle.timed_reports.proofs.Whole.{report_kept, timed_either}

@@ -2,11 +2,8 @@ use Rattle.std.proofs.Common.{◌≡◌, ◌∙◌, Bool, List, length, sym, ap,
 use Rattle.no_packet_loops.proofs.Common.{Prefix, World}
 use Rattle.reachability.specs.Ways.{IsCutOff}
 use Rattle.simulation.specs.Simulation.{Simulation}
-use Rattle.timed_simulation.specs.Timed.{Timed, after_event, world_of}
-use Rattle.timed_simulation.specs.Events.{next_event}
-use Rattle.timed_simulation.specs.Runs.{IsNext, IsStoppedAt}
-use Rattle.timed_reports.specs.Looks.{HasMarks, HasRoomForMarks, IsStill}
-use Rattle.timed_reports.specs.Records.{AreLooked}
+use Rattle.timed_simulation.specs.{Timed.Timed, Timed.after_event, Timed.world_of, Events.next_event, Runs.IsNext, Runs.IsStoppedAt}
+use Rattle.timed_reports.specs.{Looks.HasMarks, Looks.HasRoomForMarks, Looks.IsStill, Records.AreLooked}
 use Rattle.timed_reports.specs.Reports.{IsReport, RecordsEvent, Reported, reported_of}
 use Rattle.timed_reports.proofs.Whole.{as_many_after, in_order_after, joined_after, kept_after, records_event, same_prefixes_after, same_report, taker_within}
 use Rattle.timed_reports.proofs.report.Report.do_event.Goals as goal

@@ -1,7 +1,5 @@
 use Rattle.std.proofs.Common.{◌≡◌, ◌≤◌, IfSome, None, Some, subst}
-use Rattle.timed_simulation.specs.declared.events.Event.{Event}
-use Rattle.timed_simulation.specs.Events.{next_event}
-use Rattle.timed_simulation.specs.Due.{IsDoneUntil}
+use Rattle.timed_simulation.specs.{declared.events.Event.Event, Events.next_event, Due.IsDoneUntil}
 use Rattle.timed_reports.specs.Reports.{Reported}
 use Rattle.timed_reports.proofs.report.Report.event_until.Goals as goal
 

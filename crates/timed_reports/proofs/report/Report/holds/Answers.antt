@@ -1,6 +1,5 @@
 use Rattle.std.proofs.Common.{subst}
-use Rattle.timed_simulation.specs.Due.{NothingIsLate}
-use Rattle.timed_simulation.specs.Runs.{IsTimed}
+use Rattle.timed_simulation.specs.{Due.NothingIsLate, Runs.IsTimed}
 use Rattle.timed_reports.specs.Reports.{IsReport, Reported}
 use Rattle.timed_reports.proofs.report.Report.holds.Goals as goal
 

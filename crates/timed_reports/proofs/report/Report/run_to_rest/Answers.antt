@@ -1,7 +1,5 @@
 use Rattle.std.proofs.Common.{◌≡◌, subst}
-use Rattle.timed_simulation.specs.Timed.{Timed}
-use Rattle.timed_simulation.specs.Due.{IsDoneUntil}
-use Rattle.timed_simulation.specs.Runs.{IsAtRest, IsStoppedAt}
+use Rattle.timed_simulation.specs.{Timed.Timed, Due.IsDoneUntil, Runs.IsAtRest, Runs.IsStoppedAt}
 use Rattle.timed_simulation.proofs.Runs.{fewer_done}
 use Rattle.timed_reports.proofs.Stops.{rests_or}
 use Rattle.timed_reports.proofs.report.Report.run_to_rest.Goals as goal

@@ -1,6 +1,5 @@
 use Rattle.std.proofs.Common.{◌≤◌, arith, inl, inr, refl, sym, subst}
-use Rattle.timed_simulation.specs.Timed.{Timed}
-use Rattle.timed_simulation.specs.Runs.{IsStoppedAt, IsStoppedShort}
+use Rattle.timed_simulation.specs.{Timed.Timed, Runs.IsStoppedAt, Runs.IsStoppedShort}
 use Rattle.timed_reports.specs.Reports.{Reported}
 use Rattle.timed_reports.proofs.Whole.{run_begins, run_goes_on}
 use Rattle.timed_reports.proofs.report.Report.run_until.Goals as goal

@@ -1,10 +1,6 @@
 use Rattle.std.proofs.Common.{map, sym, subst}
-use Rattle.timed_simulation.specs.declared.events.Change.{Change}
-use Rattle.timed_simulation.specs.Links.{link_of}
-use Rattle.timed_simulation.specs.Timed.{timed_of, Timed}
-use Rattle.timed_simulation.specs.Due.{RisesFrom}
-use Rattle.timed_simulation.proofs.Rising.{with_one_more}
-use Rattle.timed_simulation.proofs.Runs.{kept_changes}
+use Rattle.timed_simulation.specs.{declared.events.Change.Change, Links.link_of, Timed.timed_of, Timed.Timed, Due.RisesFrom}
+use Rattle.timed_simulation.proofs.{Rising.with_one_more, Runs.kept_changes}
 use Rattle.timed_simulation.proofs.clocked.Clocked.at.Goals as goal
 
 -- no memory for the change

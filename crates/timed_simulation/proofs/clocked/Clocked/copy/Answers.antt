@@ -1,7 +1,5 @@
 use Rattle.std.proofs.Common.{◌≡◌, ◌∙◌, ap, map, rules, subst, sym}
-use Rattle.timed_simulation.specs.Links.{link_of}
-use Rattle.timed_simulation.specs.Timed.{timed_of, Timed}
-use Rattle.timed_simulation.specs.Runs.{IsTimed}
+use Rattle.timed_simulation.specs.{Links.link_of, Timed.timed_of, Timed.Timed, Runs.IsTimed}
 use Rattle.timed_simulation.proofs.Runs.{equal_parts}
 use Rattle.timed_simulation.proofs.clocked.Clocked.copy.Goals as goal
 

@@ -3,12 +3,10 @@ use Rattle.no_packet_loops.proofs.Common.{err_from_is_err_and}
 use Rattle.router_core.proofs.Refused.{gave_up}
 use Rattle.course.specs.Links.{HasLinksOfPorts}
 use Rattle.simulation.specs.Simulation.{simulation_refusal}
-use Rattle.course.proofs.Links.{links_of_ports}
-use Rattle.course.proofs.Courses.{refused_as}
-use Rattle.timed_simulation.specs.declared.events.Event.{Event}
+use Rattle.course.proofs.{Links.links_of_ports, Courses.refused_as}
+use Rattle.timed_simulation.specs.{declared.events.Event.Event, Events.next_event}
 use Rattle.timed_simulation.specs.Links.{last_moment, link_of, links_after, motion_of}
 use Rattle.timed_simulation.specs.Timed.{after_event, begins_at, routers_after, timed_of, Timed}
-use Rattle.timed_simulation.specs.Events.{next_event}
 use Rattle.timed_simulation.specs.Runs.{steps_of, IsNext, IsStoppedFor, IsTimed}
 use Rattle.timed_simulation.proofs.Runs.{after_parts, is_next, kept_after, same_parts, stopped_as}
 use Rattle.timed_simulation.proofs.clocked.Clocked.do_event.Goals as goal

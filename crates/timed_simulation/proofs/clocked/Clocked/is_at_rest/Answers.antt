@@ -1,8 +1,6 @@
 use Rattle.std.proofs.Common.{◌≡◌, ◌∙◌, sym, ap, subst, eq-eqb, eqb-true, length, List, []}
 use Rattle.no_packet_loops.proofs.Common.{false≢true, is_settled, nil_from_length}
-use Rattle.timed_simulation.specs.declared.events.Change.{Change}
-use Rattle.timed_simulation.specs.Timed.{world_of, Timed}
-use Rattle.timed_simulation.specs.Runs.{IsAtRest, IsTimed}
+use Rattle.timed_simulation.specs.{declared.events.Change.Change, Timed.world_of, Timed.Timed, Runs.IsAtRest, Runs.IsTimed}
 use Rattle.timed_simulation.proofs.Rest.{nothing_rests, rest_nothing}
 use Rattle.timed_simulation.proofs.clocked.Clocked.is_at_rest.Goals as goal
 

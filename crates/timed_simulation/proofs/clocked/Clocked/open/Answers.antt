@@ -1,7 +1,5 @@
 use Rattle.std.proofs.Common.{sym, subst, map}
-use Rattle.timed_simulation.specs.Links.{link_of}
-use Rattle.timed_simulation.specs.Timed.{opening_timed}
-use Rattle.timed_simulation.specs.Runs.{IsTimed}
+use Rattle.timed_simulation.specs.{Links.link_of, Timed.opening_timed, Runs.IsTimed}
 use Rattle.timed_simulation.proofs.Runs.{equal_parts, kept_open}
 use Rattle.timed_simulation.proofs.clocked.Clocked.open.Goals as goal
 

@@ -1,8 +1,6 @@
 use Rattle.std.proofs.Common.{◌≡◌, ◌∙◌, ◌<◌, ◌≤◌, Some, None, sym, ap, subst, arith, length}
 use Rattle.no_packet_loops.proofs.Common.{IsNetwork, Some_injective, World, degree_of, place_at}
-use Rattle.timed_simulation.specs.Timed.{world_of}
-use Rattle.timed_simulation.specs.Events.{arrival_event}
-use Rattle.timed_simulation.specs.Runs.{steps_of}
+use Rattle.timed_simulation.specs.{Timed.world_of, Events.arrival_event, Runs.steps_of}
 use Rattle.timed_simulation.proofs.Ports.{few, has_degree, past_places, port_of_place}
 use Rattle.timed_simulation.proofs.Soonest.{soonest_more, waiting_is}
 use Rattle.timed_simulation.proofs.clocked.Clocked.waiting_event.Goals as goal

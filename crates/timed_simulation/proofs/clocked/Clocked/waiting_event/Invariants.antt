@@ -1,7 +1,6 @@
 use Rattle.std.proofs.Common.{◌≡◌, ℕ, ◌≤◌, Some}
 use Rattle.network_model.specs.World.{degree_of}
-use Rattle.timed_simulation.specs.Timed.{world_of}
-use Rattle.timed_simulation.specs.Events.{arrival_event, soonest}
+use Rattle.timed_simulation.specs.{Timed.world_of, Events.arrival_event, Events.soonest}
 use Rattle.timed_simulation.proofs.clocked.Clocked.waiting_event.Given as goal
 
 abbrev pub invariant-loop-port : goal.invariant-loop-port

@@ -1,6 +1,5 @@
 use Rattle.std.proofs.Common.{◌≡◌, subst, OnErr, OnOk}
-use Rattle.timed_simulation.specs.Timed.{Timed, with_timed_change}
-use Rattle.timed_simulation.specs.Runs.{IsGivenOr}
+use Rattle.timed_simulation.specs.{Timed.Timed, Timed.with_timed_change, Runs.IsGivenOr}
 use Rattle.timed_simulation.proofs.Nexts.{kept_given}
 use Rattle.timed_simulation.proofs.timed.TimedSimulation.at.Goals as goal
 

@@ -1,13 +1,9 @@
 use Rattle.std.proofs.Common.{◌≡◌, ◌∙◌, Err, IfErr, length, sym, ap, subst}
-use Rattle.no_packet_loops.proofs.Common.{err_from_is_err_and}
-use Rattle.no_packet_loops.proofs.WorldLaws.{next-shape}
+use Rattle.no_packet_loops.proofs.{Common.err_from_is_err_and, WorldLaws.next-shape}
 use Rattle.router_core.proofs.Refused.{gave_up}
 use Rattle.simulation.specs.Simulation.{Simulation}
 use Rattle.world.specs.Touched.{touched_by}
-use Rattle.timed_simulation.specs.Timed.{Timed, after_event, world_of}
-use Rattle.timed_simulation.specs.Events.{next_event}
-use Rattle.timed_simulation.specs.Next.{KeepsMoments}
-use Rattle.timed_simulation.specs.Runs.{IsNext, IsStoppedFor}
+use Rattle.timed_simulation.specs.{Timed.Timed, Timed.after_event, Timed.world_of, Events.next_event, Next.KeepsMoments, Runs.IsNext, Runs.IsStoppedFor}
 use Rattle.timed_simulation.proofs.Nexts.{kept_after, kept_seen}
 use Rattle.timed_simulation.proofs.timed.TimedSimulation.do_event.Goals as goal
 

@@ -1,8 +1,6 @@
 use Rattle.std.proofs.Common.{◌≤◌, arith, inr, sym, subst}
-use Rattle.timed_simulation.specs.Timed.{Timed}
-use Rattle.timed_simulation.specs.Runs.{IsStoppedAt, IsStoppedShort}
-use Rattle.timed_simulation.proofs.Lawful.{own_spent}
-use Rattle.timed_simulation.proofs.Runs.{run_more}
+use Rattle.timed_simulation.specs.{Timed.Timed, Runs.IsStoppedAt, Runs.IsStoppedShort}
+use Rattle.timed_simulation.proofs.{Lawful.own_spent, Runs.run_more}
 use Rattle.timed_simulation.proofs.timed.TimedSimulation.do_events.Goals as goal
 
 pub loop-done-preserved : goal.loop-done-preserved

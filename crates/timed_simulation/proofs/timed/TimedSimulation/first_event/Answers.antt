@@ -1,7 +1,6 @@
 use Rattle.std.proofs.Common.{◌∙◌, sym, ap, subst, length, IfNone, IfSome}
 use Rattle.minima.specs.Trees.{IsFirstDue, NoneDue}
-use Rattle.timed_simulation.specs.Timed.{Timed, world_of}
-use Rattle.timed_simulation.specs.Events.{router_event, soonest}
+use Rattle.timed_simulation.specs.{Timed.Timed, Timed.world_of, Events.router_event, Events.soonest}
 use Rattle.timed_simulation.proofs.Nexts.{next_none, next_soonest, router_known}
 use Rattle.timed_simulation.proofs.timed.TimedSimulation.first_event.Goals as goal
 

@@ -1,9 +1,6 @@
 use Rattle.std.proofs.Common.{subst}
-use Rattle.simulation.specs.Headline.{ConvergesLeftAlone, LeadsAtLeastCost, NeverMeetsTwice}
-use Rattle.simulation.specs.Simulation.{ForwardsAsPublished}
-use Rattle.timed_simulation.specs.Timed.{Timed}
-use Rattle.timed_simulation.specs.Due.{NothingIsLate, NothingIsLeftOut}
-use Rattle.timed_simulation.specs.Runs.{IsTimed}
+use Rattle.simulation.specs.{Headline.ConvergesLeftAlone, Headline.LeadsAtLeastCost, Headline.NeverMeetsTwice, Simulation.ForwardsAsPublished}
+use Rattle.timed_simulation.specs.{Timed.Timed, Due.NothingIsLate, Due.NothingIsLeftOut, Runs.IsTimed}
 use Rattle.timed_simulation.proofs.timed.TimedSimulation.holds.Goals as goal
 
 pub returns-clause-timed : goal.returns-clause-timed

@@ -1,8 +1,6 @@
 use Rattle.std.proofs.Common.{◌↔◌, IsTrue, subst}
 use Rattle.simulation.specs.Headline.{HasBestRows}
-use Rattle.timed_simulation.specs.Timed.{Timed}
-use Rattle.timed_simulation.specs.Due.{NothingIsDue}
-use Rattle.timed_simulation.specs.Runs.{IsAtRest}
+use Rattle.timed_simulation.specs.{Timed.Timed, Due.NothingIsDue, Runs.IsAtRest}
 use Rattle.timed_simulation.proofs.timed.TimedSimulation.is_at_rest.Goals as goal
 
 pub returns-clause-rest : goal.returns-clause-rest

@@ -1,6 +1,5 @@
 use Rattle.std.proofs.Common.{◌∙◌, ap, subst}
-use Rattle.timed_simulation.specs.Events.{change_event, sooner}
-use Rattle.timed_simulation.specs.Runs.{IsTimed}
+use Rattle.timed_simulation.specs.{Events.change_event, Events.sooner, Runs.IsTimed}
 use Rattle.timed_simulation.proofs.Runs.{due_if, first_if, nothing_if}
 use Rattle.timed_simulation.proofs.timed.TimedSimulation.next_event.Goals as goal
 

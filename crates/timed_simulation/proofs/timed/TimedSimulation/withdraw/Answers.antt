@@ -1,6 +1,5 @@
 use Rattle.std.proofs.Common.{◌≡◌, sym, subst, drop, slice_get}
-use Rattle.timed_simulation.specs.Timed.{Timed}
-use Rattle.timed_simulation.specs.Next.{KeepsMoments}
+use Rattle.timed_simulation.specs.{Timed.Timed, Next.KeepsMoments}
 use Rattle.timed_simulation.proofs.Nexts.{kept_changes}
 use Rattle.timed_simulation.proofs.timed.TimedSimulation.withdraw.Goals as goal
 

@@ -1,11 +1,8 @@
 use Rattle.std.proofs.Common.{◌≡◌, ◌+◌, ◌*◌, min, sym, ap, subst, ◌∙◌, Some}
 use Rattle.std.proofs.lemmas.Bool.{both_ways, false≢true}
 use Rattle.node_pool.specs.Pool.{cell}
-use Rattle.tree_bitmap.specs.Tree.{nibble}
-use Rattle.tree_bitmap.specs.Lane.{IsBest}
-use Rattle.tree_bitmap.proofs.Paths.{node_used}
-use Rattle.tree_bitmap.proofs.Calls.{child_place_after, child_used}
-use Rattle.tree_bitmap.proofs.Descent.{hit_after, hit_last}
+use Rattle.tree_bitmap.specs.{Tree.nibble, Lane.IsBest}
+use Rattle.tree_bitmap.proofs.{Paths.node_used, Calls.child_place_after, Calls.child_used, Descent.hit_after, Descent.hit_last}
 use Rattle.tree_bitmap.proofs.lanes.Lane.descend.Given as given
 use Rattle.tree_bitmap.proofs.lanes.Lane.descend.Goals as goal
 use Rattle.tree_bitmap.proofs.lanes.Lane.descend.Goals.{After-is_set}

@@ -2,8 +2,7 @@ use Rattle.std.proofs.Common.{◌≡◌, ◌+◌, ◌*◌, ◌∙◌, sym, ap, s
 use Rattle.node_pool.specs.Pool.{cell}
 use Rattle.bitmaps.specs.Bits.{rank}
 use Rattle.tree_bitmap.specs.Bits.{length_of}
-use Rattle.tree_bitmap.proofs.LongestRow.{best_row, no_row, place_used}
-use Rattle.tree_bitmap.proofs.Descent.{lane_best}
+use Rattle.tree_bitmap.proofs.{LongestRow.best_row, LongestRow.no_row, LongestRow.place_used, Descent.lane_best}
 use Rattle.tree_bitmap.proofs.lanes.Lane.found.Goals as goal
 
 pub returns-in_err-bit : goal.returns-in_err-bit

@@ -1,9 +1,8 @@
 use Rattle.std.proofs.Common.{inr, ap, Some, arith, subst, ◌∙◌, sym}
 use Rattle.node_pool.specs.Pool.{cell}
 use Rattle.tree_bitmap.specs.Tree.{IsLaidOut}
-use Rattle.bitmaps.proofs.Ranks.{rank_le}
+use Rattle.bitmaps.proofs.{Ranks.rank_le, Options.refused}
 use Rattle.tree_bitmap.proofs.Paths.{node_used}
-use Rattle.bitmaps.proofs.Options.{refused}
 use Rattle.tree_bitmap.proofs.Calls.{few_from, child_place_after, child_used, same_cells, made_sound, made_rows, made_place, made_blank, blank_count}
 use Rattle.std.proofs.lemmas.Bool.{both_ways}
 use Rattle.tree_bitmap.proofs.tree.Tree.child.Goals as goal

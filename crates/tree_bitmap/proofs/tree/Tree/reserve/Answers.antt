@@ -1,6 +1,5 @@
 use Rattle.node_pool.specs.Pool.{cell}
-use Rattle.tree_bitmap.proofs.Calls.{same_sound}
-use Rattle.tree_bitmap.proofs.PrefixRows.{same_rows_in}
+use Rattle.tree_bitmap.proofs.{Calls.same_sound, PrefixRows.same_rows_in}
 use Rattle.tree_bitmap.proofs.tree.Tree.reserve.Goals as goal
 
 pub returns-clause-sound : goal.returns-clause-sound

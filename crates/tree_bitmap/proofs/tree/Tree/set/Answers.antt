@@ -1,9 +1,8 @@
 use Rattle.std.proofs.Common.{inl, Some, ◌≡◌, ◌+◌, ◌*◌, ◌/◌, ◌%◌, ◌∙◌, arith, refl}
 use Rattle.std.proofs.lemmas.Result.{on_ok_weaker, on_err_weaker}
 use Rattle.tree_bitmap.specs.Tree.{rows}
-use Rattle.tree_bitmap.proofs.Paths.{root_at}
+use Rattle.tree_bitmap.proofs.{Paths.root_at, Calls.sets_from}
 use Rattle.bitmaps.proofs.Options.{refused}
-use Rattle.tree_bitmap.proofs.Calls.{sets_from}
 use Rattle.node_pool.specs.Pool.{cell}
 use Rattle.tree_bitmap.proofs.tree.Tree.set.Goals as goal
 

@@ -1,9 +1,8 @@
 use Rattle.std.proofs.Common.{Some, arith, subst}
 use Rattle.node_pool.specs.Pool.{cell, IsCellWritten}
 use Rattle.tree_bitmap.specs.Tree.{with_result}
-use Rattle.bitmaps.proofs.Ranks.{rank_le}
+use Rattle.bitmaps.proofs.{Ranks.rank_le, Options.refused}
 use Rattle.tree_bitmap.proofs.Paths.{node_used}
-use Rattle.bitmaps.proofs.Options.{refused}
 use Rattle.tree_bitmap.proofs.Calls.{few_results, sets_row, put_sound, put_sets, result_used, over_sound, over_sets}
 use Rattle.std.proofs.lemmas.Bool.{both_ways}
 use Rattle.tree_bitmap.proofs.tree.Tree.set_at.Goals as goal

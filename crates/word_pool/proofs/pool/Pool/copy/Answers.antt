@@ -1,6 +1,5 @@
 use Rattle.std.proofs.Common.{◌∙◌, ap}
-use Rattle.word_pool.specs.Layout.{entry}
-use Rattle.word_pool.specs.Pool.{blocks, spare, list_of_size}
+use Rattle.word_pool.specs.{Layout.entry, Pool.blocks, Pool.spare, Pool.list_of_size}
 use Rattle.word_pool.proofs.Pools.{words_stay}
 use Rattle.word_pool.proofs.pool.Pool.copy.Goals as goal
 

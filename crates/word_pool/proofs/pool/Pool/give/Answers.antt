@@ -1,8 +1,7 @@
 use Rattle.std.proofs.Common.{arith, vec_len, ◌∙◌, sym}
 use Rattle.word_pool.specs.Pool.{blocks, spare}
-use Rattle.word_pool.proofs.Laid.{width_some}
+use Rattle.word_pool.proofs.{Laid.width_some, Sizes.count_more, Sizes.count_other, Sizes.words_more}
 use Rattle.word_pool.proofs.Pools.{size-blocks, within-blocks, push_laid, push_given}
-use Rattle.word_pool.proofs.Sizes.{count_more, count_other, words_more}
 use Rattle.word_pool.proofs.pool.Pool.give.Goals as goal
 
 pub index_mut-requires : goal.index_mut-requires

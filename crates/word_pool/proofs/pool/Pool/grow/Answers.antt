@@ -1,7 +1,6 @@
 use Rattle.std.proofs.Common.{arith, vec_len, refl, ap, ◌∙◌}
 use Rattle.std.proofs.lemmas.Result.{MatchResult-from_err}
-use Rattle.word_pool.specs.Pool.{blocks, spare}
-use Rattle.word_pool.specs.Layout.{entry}
+use Rattle.word_pool.specs.{Pool.blocks, Pool.spare, Layout.entry}
 use Rattle.word_pool.proofs.Pools.{grow_laid, grow_taken, words_stay}
 use Rattle.word_pool.proofs.pool.Pool.grow.Goals as goal
 

@@ -1,7 +1,6 @@
 use Rattle.std.proofs.Common.{ℕ, ◌≢◌, ◌<◌, IsTrue, nat_eq, inl, inr, vec_len, arith, sym, ap, subst, ◌∙◌}
 use Rattle.std.proofs.lemmas.Bool.{cases_eq, ne_eqb, false≢true}
-use Rattle.word_pool.specs.Layout.{entry, noted}
-use Rattle.word_pool.specs.Pool.{spare}
+use Rattle.word_pool.specs.{Layout.entry, Layout.noted, Pool.spare}
 use Rattle.word_pool.proofs.Laid.{head_some, head_none}
 use Rattle.word_pool.proofs.pool.Pool.has_free.Goals as goal
 

@@ -1,9 +1,6 @@
 use Rattle.std.proofs.Common.{arith, vec_len, refl, ap}
-use Rattle.word_pool.specs.Pool.{spare}
-use Rattle.word_pool.proofs.Pools.{empty_blocks}
-use Rattle.word_pool.specs.Layout.{entry}
-use Rattle.word_pool.proofs.Sizes.{total}
-use Rattle.word_pool.proofs.Start.{start_laid}
+use Rattle.word_pool.specs.{Pool.spare, Layout.entry}
+use Rattle.word_pool.proofs.{Pools.empty_blocks, Sizes.total, Start.start_laid}
 use Rattle.word_pool.proofs.pool.Pool.new.Goals as goal
 
 pub invariant_of-result-clause-laid : goal.invariant_of-result-clause-laid

@@ -1,10 +1,7 @@
 use Rattle.std.proofs.Common.{◌<◌, arith, vec_len, ◌∙◌, ap, sym}
 use Rattle.std.proofs.lemmas.List.{get_or_default}
-use Rattle.word_pool.specs.Layout.{entry, noted, free_size}
-use Rattle.word_pool.specs.Pool.{blocks, spare}
-use Rattle.word_pool.proofs.Laid.{head_within, head_some, width_some}
-use Rattle.word_pool.proofs.Pools.{pop_laid, pop_taken}
-use Rattle.word_pool.proofs.Sizes.{width_of, few_lists, words_fewer}
+use Rattle.word_pool.specs.{Layout.entry, Layout.noted, Layout.free_size, Pool.blocks, Pool.spare}
+use Rattle.word_pool.proofs.{Laid.head_within, Laid.head_some, Laid.width_some, Pools.pop_laid, Pools.pop_taken, Sizes.width_of, Sizes.few_lists, Sizes.words_fewer}
 use Rattle.word_pool.proofs.pool.Pool.pop.Goals as goal
 
 pub index-requires : goal.index-requires

@@ -1,10 +1,7 @@
 use Rattle.std.proofs.Common.{◌≡◌, true, false, [], length, Some, None, Option, Err, Result, refl, sym, ap, subst, ◌∙◌, arith, All, MatchOption, IsOk}
 use Rattle.no_packet_loops.proofs.Common.{err_from_is_err_and, IsPrefix, IsCost, prefixes_of, HasCosts, first_cause, link_causes, attachment_causes, widest_limits}
 use Rattle.world.specs.Parts.{network_of_parts}
-use Rattle.world.proofs.Done.{no_cause, only_cause}
-use Rattle.world.proofs.Faults.{fault_of_link, fault_of_attachments}
-use Rattle.world.proofs.Degrees.{within_limits}
-use Rattle.world.proofs.Wider.{wider}
+use Rattle.world.proofs.{Done.no_cause, Done.only_cause, Faults.fault_of_link, Faults.fault_of_attachments, Degrees.within_limits, Wider.wider}
 use Rattle.world.proofs.network.Network.within.Goals as goal
 
 -- the derefs: of the links as they are read, of the attachments as they are read, of the links, of the attachments

@@ -1,9 +1,6 @@
 use Rattle.std.proofs.Common.{◌≡◌, ◌+◌, ◌-◌, ℕ, true, Err, MatchOption, is_ok, sym, ap, subst, ◌∙◌, arith}
 use Rattle.no_packet_loops.proofs.Common.{Refusal, World, refusal, next}
-use Rattle.world.specs.declared.touched.Touched.{Touched}
-use Rattle.world.specs.Steps.{IsDoneOr}
-use Rattle.world.specs.Rest.{IsWatched}
-use Rattle.world.specs.Touched.{touched_by, unrest_at}
+use Rattle.world.specs.{declared.touched.Touched.Touched, Steps.IsDoneOr, Rest.IsWatched, Touched.touched_by, Touched.unrest_at}
 use Rattle.world.proofs.Causes.{done_for, done_only, passes_on, passes_only}
 use Rattle.world.proofs.Rest.{touched-counted, watched-next, unrest-few}
 use Rattle.world.proofs.watched.WatchedWorld.step.Goals as goal

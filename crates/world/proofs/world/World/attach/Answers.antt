@@ -4,8 +4,7 @@ use Rattle.network_model.specs.Step as steps
 use Rattle.link_fifo.proofs.Changes.{written}
 use Rattle.world.specs.Steps.{prefix_refusal}
 use Rattle.router_core.proofs.Refused.{gave_up}
-use Rattle.world.proofs.Insides.{world_in}
-use Rattle.world.proofs.Done.{written_back, in_bounds, known_within}
+use Rattle.world.proofs.{Insides.world_in, Done.written_back, Done.in_bounds, Done.known_within}
 use Rattle.world.proofs.world.World.attach.Goals as goal
 
 pub returns-clause-ok : goal.returns-clause-ok

@@ -1,6 +1,5 @@
 use Rattle.std.proofs.Common.{◌≡◌, sym, ap, subst, ◌∙◌, map}
-use Rattle.world.specs.Kept.{IsWorld}
-use Rattle.world.specs.Parts.{world_of_parts}
+use Rattle.world.specs.{Kept.IsWorld, Parts.world_of_parts}
 use Rattle.world.proofs.Insides.{world_in}
 use Rattle.world.proofs.world.World.copy.Goals as goal
 

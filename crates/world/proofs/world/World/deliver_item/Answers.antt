@@ -3,8 +3,7 @@ use Rattle.no_packet_loops.proofs.Common.{result_err, slice_get_within, Deliver,
 use Rattle.network_model.specs.Step as steps
 use Rattle.link_fifo.specs.Refusals.{step_refusal}
 use Rattle.link_fifo.proofs.Changes.{written, slice_get-read}
-use Rattle.world.specs.Kept.{IsWorld}
-use Rattle.world.specs.Steps.{DeliveryNeedsMemory, IsDoneOr, IsPort}
+use Rattle.world.specs.{Kept.IsWorld, Steps.DeliveryNeedsMemory, Steps.IsDoneOr, Steps.IsPort}
 use Rattle.router_core.proofs.Refused.{gave_up}
 use Rattle.world.proofs.Insides.{world_in}
 use Rattle.world.proofs.Done.{on_ok, port_known, can_take, item_cause, item_lawful, item_needs, not_lawful, delivered, delivered-keeps, refused_by_link, is_done, found_no_memory, written_back, in_bounds}

@@ -2,8 +2,7 @@ use Rattle.std.proofs.Common.{◌≡◌, true, Ok, Err, refl, sym, ap, subst, �
 use Rattle.no_packet_loops.proofs.Common.{Deliver, Refusal, World}
 use Rattle.network_model.specs.Step as steps
 use Rattle.link_fifo.proofs.Changes.{written, slice_get-read}
-use Rattle.world.specs.Kept.{IsWorld}
-use Rattle.world.specs.Steps.{DeliveryNeedsMemory, IsDoneOr}
+use Rattle.world.specs.{Kept.IsWorld, Steps.DeliveryNeedsMemory, Steps.IsDoneOr}
 use Rattle.router_core.proofs.Refused.{gave_up}
 use Rattle.world.proofs.Insides.{world_in}
 use Rattle.world.proofs.Done.{router_within, attachments_within, notice_is, no_notice, notice_lawful, noticed, noticed-keeps, notice_needs, not_lawful, refused, is_done, found_no_memory, written_back, in_bounds}

@@ -1,7 +1,6 @@
 use Rattle.std.proofs.Common.{◌≡◌, sym, ap, subst, ◌∙◌, map}
 use Rattle.no_packet_loops.proofs.Common.{Network, opening, opening_link}
-use Rattle.world.specs.Kept.{IsWorld}
-use Rattle.world.specs.Parts.{world_of_parts}
+use Rattle.world.specs.{Kept.IsWorld, Parts.world_of_parts}
 use Rattle.world.proofs.Openings.{opening-kept}
 use Rattle.world.proofs.world.World.open.Goals as goal
 

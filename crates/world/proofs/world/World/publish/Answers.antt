@@ -3,8 +3,7 @@ use Rattle.network_model.proofs.Common.{World}
 use Rattle.network_model.specs.declared.step.Step.TheVariants.{Publish}
 use Rattle.network_model.specs.Step as steps
 use Rattle.link_fifo.proofs.Changes.{written}
-use Rattle.world.proofs.Insides.{world_in}
-use Rattle.world.proofs.Done.{published-keeps}
+use Rattle.world.proofs.{Insides.world_in, Done.published-keeps}
 use Rattle.world.proofs.world.World.publish.Goals as goal
 use Rattle.world.proofs.world.World.publish.Given as given
 

@@ -2,8 +2,7 @@ use Rattle.std.proofs.Common.{◌≡◌, ◌<◌, false, Some, Ok, slice_get, ge
 use Rattle.std.specs.declared.vec.Vec.{Vec}
 use Rattle.no_packet_loops.proofs.Common.{slice_get_within, Release, changed_at, Router, World, place_at, None_not_Some, Some_injective}
 use Rattle.network_model.specs.Step as steps
-use Rattle.link_fifo.specs.declared.refusal.LinkRefusal.{LinkRefusal}
-use Rattle.link_fifo.specs.Refusals.{step_refusal}
+use Rattle.link_fifo.specs.{declared.refusal.LinkRefusal.LinkRefusal, Refusals.step_refusal}
 use Rattle.link_fifo.proofs.Changes.{written, slice_get-read}
 use Rattle.world.specs.Steps.{IsDoneOr, is_stale}
 use Rattle.world.proofs.Insides.{world_in}

@@ -1,9 +1,7 @@
 use Rattle.no_packet_loops.proofs.Common.{⊤, get_or_from_slice_get, Lawful, next, refusal, Runs, take-suc, Step, Publish}
 use Rattle.std.proofs.Common.{◌≡◌, Some, suc, ◌+◌, ◌-◌, ◌++◌, [], ◌∷◌, take, length, sym, ap, subst, ◌∙◌, arith, add-one, rules}
 use Rattle.world.specs.Steps.{HasRoomForSteps}
-use Rattle.world.proofs.Runs.{with_last_step, next-room, less_room}
-use Rattle.world.proofs.Done.{only_cause}
-use Rattle.world.proofs.Headline.{reached_on, sound_there}
+use Rattle.world.proofs.{Runs.with_last_step, Runs.next-room, Runs.less_room, Done.only_cause, Headline.reached_on, Headline.sound_there}
 use Rattle.world.proofs.world.World.run.Goals as goal
 
 pub loop-done-preserved : goal.loop-done-preserved
