@@ -1,11 +1,6 @@
 -- A packet that is followed to its end, whichever prefixes match it on its way.
 use Rattle.std.specs.Prelude.{◌≡◌, ◌≢◌, ℕ, zero, suc, ◌<◌, ◌++◌, false, List, [], ◌∷◌, None, Some, length}
-use Rattle.network_model.specs.declared.trace.Ending.{Ending}
-use Rattle.network_model.specs.declared.trace.Ending.TheVariants.{Crossed, Delivered}
-use Rattle.network_model.specs.declared.step.Step.{Step}
-use Rattle.network_model.specs.World.{World, Network, opening}
-use Rattle.network_model.specs.Network.{IsNetwork}
-use Rattle.network_model.specs.Run.{Runs}
+use Rattle.network_model.specs.{declared.trace.Ending.Ending, declared.trace.Ending.TheVariants.Crossed, declared.trace.Ending.TheVariants.Delivered, declared.step.Step.Step, World.World, World.Network, World.opening, Network.IsNetwork, Run.Runs}
 use Rattle.network_model.specs.Forwarding.{Trace, onward, trace, traced_by}
 use Rattle.loop_freedom.specs.Network.{meets_twice}
 use Rattle.all_packets.specs.Packets.{IsWay}

@@ -2,8 +2,7 @@
 use Rattle.std.specs.Prelude.{ℕ, ◌≡◌, ◌≤◌, ◌<◌, T, List, length, take, slice_index_or, Option, Some, None}
 use Rattle.std.specs.FinMap.{put, find as row_of, is_sorted}
 use Rattle.ipv4_prefix.specs.Prefix.{Prefix, prefix_cmp}
-use Rattle.network_model.specs.declared.route.Entry.{Entry}
-use Rattle.network_model.specs.Publication.{with_rows}
+use Rattle.network_model.specs.{declared.route.Entry.Entry, Publication.with_rows}
 use Rattle.array_bitmap.specs.Removal.{without_row}
 
 -- the rows in which a prefix has what it had before: an entry, or none

@@ -1,15 +1,9 @@
 -- The rows of a table in the order of their prefixes, from a prefix on.
 use Rattle.std.specs.Prelude.{ℕ, ◌≡◌, ◌+◌, ◌-◌, ◌*◌, ◌%◌, ◌<◌, ◌≤◌, ◌^◌, Bool, not, true, false, List, [], ◌∷◌, Option, Some, None, slice_get}
-use Rattle.std.specs.Int.{bit_at}
-use Rattle.std.specs.List.{filter}
-use Rattle.std.specs.Ordering.{is_lt}
+use Rattle.std.specs.{Int.bit_at, List.filter, Ordering.is_lt}
 use Rattle.ipv4_prefix.specs.Prefix.{Prefix, IsPrefix, prefix_cmp}
 use Rattle.network_model.specs.declared.route.Entry.{Entry}
-use Rattle.array_bitmap.specs.Bits.{depth_of, row_bit, width}
-use Rattle.array_bitmap.specs.declared.blocks.Head.{Head}
-use Rattle.array_bitmap.specs.declared.cursor.Spot.{Spot}
-use Rattle.array_bitmap.specs.declared.cursor.Found.{Found}
-use Rattle.array_bitmap.specs.declared.cursor.Found.TheVariants.{Row, NoneBefore, NoMore}
+use Rattle.array_bitmap.specs.{Bits.depth_of, Bits.row_bit, Bits.width, declared.blocks.Head.Head, declared.cursor.Spot.Spot, declared.cursor.Found.Found, declared.cursor.Found.TheVariants.Row, declared.cursor.Found.TheVariants.NoneBefore, declared.cursor.Found.TheVariants.NoMore}
 
 -- whether a prefix comes before another: by address, then by length
 abbrev pub is_before : Prefix → Prefix → Bool

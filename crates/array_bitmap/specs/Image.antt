@@ -3,12 +3,8 @@ use Rattle.std.specs.Prelude.{ℕ, ◌≡◌, ◌≢◌, ◌+◌, ◌^◌, List,
 use Rattle.word_pool.specs.Pool.{blocks}
 use Rattle.ipv4_prefix.specs.Prefix.{Prefix}
 use Rattle.network_model.specs.declared.route.Entry.{Entry}
-use Rattle.array_bitmap.specs.Bits.{depth_of}
-use Rattle.array_bitmap.specs.Words.{nothing}
+use Rattle.array_bitmap.specs.{Bits.depth_of, Words.nothing, declared.tree.Tree.Tree, declared.tree.Top.Top, declared.tree.Stand.Stand}
 use Rattle.array_bitmap.specs.Tree.{Cells, IsSoundCells, block_at, word_at, named, rows_of_cells}
-use Rattle.array_bitmap.specs.declared.tree.Tree.{Tree}
-use Rattle.array_bitmap.specs.declared.tree.Top.{Top}
-use Rattle.array_bitmap.specs.declared.tree.Stand.{Stand}
 
 -- what stands in the array at an index
 abbrev pub top_at : List Top → ℕ → Top

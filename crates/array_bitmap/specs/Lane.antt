@@ -1,11 +1,7 @@
 -- A look-up on its way down.
 use Rattle.std.specs.Prelude.{ℕ, List, ◌≡◌, ◌⊎◌, ◌+◌, ◌-◌, ◌*◌, ◌<◌, ◌≤◌, min, length, slice_index, slice_index_or}
-use Rattle.array_bitmap.specs.Bits.{depth_of}
-use Rattle.array_bitmap.specs.Words.{found}
+use Rattle.array_bitmap.specs.{Bits.depth_of, Words.found, Tree.Cells, Tree.block_at, Tree.word_at, declared.blocks.Head.Head, declared.lanes.Lane.Lane}
 use Rattle.bitmaps.specs.Greatest.{GreatestBelow}
-use Rattle.array_bitmap.specs.Tree.{Cells, block_at, word_at}
-use Rattle.array_bitmap.specs.declared.blocks.Head.{Head}
-use Rattle.array_bitmap.specs.declared.lanes.Lane.{Lane}
 
 -- the look-up at an index, and the bitmaps
 abbrev pub lane_at : List Lane → ℕ → Lane

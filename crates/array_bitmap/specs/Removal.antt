@@ -2,9 +2,7 @@
 use Rattle.std.specs.Prelude.{ℕ, ◌≡◌, ◌≢◌, ◌-◌, ◌<◌, ◌≤◌, not, List, filter}
 use Rattle.ipv4_prefix.specs.Prefix.{Prefix, prefix_eq}
 use Rattle.network_model.specs.declared.route.Entry.{Entry}
-use Rattle.array_bitmap.specs.Bits.{depth_of}
-use Rattle.array_bitmap.specs.Blocks.{row_map, kid_map}
-use Rattle.array_bitmap.specs.Tree.{Cells, words_at, block_at}
+use Rattle.array_bitmap.specs.{Bits.depth_of, Blocks.row_map, Blocks.kid_map, Tree.Cells, Tree.words_at, Tree.block_at}
 
 -- the rows without that of a prefix
 abbrev pub without_row : Prefix → List (Prefix × Entry) → List (Prefix × Entry)

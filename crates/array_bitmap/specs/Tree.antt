@@ -5,8 +5,7 @@ use Rattle.array_bitmap.specs.Words.{shown, found, word_entry, IsRowWord}
 use Rattle.array_bitmap.specs.Blocks.{row_in, kid_in, IsBlock}
 use Rattle.bitmaps.specs.Greatest.{GreatestBelow}
 use Rattle.network_model.specs.declared.route.Entry.{Entry}
-use Rattle.ipv4_prefix.specs.Prefix.{Prefix}
-use Rattle.ipv4_prefix.specs.Tables.{table_rows}
+use Rattle.ipv4_prefix.specs.{Prefix.Prefix, Tables.table_rows}
 
 -- The words of an image, as functions. The array goes by the first 4 + 5 * first bits of an address.
 -- `shorts` has the word of each prefix of at most so many bits: that of l bits of value x at 2^l + x. A second word of each such row would stand in a function beside it.

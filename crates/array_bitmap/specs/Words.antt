@@ -1,8 +1,7 @@
 -- Answer words of 32 bits: session (bits 0 to 15), port (16 to 23), kind (24 and 25), length (26 to 31). The kinds are 0 for the router itself, 1 for a neighbour and 2 for nowhere; one word of kind 3 says that there is no row.
 use Rattle.std.specs.Prelude.{ℕ, ◌≡◌, ◌+◌, ◌*◌, ◌/◌, ◌%◌, ◌^◌, ◌-◌, ◌<◌, ◌≤◌, ◌==◌, cond, Option, Some, None}
 use Rattle.ipv4_prefix.specs.Prefix.{Prefix}
-use Rattle.network_model.specs.declared.route.Entry.{Entry}
-use Rattle.network_model.specs.declared.route.Entry.TheVariants.{Local, Via, Unreachable}
+use Rattle.network_model.specs.{declared.route.Entry.Entry, declared.route.Entry.TheVariants.Local, declared.route.Entry.TheVariants.Via, declared.route.Entry.TheVariants.Unreachable}
 
 -- the word for no row
 abbrev pub nothing : ℕ

@@ -1,7 +1,6 @@
 -- The numbers of the faults.
 use Rattle.std.specs.Prelude.{◌≡◌, ℕ, ◌⊎◌, Option, None, Some}
-use Rattle.faults.specs.declared.kind.FaultKind.{FaultKind}
-use Rattle.faults.specs.Numbers.{kind_number}
+use Rattle.faults.specs.{declared.kind.FaultKind.FaultKind, Numbers.kind_number}
 use Rattle.c_interface.specs.declared.fault.CallFault.{CallFault}
 use Rattle.c_interface.specs.declared.fault.CallFault.TheVariants.{BadLength, HostBits, BadCost, BadKind, Empty, BadCount, Shared, UnknownPort, AlreadyUp, IsDown, NothingDue, NothingRipe, NoMemory, TooManyPorts, TooManyPrefixes, UnknownPrefix, NotAttached, OtherSession, GenerationsSpent, Unasked, AskedTwice, StillUsed}
 

@@ -1,12 +1,8 @@
 -- What the rows of C say, which faults they have, and the rows of answers.
 use Rattle.std.specs.Prelude.{ℕ, ◌-◌, ◌%◌, ◌^◌, ◌==◌, nat_lt, if◌then◌else◌, Option, None, Some}
 use Rattle.ipv4_prefix.specs.Prefix.{Prefix}
-use Rattle.network_model.specs.declared.route.Entry.{Entry}
-use Rattle.network_model.specs.declared.route.Entry.TheVariants.{Local, Via, Unreachable}
-use Rattle.c_interface.specs.Faults.{first_of}
-use Rattle.c_interface.specs.declared.fault.CallFault.{CallFault}
-use Rattle.c_interface.specs.declared.fault.CallFault.TheVariants.{BadLength, HostBits, BadKind}
-use Rattle.c_interface.specs.declared.row.Row.{Row}
+use Rattle.network_model.specs.{declared.route.Entry.Entry, declared.route.Entry.TheVariants.Local, declared.route.Entry.TheVariants.Via, declared.route.Entry.TheVariants.Unreachable}
+use Rattle.c_interface.specs.{Faults.first_of, declared.fault.CallFault.CallFault, declared.fault.CallFault.TheVariants.BadLength, declared.fault.CallFault.TheVariants.HostBits, declared.fault.CallFault.TheVariants.BadKind, declared.row.Row.Row}
 
 -- the first of the tests that a prefix fails, if any
 abbrev pub prefix_fault : ℕ → ℕ → Option CallFault

@@ -1,13 +1,9 @@
 -- What the matches of the command line ask for.
 use Rattle.std.specs.Prelude.{◌≡◌, ◌≢◌, ◌≤◌, ℕ, Bool, true, false, List, [], ◌∷◌, Option, Some, None, map, option_map, slice_index, codes, if◌then◌else◌}
-use Rattle.std.specs.Borrow.{Bor}
-use Rattle.std.specs.Str.Parse.{IsNumeral, digits_value, without_leading_plus}
+use Rattle.std.specs.{Borrow.Bor, Str.Parse.IsNumeral, Str.Parse.digits_value, Str.Parse.without_leading_plus}
 use Rattle.clap.specs.Words.{Row, Text, first_of, one_of}
-use Rattle.command_line.specs.declared.words.Words.{Words}
+use Rattle.command_line.specs.{declared.words.Words.Words, Formats.format_text, declared.format.Format.Format, declared.format.Format.TheVariants.Text as ForPeople}
 use Rattle.faults.specs.Numbers.{kind_number}
-use Rattle.command_line.specs.Formats.{format_text}
-use Rattle.command_line.specs.declared.format.Format.{Format}
-use Rattle.command_line.specs.declared.format.Format.TheVariants.{Text as ForPeople}
 use Rattle.command_line.specs.declared.words.Words.TheVariants.{Check, Run, Replay, Time, Explain, Shell}
 
 -- the bytes of each word

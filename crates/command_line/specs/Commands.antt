@@ -1,15 +1,8 @@
 -- The program's command line, as clap's definition reads it.
 use Rattle.std.specs.Prelude.{◌≡◌, List, [], ◌∷◌, Some, codes, fold, pos, true, false}
 use Rattle.clap.specs.Words.{App, Rule, Text, Kinds, app_of, fault_of, new_app, new_rule, with_rule, with_subcommand}
-use Rattle.clap.specs.Kinds.{or_else}
-use Rattle.clap.specs.declared.error.kind.ErrorKind.TheVariants.{InvalidValue}
-use Rattle.clap.specs.Simple.{on_top}
-use Rattle.clap.specs.declared.builder.command.Command.{Command}
-use Rattle.clap.specs.declared.builder.command.Command.TheViews.{out-Command}
-use Rattle.clap.specs.declared.builder.value_parser.ValueParser.TheVariants.{Signed}
-use Rattle.clap.specs.declared.builder.action.ArgAction.TheVariants.{SetTrue}
-use Rattle.command_line.specs.declared.arguments.Argument.{Argument}
-use Rattle.command_line.specs.declared.arguments.Shape.{Shape}
+use Rattle.clap.specs.{Kinds.or_else, declared.error.kind.ErrorKind.TheVariants.InvalidValue, Simple.on_top, declared.builder.command.Command.Command, declared.builder.command.Command.TheViews.out-Command, declared.builder.value_parser.ValueParser.TheVariants.Signed, declared.builder.action.ArgAction.TheVariants.SetTrue}
+use Rattle.command_line.specs.{declared.arguments.Argument.Argument, declared.arguments.Shape.Shape}
 use Rattle.command_line.specs.declared.arguments.Shape.TheVariants.{Word, FreeWord, Known, Number, Value, Output, Choice, Flag}
 
 -- the rule of an argument of this shape and name

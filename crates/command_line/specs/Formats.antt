@@ -1,8 +1,7 @@
 -- The names of the formats.
 use Rattle.std.specs.Prelude.{codes}
 use Rattle.clap.specs.Words.{Text}
-use Rattle.command_line.specs.declared.format.Format.{Format}
-use Rattle.command_line.specs.declared.format.Format.TheVariants.{Text as ForPeople, Json}
+use Rattle.command_line.specs.{declared.format.Format.Format, declared.format.Format.TheVariants.Text as ForPeople, declared.format.Format.TheVariants.Json}
 
 -- the name of a format on the command line
 abbrev pub format_text : Format → Text

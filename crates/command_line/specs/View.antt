@@ -1,13 +1,9 @@
 -- The command line of the program that shows a run, as clap's definition reads it, and what its matches ask for.
 use Rattle.std.specs.Prelude.{◌≡◌, List, [], ◌∷◌, Some, option_map, codes, false, true, fold, is_some}
 use Rattle.clap.specs.Words.{App, Row, Text, Kinds, fault_of, first_of, new_app, with_rule}
-use Rattle.clap.specs.Kinds.{or_else}
-use Rattle.clap.specs.Simple.{on_top}
-use Rattle.clap.specs.declared.error.kind.ErrorKind.TheVariants.{InvalidValue}
-use Rattle.command_line.specs.Asked.{IsFlag}
-use Rattle.command_line.specs.Commands.{rule_as}
+use Rattle.clap.specs.{Kinds.or_else, Simple.on_top, declared.error.kind.ErrorKind.TheVariants.InvalidValue}
+use Rattle.command_line.specs.{Asked.IsFlag, Commands.rule_as, declared.view.ViewWords.ViewWords}
 use Rattle.command_line.specs.declared.arguments.Shape.TheVariants.{Word, FreeWord, Value, Output, Flag}
-use Rattle.command_line.specs.declared.view.ViewWords.{ViewWords}
 
 -- `dualnet-view FILE [JOURNAL] [--times PATH] [--output PATH] [--json]`
 abbrev pub view_program : App

@@ -1,11 +1,7 @@
 -- Which messages steps put on links, and how many of each kind.
 use Rattle.std.specs.Prelude.{ℕ, ◌+◌, if◌then◌else◌, Option, Some, None, option_and_then}
-use Rattle.metric.specs.declared.kind.Kind.{Kind}
-use Rattle.metric.specs.declared.kind.Kind.TheVariants.{Update, Query, Reply}
-use Rattle.network_model.specs.declared.step.Step.{Step}
-use Rattle.network_model.specs.declared.step.Step.TheVariants.{Release}
-use Rattle.network_model.specs.World.{World}
-use Rattle.network_model.specs.Step.{release_at}
+use Rattle.metric.specs.{declared.kind.Kind.Kind, declared.kind.Kind.TheVariants.Update, declared.kind.Kind.TheVariants.Query, declared.kind.Kind.TheVariants.Reply}
+use Rattle.network_model.specs.{declared.step.Step.Step, declared.step.Step.TheVariants.Release, World.World, Step.release_at}
 use Rattle.world.specs.Steps.{is_stale}
 use Rattle.course.specs.declared.sent.Sent.{Sent}
 

@@ -1,10 +1,6 @@
 -- A network that runs: the steps that were done made its world, and are counted.
 use Rattle.std.specs.Prelude.{◌≡◌, ℕ, ◌+◌, ◌^◌, ◌<◌, ◌≤◌, nat_lt, if◌then◌else◌, List, [], ◌∷◌, length, Option, Some}
-use Rattle.network_model.specs.declared.step.Step.{Step}
-use Rattle.network_model.specs.declared.step.Refusal.{Refusal}
-use Rattle.network_model.specs.World.{Network, World, opening}
-use Rattle.network_model.specs.Step.{next, refusal}
-use Rattle.network_model.specs.Run.{Runs}
+use Rattle.network_model.specs.{declared.step.Step.Step, declared.step.Refusal.Refusal, World.Network, World.World, World.opening, Step.next, Step.refusal, Run.Runs}
 use Rattle.course.specs.declared.sent.Sent.{Sent}
 use Rattle.course.specs.Counts.{leaving, none_sent, sent_count, with_sent}
 

@@ -1,8 +1,6 @@
 -- The images in force: what each router published, as packets are forwarded by it.
 use Rattle.std.specs.Prelude.{ℕ, if◌then◌else◌, List, map, Option, Some, None, option_and_then, slice_get}
-use Rattle.network_model.specs.World.{Router, World}
-use Rattle.network_model.specs.Step.{is_due, router_publishing}
-use Rattle.network_model.specs.Publication.{Image}
+use Rattle.network_model.specs.{World.Router, World.World, Step.is_due, Step.router_publishing, Publication.Image}
 
 -- the image in force at a router: the rows that it published, and which publication that was
 abbrev pub image_in_force : Router → Image

@@ -1,9 +1,6 @@
 -- What code rests on that finds its way over links.
 use Rattle.std.specs.Prelude.{◌≡◌, ℕ, ◌<◌, ◌≤◌, List, ◌∷◌, length, Some}
-use Rattle.network_model.specs.declared.route.Entry.{Entry}
-use Rattle.network_model.specs.declared.network.Place.{Place}
-use Rattle.network_model.specs.World.{World, place_at}
-use Rattle.network_model.specs.Forwarding.{entry_leads}
+use Rattle.network_model.specs.{declared.route.Entry.Entry, declared.network.Place.Place, World.World, World.place_at, Forwarding.entry_leads}
 use Rattle.all_packets.specs.Packets.{IsWay}
 
 -- the link at each port is one of the world's

@@ -1,12 +1,6 @@
 -- Steps that routers do in turn.
 use Rattle.std.specs.Prelude.{◌≡◌, ℕ, ◌+◌, ◌^◌, ◌≤◌, ◌⊎◌, ⊤, Bool, false, if◌then◌else◌, List, [], ◌∷◌, length, Option, Some, None, option_and_then}
-use Rattle.network_model.specs.declared.step.Step.{Step}
-use Rattle.network_model.specs.declared.step.Refusal.{Refusal}
-use Rattle.network_model.specs.declared.step.Refusal.TheVariants.{JournalFull, NoMemory}
-use Rattle.network_model.specs.World.{World}
-use Rattle.network_model.specs.Step.{next}
-use Rattle.network_model.specs.Run.{Runs}
-use Rattle.network_model.specs.Turns.{is_settled, next_step}
+use Rattle.network_model.specs.{declared.step.Step.Step, declared.step.Refusal.Refusal, declared.step.Refusal.TheVariants.JournalFull, declared.step.Refusal.TheVariants.NoMemory, World.World, Step.next, Run.Runs, Turns.is_settled, Turns.next_step}
 use Rattle.course.specs.Course.{Course, course_after_all}
 
 -- what router i has to do next, if that is not shut

@@ -3,10 +3,8 @@ use Rattle.std.specs.Prelude.{◌≡◌, ℕ, Bool, true, ◌&&◌, ◌==◌, if
 use Rattle.std.specs.FinMap.{find as row_of}
 use Rattle.ipv4_prefix.specs.Prefix.{Prefix, prefix_cmp, prefix_eq}
 use Rattle.metric.specs.Distance.{infinity}
-use Rattle.network_model.specs.declared.route.Entry.{Entry}
-use Rattle.network_model.specs.Step.{session_at, changed_rows}
+use Rattle.network_model.specs.{declared.route.Entry.Entry, Step.session_at, Step.changed_rows, World.Router, World.machine_of}
 use Rattle.network_model.specs.View.{LinkEnd, SeenHeld, SeenItem, Reported, msg_of, kept, ripe_of, unripe_of, next_hop_at}
-use Rattle.network_model.specs.World.{Router, machine_of}
 use Rattle.loop_freedom.specs.Facts.{End, end_of, is_current, LinkFacts}
 use Rattle.loop_freedom.specs.Network.{Topology}
 use Rattle.router_core.specs.Alone.{may_forget}

@@ -3,20 +3,14 @@ use Rattle.std.specs.Prelude.{◌≡◌, ℕ, ◌<◌, min, max, Bool, true, fal
 use Rattle.std.specs.Option.{option_map_or}
 use Rattle.metric.specs.Distance.{IsCost}
 use Rattle.ipv4_prefix.specs.Prefix.{Prefix}
-use Rattle.network_model.specs.declared.item.Held.{Held}
-use Rattle.network_model.specs.World.{Router}
+use Rattle.network_model.specs.{declared.item.Held.Held, World.Router, View.LinkEnd, View.at_port}
 use Rattle.network_model.specs.Step.{router_publishing, router_releasing, ripe_front, session_at}
-use Rattle.network_model.specs.View.{LinkEnd, at_port}
 use Rattle.loop_freedom.specs.Network.{Topology}
 use Rattle.router_core.specs.Alone.{router_publishing_some, may_forget, router_forgetting}
-use Rattle.single_router.specs.declared.input.Input.{Input}
+use Rattle.single_router.specs.{declared.input.Input.Input, declared.opening.Attachment.Attachment, Inputs.told_fault, Inputs.router_after, Openings.make_fault, Openings.made_router}
 use Rattle.single_router.specs.declared.input.Input.TheVariants.{Up, Down, Cost, Message, Attached, Detached}
-use Rattle.single_router.specs.declared.opening.Attachment.{Attachment}
 use Rattle.c_interface.specs.declared.fault.CallFault.{CallFault}
-use Rattle.single_router.specs.Inputs.{told_fault, router_after}
-use Rattle.single_router.specs.Openings.{make_fault, made_router}
-use Rattle.daemon_laws.specs.Processes.{Carried, Processes}
-use Rattle.daemon_laws.specs.Packets.{is_in_session}
+use Rattle.daemon_laws.specs.{Processes.Carried, Processes.Processes, Packets.is_in_session}
 
 -- ---- what may happen
 

@@ -2,9 +2,8 @@
 use Rattle.std.specs.Prelude.{ℕ}
 use Rattle.ipv4_prefix.specs.Prefix.{Prefix}
 use Rattle.loop_freedom.specs.Network.{Topology}
-use Rattle.daemon_laws.specs.Processes.{Processes}
+use Rattle.daemon_laws.specs.{Processes.Processes, Facts.fds_next, Facts.first_fds, Facts.HasLinkFacts}
 use Rattle.daemon_laws.specs.Happenings.{AreReached, Begun, Happened, Rewired}
-use Rattle.daemon_laws.specs.Facts.{fds_next, first_fds, HasLinkFacts}
 
 -- the present ones where routers begin. A port that gets another neighbour changes none
 abbrev pub fds_reached : (t : Topology) (w : Processes) → AreReached t w → Prefix → ℕ → ℕ

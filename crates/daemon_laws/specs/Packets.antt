@@ -1,12 +1,8 @@
 -- Where packets go between routers in processes of their own, and what is claimed of their ways.
 use Rattle.std.specs.Prelude.{◌≡◌, ◌⊎◌, ℕ, Bool, true, false, ◌&&◌, ◌==◌, if◌then◌else◌, List, [], ◌∷◌, Option, Some, None, IsSome, slice_get, option_and_then, ⊤}
-use Rattle.std.specs.FinMap.{find as row_of, is_sorted}
-use Rattle.std.specs.Option.{option_map_or}
-use Rattle.ipv4_prefix.specs.Prefix.{Prefix, prefix_cmp}
-use Rattle.ipv4_prefix.specs.LongestMatch.{longest_match}
-use Rattle.network_model.specs.declared.route.Entry.{Entry}
-use Rattle.network_model.specs.declared.route.Entry.TheVariants.{Unreachable}
-use Rattle.network_model.specs.View.{LinkEnd, at_port}
+use Rattle.std.specs.{FinMap.find as row_of, FinMap.is_sorted, Option.option_map_or}
+use Rattle.ipv4_prefix.specs.{Prefix.Prefix, Prefix.prefix_cmp, LongestMatch.longest_match}
+use Rattle.network_model.specs.{declared.route.Entry.Entry, declared.route.Entry.TheVariants.Unreachable, View.LinkEnd, View.at_port}
 use Rattle.loop_freedom.specs.Network.{Topology, meets_twice}
 use Rattle.all_packets.specs.Packets.{IsWayBy}
 use Rattle.daemon_laws.specs.Processes.{Processes}

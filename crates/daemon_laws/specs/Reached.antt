@@ -1,17 +1,13 @@
 -- That the laws have something to say.
 use Rattle.std.specs.Prelude.{◌≡◌, ℕ, true, List, [], ◌∷◌, ◌++◌, Some}
 use Rattle.ipv4_prefix.specs.Prefix.{Prefix}
-use Rattle.network_model.specs.declared.route.Entry.TheVariants.{Local, Via}
-use Rattle.network_model.specs.View.{at_port}
-use Rattle.network_model.specs.World.{machine_of}
+use Rattle.network_model.specs.{declared.route.Entry.TheVariants.Local, declared.route.Entry.TheVariants.Via, View.at_port, World.machine_of}
 use Rattle.router_core.specs.Alone.{may_forget}
 use Rattle.loop_freedom.specs.Network.{Topology}
-use Rattle.single_router.specs.Inputs.{attachment_of}
-use Rattle.single_router.specs.declared.opening.Attachment.{Attachment}
-use Rattle.daemon_laws.specs.Processes.{Processes}
+use Rattle.single_router.specs.{Inputs.attachment_of, declared.opening.Attachment.Attachment}
+use Rattle.daemon_laws.specs.{Processes.Processes, Rest.AreAtRest, Rest.entry_in_force}
 use Rattle.daemon_laws.specs.Packets.{IsForwardedByRows, session_leads, unmarked_leads, rows_in_force}
 use Rattle.daemon_laws.specs.Happenings.{Happening, BeginsAnew, IsOpening, AllCanHappen, after_happenings, is_new_link, MayRewire, rewired}
-use Rattle.daemon_laws.specs.Rest.{AreAtRest, entry_in_force}
 
 -- something may happen after which a packet goes from one router to another by a published row
 pub record SomePacketGoesAtDaemons : Type 0 where

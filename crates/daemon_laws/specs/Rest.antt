@@ -1,19 +1,11 @@
 -- When routers in processes of their own are at rest, and where their rows lead then.
 use Rattle.std.specs.Prelude.{◌≡◌, ◌⊎◌, ℕ, ◌+◌, ◌<◌, ◌≤◌, true, false, List, [], ◌∷◌, Option, Some, None, slice_get}
-use Rattle.std.specs.Option.{option_map_or}
-use Rattle.std.specs.FinMap.{find as row_of}
+use Rattle.std.specs.{Option.option_map_or, FinMap.find as row_of}
 use Rattle.ipv4_prefix.specs.Prefix.{Prefix, prefix_cmp}
-use Rattle.network_model.specs.declared.route.Entry.{Entry}
-use Rattle.network_model.specs.declared.route.Entry.TheVariants.{Local, Via, Unreachable}
-use Rattle.network_model.specs.Forwarding.{is_quiet_router}
-use Rattle.network_model.specs.Network.{most_routers}
-use Rattle.network_model.specs.View.{LinkEnd}
-use Rattle.network_model.specs.World.{machine_of}
+use Rattle.network_model.specs.{declared.route.Entry.Entry, declared.route.Entry.TheVariants.Local, declared.route.Entry.TheVariants.Via, declared.route.Entry.TheVariants.Unreachable, Forwarding.is_quiet_router, Network.most_routers, View.LinkEnd, World.machine_of}
 use Rattle.loop_freedom.specs.Network.{Topology}
 use Rattle.single_router.specs.Inputs.{attachment_of}
-use Rattle.daemon_laws.specs.Processes.{Processes}
-use Rattle.daemon_laws.specs.Packets.{is_in_session}
-use Rattle.daemon_laws.specs.Happenings.{HoldsAlways}
+use Rattle.daemon_laws.specs.{Processes.Processes, Packets.is_in_session, Happenings.HoldsAlways}
 
 -- ---- links that are up
 

@@ -1,8 +1,7 @@
 -- What it means that routers in processes of their own come to rest: once no process tells its router anything of its own, and
 -- none begins anew, whatever they still do ends, in whatever order.
 use Rattle.std.specs.Prelude.{◌≡◌, ℕ, ◌<◌, ◌≤◌, true, List, [], ◌∷◌, length, Some, slice_get, ⊤}
-use Rattle.network_model.specs.declared.item.Held.{Held}
-use Rattle.network_model.specs.Step.{ripe_front, is_due, changed_rows}
+use Rattle.network_model.specs.{declared.item.Held.Held, Step.ripe_front, Step.is_due, Step.changed_rows}
 use Rattle.router_core.specs.Alone.{may_forget}
 use Rattle.loop_freedom.specs.Network.{Topology}
 use Rattle.coming_to_rest.specs.Rest.{IsFinite}

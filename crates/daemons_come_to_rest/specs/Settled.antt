@@ -1,13 +1,11 @@
 -- Where nothing more happens among routers in processes of their own.
 use Rattle.std.specs.Prelude.{◌≡◌, ℕ, ◌<◌, ◌≤◌, Bool, true, false, ◌||◌, List, [], ◌∷◌, length, ⊤}
 use Rattle.ipv4_prefix.specs.Prefix.{Prefix}
-use Rattle.network_model.specs.Network.{most_routers}
-use Rattle.network_model.specs.View.{LinkEnd}
+use Rattle.network_model.specs.{Network.most_routers, View.LinkEnd}
 use Rattle.loop_freedom.specs.Network.{Topology}
 use Rattle.coming_to_rest.specs.Rest.{IsFinite}
 use Rattle.single_router.specs.Inputs.{attachment_of}
-use Rattle.daemon_laws.specs.Processes.{Processes}
-use Rattle.daemon_laws.specs.Packets.{is_in_session}
+use Rattle.daemon_laws.specs.{Processes.Processes, Packets.is_in_session}
 use Rattle.daemon_laws.specs.Happenings.{Happening, Loses, Forgets, after_happenings, HoldsAlways, IsOpening, AllCanHappen}
 use Rattle.daemon_laws.specs.Rest.{IsUpIn, NothingLost, AreAtRest, ProcessHasBestRow}
 use Rattle.daemons_come_to_rest.specs.Rest.{HappensAlone, AllAlone, HasMostHappenings}

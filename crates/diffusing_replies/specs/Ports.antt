@@ -1,11 +1,8 @@
 -- Sets of ports, and how a number of 32 bits stands for one.
-use Rattle.std.specs.Int.{bit_at}
-use Rattle.std.specs.List.{list_any, range_with_len}
-use Rattle.std.specs.Ordering.{nat_cmp}
+use Rattle.std.specs.{Int.bit_at, List.list_any, List.range_with_len, Ordering.nat_cmp}
 use Rattle.std.specs.FinSet.{FinSet, contains, retain, from_list, contains-retain, contains-from_list_nat, nat_cmp-IsAntisymmetric}
 use Rattle.std.proofs.Common.{◌⊎◌, inl, inr, arith, ap, sym, subst, ◌∙◌, ◌≡◌, ℕ, zero, suc, ◌+◌, ◌-◌, ◌*◌, ◌^◌, ◌<◌, ◌≤◌, Bool, true, false, ◌&&◌, ◌||◌, ◌==◌, nat_eq, if◌then◌else◌, refl}
-use Rattle.std.proofs.Math.Bool.{and-false}
-use Rattle.std.proofs.lemmas.Bool.{eqb-false, cases_lt}
+use Rattle.std.proofs.{Math.Bool.and-false, lemmas.Bool.eqb-false, lemmas.Bool.cases_lt}
 use Rattle.std.proofs.lemmas.Nat.Bits.{bit_at-lt, bit_at_above, bit_at_cat_low, bit_at_cat_high, same_from_bits_below}
 
 -- a set of ports

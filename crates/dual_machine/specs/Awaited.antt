@@ -1,7 +1,6 @@
 -- The awaited ports as the definition of a machine has them: a truth value for each port.
 use Rattle.std.specs.Prelude.{◌≡◌, ℕ, ◌<◌, Bool, true, List, map}
-use Rattle.std.specs.List.{range_with_len}
-use Rattle.std.specs.FinSet.{contains}
+use Rattle.std.specs.{List.range_with_len, FinSet.contains}
 use Rattle.diffusing_replies.specs.Ports.{Ports}
 
 -- by port, for so many ports, whether it is in the set

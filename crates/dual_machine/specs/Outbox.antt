@@ -1,7 +1,6 @@
 -- What callers see of a list of messages sent, and of the room that it has.
 use Rattle.std.specs.Prelude.{ℕ, ◌+◌, ◌≤◌, List, length, count_by}
-use Rattle.network_model.specs.declared.machine.Neighbour.{Neighbour}
-use Rattle.network_model.specs.declared.machine.Outgoing.{Outgoing}
+use Rattle.network_model.specs.{declared.machine.Neighbour.Neighbour, declared.machine.Outgoing.Outgoing}
 
 -- the messages, oldest first, and for how many there is room in all
 pub record Outbox : Type 0 where

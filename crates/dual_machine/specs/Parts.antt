@@ -1,15 +1,11 @@
 -- The parts of a machine, and what is true of them in every machine.
 use Rattle.std.specs.Prelude.{◌≡◌, ℕ, ◌≤◌, Bool, true, false, nat_lt, List, length, Option, Some, None, All, IfSome}
-use Rattle.std.specs.List.{list_any}
-use Rattle.std.specs.Option.{option_map_or}
+use Rattle.std.specs.{List.list_any, Option.option_map_or}
 use Rattle.metric.specs.Distance.{IsCost}
-use Rattle.network_model.specs.declared.machine.Neighbour.{Neighbour}
-use Rattle.network_model.specs.Machine.{Computation}
-use Rattle.network_model.specs.Network.{most_ports}
+use Rattle.network_model.specs.{declared.machine.Neighbour.Neighbour, Machine.Computation, Network.most_ports}
 use Rattle.diffusing_replies.specs.declared.origin.Origin.{Origin}
 use Rattle.diffusing_replies.specs.declared.origin.Origin.TheVariants.{OwnDisturbed, Own, OwingDisturbed, Owing}
-use Rattle.dual_machine.specs.Awaited.{awaited_of, AwaitsBelow}
-use Rattle.dual_machine.specs.declared.mode.Active.{Active}
+use Rattle.dual_machine.specs.{Awaited.awaited_of, Awaited.AwaitsBelow, declared.mode.Active.Active}
 
 -- whether there is a successor and it is one of so many ports
 abbrev pub is_port_below : ℕ → Option ℕ → Bool

@@ -1,17 +1,11 @@
 -- What callers see of a machine, and what an event does to its origin state.
 use Rattle.std.specs.Prelude.{◌≡◌, ℕ, Bool, false, nat_lt, if◌then◌else◌, List, map, Option, Some, None, slice_get, is_some, unwrap_or}
-use Rattle.std.specs.List.{list_any}
-use Rattle.std.specs.Option.{option_map}
-use Rattle.std.specs.FinSet.{contains}
-use Rattle.metric.specs.Distance.{infinity}
-use Rattle.metric.specs.declared.kind.Kind.TheVariants.{Query}
-use Rattle.network_model.specs.declared.machine.Event.{Event}
+use Rattle.std.specs.{List.list_any, Option.option_map, FinSet.contains}
+use Rattle.metric.specs.{Distance.infinity, declared.kind.Kind.TheVariants.Query}
+use Rattle.network_model.specs.{declared.machine.Event.Event, declared.machine.Neighbour.Neighbour, declared.machine.PortInfo.PortInfo}
 use Rattle.network_model.specs.declared.machine.Event.TheVariants.{Message, Up, Down, Cost, Attached, Detached}
-use Rattle.network_model.specs.declared.machine.Neighbour.{Neighbour}
-use Rattle.network_model.specs.declared.machine.PortInfo.{PortInfo}
 use Rattle.network_model.specs.Machine.{Machine, Computation, opening_machine, ways, port_count, is_port, asker, via_successor, condition_holds, with_records, awaited_after}
-use Rattle.diffusing_replies.specs.declared.origin.Origin.{Origin}
-use Rattle.diffusing_replies.specs.declared.origin.Origin.TheVariants.{Own, Owing}
+use Rattle.diffusing_replies.specs.{declared.origin.Origin.Origin, declared.origin.Origin.TheVariants.Own, declared.origin.Origin.TheVariants.Owing}
 use Rattle.dual_machine.specs.declared.mode.Mode.{Mode}
 use Rattle.dual_machine.specs.declared.mode.Mode.TheVariants as mode
 use Rattle.diffusing_replies.specs.Origin.{rose, queried, lost, restart, owes_reply}

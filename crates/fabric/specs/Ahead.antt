@@ -1,10 +1,7 @@
 -- Mixtures are not empty: a packet goes on by a row that a writer is still out to publish.
 use Rattle.std.specs.Prelude.{◌≡◌, ℕ, true, None, Some}
-use Rattle.network_model.specs.Network.{IsNetwork}
-use Rattle.network_model.specs.Journal.{most_steps}
-use Rattle.fabric.specs.Fabric.{Fabric, IsFabric}
-use Rattle.fabric.specs.Headline.{image_hop, none_published}
-use Rattle.fabric.specs.Writers.{LentAreDue}
+use Rattle.network_model.specs.{Network.IsNetwork, Journal.most_steps}
+use Rattle.fabric.specs.{Fabric.Fabric, Fabric.IsFabric, Headline.image_hop, Headline.none_published, Writers.LentAreDue}
 
 -- in the fabric, of which all that is kept of every fabric holds, a packet for the address goes from router i to router k by the row that router i's writer is out to publish; in the image with which that writer left no row matches
 pub record GoesAhead (f : Fabric) (addr i k : ℕ) : Type 0 where

@@ -1,8 +1,7 @@
 -- Where a fabric has the writer of a router: with it, or out with a ticket.
 use Rattle.std.specs.Prelude.{List, [], ◌∷◌, map, Option, Some, None}
 use Rattle.network_model.specs.Publication.{Patch}
-use Rattle.publication.specs.declared.known.Known.{Known}
-use Rattle.publication.specs.Lists.{Writing}
+use Rattle.publication.specs.{declared.known.Known.Known, Lists.Writing}
 
 -- the writer's published list and what waits with it, and the patch that it is out to publish; while it is out, the list is that of before, and the patch stands for what waits
 pub record Desk : Type 0 where

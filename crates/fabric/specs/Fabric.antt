@@ -1,17 +1,10 @@
 -- A network that runs, and the steps that made it what it is.
 use Rattle.std.specs.Prelude.{◌≡◌, ℕ, ◌+◌, ◌*◌, ◌^◌, ◌≤◌, Bool, false, nat_lt, if◌then◌else◌, List, [], ◌∷◌, ◌++◌, length, filter, replicate, set, Option, Some, None, is_some, slice_get, option_and_then}
-use Rattle.std.specs.List.{AllByRecursion}
-use Rattle.std.specs.Option.{option_map_or}
+use Rattle.std.specs.{List.AllByRecursion, Option.option_map_or}
 use Rattle.ipv4_prefix.specs.LongestMatch.{longest_match}
-use Rattle.network_model.specs.declared.step.Step.{Step}
-use Rattle.network_model.specs.declared.step.Step.TheVariants.{Deliver, Publish}
-use Rattle.network_model.specs.declared.step.Refusal.{Refusal}
+use Rattle.network_model.specs.{declared.step.Step.Step, declared.step.Step.TheVariants.Deliver, declared.step.Step.TheVariants.Publish, declared.step.Refusal.Refusal, Step.next, Step.refusal, Run.Runs, Journal.Fits, Journal.most_steps, Journal.journal_sum, Publication.Image, Publication.Patch, Publication.image_answer}
 use Rattle.network_model.specs.World.{Network, Router, World, opening}
-use Rattle.network_model.specs.Step.{next, refusal}
-use Rattle.network_model.specs.Run.{Runs}
-use Rattle.network_model.specs.Journal.{Fits, most_steps, journal_sum}
 use Rattle.network_model.specs.Turns as turns
-use Rattle.network_model.specs.Publication.{Image, Patch, image_answer}
 use Rattle.course.specs.Images.{images_in_force}
 
 -- the network that was opened, the steps done since, the world that they made, the image of each router, and the patch with which each router's writer is out, if it is. The image is the one in force at a router whose

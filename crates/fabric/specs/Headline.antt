@@ -1,10 +1,7 @@
 -- What holds of every fabric: no packet circles along the images in force, and at quiet rows lead along least-cost walks.
 use Rattle.std.specs.Prelude.{◌≡◌, ℕ, ◌<◌, Bool, true, false, ◌&&◌, if◌then◌else◌, List, Option, Some, slice_get, option_map, option_and_then}
 use Rattle.ipv4_prefix.specs.Prefix.{Prefix}
-use Rattle.network_model.specs.declared.route.Entry.{Entry}
-use Rattle.network_model.specs.Publication.{Image, image_answer}
-use Rattle.network_model.specs.Step.{router_publishing}
-use Rattle.network_model.specs.Forwarding.{entry_leads, is_quiet}
+use Rattle.network_model.specs.{declared.route.Entry.Entry, Publication.Image, Publication.image_answer, Step.router_publishing, Forwarding.entry_leads, Forwarding.is_quiet}
 use Rattle.loop_freedom.specs.Network.{meets_twice}
 use Rattle.all_packets.specs.Packets.{IsWayBy}
 use Rattle.quiet_routes.specs.Routes.{HasBestRow}

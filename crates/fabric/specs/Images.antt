@@ -1,8 +1,6 @@
 -- What the images in force answer.
 use Rattle.std.specs.Prelude.{ℕ, Option, option_map, slice_get}
-use Rattle.network_model.specs.declared.route.Answer.{Answer}
-use Rattle.network_model.specs.World.{World}
-use Rattle.network_model.specs.Publication.{answer_of}
+use Rattle.network_model.specs.{declared.route.Answer.Answer, World.World, Publication.answer_of}
 use Rattle.course.specs.Images.{image_in_force}
 
 -- what the image in force at a router answers for an address; nothing where there is no such router

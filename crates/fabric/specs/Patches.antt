@@ -2,11 +2,8 @@
 use Rattle.std.specs.Prelude.{◌≡◌, ℕ, ◌||◌, not, List, filter, Option, Some, None, slice_get}
 use Rattle.std.specs.List.{list_any}
 use Rattle.ipv4_prefix.specs.Prefix.{Prefix, prefix_eq}
-use Rattle.network_model.specs.declared.route.Entry.{Entry}
-use Rattle.network_model.specs.World.{Router, Table, World}
-use Rattle.network_model.specs.Step.{has_row}
-use Rattle.image_patch.specs.declared.Patch.{Patch}
-use Rattle.image_patch.specs.Patches.{patched}
+use Rattle.network_model.specs.{declared.route.Entry.Entry, World.Router, World.Table, World.World, Step.has_row}
+use Rattle.image_patch.specs.{declared.Patch.Patch, Patches.patched}
 use Rattle.course.specs.Images.{image_in_force, due_at}
 
 -- the rows that a publication names: the chosen rows that differ from those in force, and those of the prefixes that wait

@@ -1,6 +1,5 @@
 -- What contracts see of the place of a writer.
-use Rattle.fabric.specs.Desks.{Desk, desk_in, desk_out}
-use Rattle.fabric.specs.declared.desk.Place.{Place}
+use Rattle.fabric.specs.{Desks.Desk, Desks.desk_in, Desks.desk_out, declared.desk.Place.Place}
 
 module _ {B A : Type 0} where
   abbrev pub desk_of : Place B A → Desk

@@ -1,16 +1,12 @@
 -- The writers that publish the images of a fabric's routers, and the readers by which the fabric looks up in them.
 use Rattle.std.specs.Prelude.{◌≡◌, ◌≤◌, ℕ, true, List, [], ◌∷◌, map, length, All, IsSome, IfSome, Some, slice_get, option_and_then}
-use Rattle.std.specs.FinMap.{find as row_of}
-use Rattle.std.specs.Option.{option_map_or}
+use Rattle.std.specs.{FinMap.find as row_of, Option.option_map_or}
 use Rattle.ipv4_prefix.specs.Prefix.{Prefix, prefix_cmp}
-use Rattle.network_model.specs.declared.route.Entry.{Entry}
+use Rattle.network_model.specs.{declared.route.Entry.Entry, Step.is_due, Step.router_publishing, Publication.Image, Publication.Patch, declared.step.Step.Step}
 use Rattle.network_model.specs.World.{Network, Router, World, opening}
-use Rattle.network_model.specs.Step.{is_due, router_publishing}
-use Rattle.network_model.specs.Publication.{Image, Patch}
 use Rattle.publication.specs.declared.known.Known.{Known}
 use Rattle.publication.specs.Lists.{EachAt, Writing, image_of, is_named, no_patches, patched_prefixes}
 use Rattle.image_patch.specs.Patches.{patched}
-use Rattle.network_model.specs.declared.step.Step.{Step}
 use Rattle.fabric.specs.Desks.{Desk, all_lent, writings}
 use Rattle.fabric.specs.Fabric.{Fabric, count_lent, fabric_of, lent_at, IsFabric, IsSumOf}
 use Rattle.course.specs.Images.{image_in_force}

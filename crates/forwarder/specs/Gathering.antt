@@ -2,9 +2,7 @@
 use Rattle.std.specs.Prelude.{Bool, ℕ, ◌==◌, ◌&&◌, List, [], ◌∷◌, ◌++◌, Option, Some, None, if◌then◌else◌}
 use Rattle.std.specs.List.{list_any, list_all}
 use Rattle.publication.specs.declared.job.Job.{Job}
-use Rattle.forwarder.specs.Replies.{Replied}
-use Rattle.forwarder.specs.declared.gathering.GatherFault.{GatherFault}
-use Rattle.forwarder.specs.declared.gathering.GatherFault.TheVariants.{Stranger, Doubled, Missing}
+use Rattle.forwarder.specs.{Replies.Replied, declared.gathering.GatherFault.GatherFault, declared.gathering.GatherFault.TheVariants.Stranger, declared.gathering.GatherFault.TheVariants.Doubled, declared.gathering.GatherFault.TheVariants.Missing}
 use Rattle.faults.specs.declared.kind.FaultKind.{FaultKind}
 
 -- the first of two faults

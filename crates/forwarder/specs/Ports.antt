@@ -1,7 +1,6 @@
 -- What the readers of a port see.
 use Rattle.std.specs.Prelude.{◌≡◌, ℕ, List, Some, length, slice_get}
-use Rattle.publication.specs.declared.known.Known.{Known}
-use Rattle.publication.specs.Lists.{Begins, EachAt}
+use Rattle.publication.specs.{declared.known.Known.Known, Lists.Begins, Lists.EachAt}
 
 -- one view of each router, by the routers' numbers
 abbrev pub IsOneEach : ℕ → List Known → Type 0

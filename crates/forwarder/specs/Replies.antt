@@ -1,12 +1,8 @@
 -- What a reply holds.
 use Rattle.std.specs.Prelude.{◌≡◌, List}
 use Rattle.ipv4_prefix.specs.Prefix.{Prefix}
-use Rattle.network_model.specs.declared.route.Answer.{Answer}
-use Rattle.network_model.specs.declared.route.Entry.{Entry}
-use Rattle.network_model.specs.Publication.{answer_of}
-use Rattle.publication.specs.declared.job.Job.{Job}
-use Rattle.publication.specs.declared.known.Known.{Known}
-use Rattle.publication.specs.Lists.{Begins, image_of}
+use Rattle.network_model.specs.{declared.route.Answer.Answer, declared.route.Entry.Entry, Publication.answer_of}
+use Rattle.publication.specs.{declared.job.Job.Job, declared.known.Known.Known, Lists.Begins, Lists.image_of}
 
 -- a job, the list of the view that answered it, and the answer
 pub record Replied (X : Type 0) : Type 0 where

@@ -1,16 +1,9 @@
 -- What a fabric that was under a lock can have become, and how a step or a turn comes out there.
 use Rattle.std.specs.Prelude.{◌≡◌, ℕ, ◌+◌, ◌≤◌, ◌<◌, ◌⊎◌, ⊤, Bool, true, false, List, [], ◌∷◌, ◌++◌, length, Option, Some, None, Result, Ok, Err, MatchResult}
 use Rattle.std.specs.List.{AllByRecursion}
-use Rattle.network_model.specs.declared.step.Step.{Step}
-use Rattle.network_model.specs.declared.step.Step.TheVariants.{Publish, Release}
-use Rattle.network_model.specs.declared.step.Refusal.{Refusal}
+use Rattle.network_model.specs.{declared.step.Step.Step, declared.step.Step.TheVariants.Publish, declared.step.Step.TheVariants.Release, declared.step.Refusal.Refusal, World.World, Step.Lawful, Step.next, Run.Runs, Turns.is_lawful, Turns.is_settled, Turns.next_step, Publication.Image}
 use Rattle.network_model.specs.declared.step.Refusal.TheVariants.{JournalFull, NoMemory, UnknownRouter, WrongTicket}
-use Rattle.network_model.specs.World.{World}
-use Rattle.network_model.specs.Step.{Lawful, next}
-use Rattle.network_model.specs.Run.{Runs}
-use Rattle.network_model.specs.Turns.{is_lawful, is_settled, next_step}
 use Rattle.network_model.specs.Journal.{Fits, journal_sum, most_steps, step_number}
-use Rattle.network_model.specs.Publication.{Image}
 use Rattle.world.specs.Steps.{CanBeRefused}
 use Rattle.fabric.specs.Fabric.{Fabric, count_lent, fabric_refusal, is_lent, ForwardsAsPublished, next_fabric_step as next_turn}
 use Rattle.fabric.specs.Headline.{NeverMeetsTwice, LeadsAtLeastCost, ConvergesLeftAlone}

@@ -1,7 +1,6 @@
 -- Shares and their holders.
 use Rattle.std.specs.Prelude.{◌≡◌, ℕ, ◌<◌, ◌==◌, ◌⊎◌, ◌≢◌, if◌then◌else◌, List, length, None, Some, Result, MatchResult, slice_index_or}
-use Rattle.network_model.specs.declared.step.Refusal.{Refusal}
-use Rattle.network_model.specs.declared.step.Refusal.TheVariants.{WrongTicket}
+use Rattle.network_model.specs.{declared.step.Refusal.Refusal, declared.step.Refusal.TheVariants.WrongTicket}
 use Rattle.publication.specs.Lists.{EachAt}
 use Rattle.guarded.specs.declared.share.Share.{Share}
 

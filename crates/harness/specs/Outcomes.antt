@@ -2,9 +2,7 @@
 use Rattle.std.specs.Prelude.{◌≡◌, ℕ, ◌⊎◌, Option, true, []}
 use Rattle.texts.specs.Words.{Text}
 use Rattle.command_line.specs.declared.words.Words.{Words}
-use Rattle.plans.specs.declared.outcome.Outcome.{Outcome}
-use Rattle.plans.specs.declared.fault.Fault.{Fault}
-use Rattle.plans.specs.Faults.{status_at, status_of}
+use Rattle.plans.specs.{declared.outcome.Outcome.Outcome, declared.fault.Fault.Fault, Faults.status_at, Faults.status_of}
 use Rattle.play.specs.Outcomes.{Ends, StopsWords}
 
 -- a command came to an end, and a journal was kept or not; or it stopped for a fault, and nothing was kept; the

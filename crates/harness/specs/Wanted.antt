@@ -1,10 +1,7 @@
 -- What a case should give.
 use Rattle.std.specs.Prelude.{◌≡◌, ◌⊎◌, ℕ, List, Option, Some, IfSome, true, nat_eq, string_bytes}
-use Rattle.std.specs.Borrow.{Bor}
-use Rattle.std.specs.List.{starts_with}
-use Rattle.harness.specs.declared.case.Text.{Text}
-use Rattle.harness.specs.declared.case.Text.TheVariants.{Is, Begins}
-use Rattle.harness.specs.declared.case.Wanted.{Wanted}
+use Rattle.std.specs.{Borrow.Bor, List.starts_with}
+use Rattle.harness.specs.{declared.case.Text.Text, declared.case.Text.TheVariants.Is, declared.case.Text.TheVariants.Begins, declared.case.Wanted.Wanted}
 use Rattle.harness.specs.declared.case.Given.{Given}
 
 -- these bytes are the text, or begin with it

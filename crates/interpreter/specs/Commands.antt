@@ -2,16 +2,11 @@
 use Rattle.std.specs.Prelude.{◌≡◌, ℕ, zero, suc, ◌<◌, ◌⊎◌, Bool, true, false, not, nat_eq, ◌||◌, ◌&&◌, List, [], ◌∷◌, length, Some, take, slice_get}
 use Rattle.std.specs.Option.{option_map_or}
 use Rattle.faults.specs.declared.kind.FaultKind.{FaultKind}
-use Rattle.network_model.specs.declared.step.Step.{Step as NetworkStep}
-use Rattle.network_model.specs.declared.step.Step.TheVariants.{LinkUp, LinkDown}
-use Rattle.network_model.specs.declared.step.Refusal.{Refusal}
-use Rattle.network_model.specs.World.{Link, World}
+use Rattle.network_model.specs.{declared.step.Step.Step as NetworkStep, declared.step.Step.TheVariants.LinkUp, declared.step.Step.TheVariants.LinkDown, declared.step.Refusal.Refusal, World.Link, World.World}
 use Rattle.world.specs.Steps.{CanBeRefused}
-use Rattle.script.specs.declared.command.Command.{Command}
+use Rattle.script.specs.{declared.command.Command.Command, declared.place.Key.TheVariants.Script}
 use Rattle.script.specs.declared.command.Command.TheVariants.{Step, Try, Settle, SettleDrawn, State, Table, Next, Queue, Held, Lookup, Inject, Trace, TraceThrough, Drain, RouterUp, RouterDown, Save, Restore}
-use Rattle.script.specs.declared.place.Key.TheVariants.{Script}
-use Rattle.plans.specs.declared.fault.Fault.{Fault}
-use Rattle.plans.specs.Faults.{at_line, OfRefusal}
+use Rattle.plans.specs.{declared.fault.Fault.Fault, Faults.at_line, Faults.OfRefusal}
 use Rattle.lines.specs.Report.{unknown_router}
 use Rattle.interpreter.specs.Nets.{IsStepDone, IsStepRefused, Meaning}
 

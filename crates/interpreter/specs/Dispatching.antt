@@ -1,24 +1,15 @@
 -- Jobs that workers are given, and what they answer.
 use Rattle.std.specs.Prelude.{◌≡◌, ℕ, ◌+◌, ◌⊎◌, ⊤, List, [], Option, Some, min, slice_get}
-use Rattle.std.specs.List.{flat_map}
-use Rattle.std.specs.Option.{option_map_or}
+use Rattle.std.specs.{List.flat_map, Option.option_map_or}
 use Rattle.faults.specs.declared.kind.FaultKind.{FaultKind}
 use Rattle.ipv4_prefix.specs.Prefix.{Prefix}
-use Rattle.network_model.specs.declared.route.Entry.{Entry}
-use Rattle.network_model.specs.declared.step.Refusal.{Refusal}
-use Rattle.network_model.specs.Publication.{Image}
+use Rattle.network_model.specs.{declared.route.Entry.Entry, declared.step.Refusal.Refusal, Publication.Image}
 use Rattle.world.specs.Steps.{CanBeRefused}
-use Rattle.publication.specs.declared.job.Job.{Job}
-use Rattle.publication.specs.Lists.{image_of}
+use Rattle.publication.specs.{declared.job.Job.Job, Lists.image_of}
 use Rattle.forwarder.specs.Replies.{Replied}
 use Rattle.texts.specs.Words.{Text}
-use Rattle.lines.specs.declared.answers.Asked.TheVariants.{Packet}
-use Rattle.lines.specs.declared.line.Line.TheVariants.{Asked}
-use Rattle.lines.specs.declared.told.Printer.{Printer}
-use Rattle.lines.specs.Formats.{printed}
-use Rattle.worker_pool.specs.Crews.{Crew}
-use Rattle.worker_pool.specs.declared.fault.PoolFault.{PoolFault}
-use Rattle.worker_pool.specs.Faults.{IsBeginFault, IsInjectFault, pool_kind}
+use Rattle.lines.specs.{declared.answers.Asked.TheVariants.Packet, declared.line.Line.TheVariants.Asked, declared.told.Printer.Printer, Formats.printed}
+use Rattle.worker_pool.specs.{Crews.Crew, declared.fault.PoolFault.PoolFault, Faults.IsBeginFault, Faults.IsInjectFault, Faults.pool_kind}
 use Rattle.plans.specs.Faults.{OfRefusal}
 
 -- the jobs that wait until the workers have answered them, in order, the number of the last job that was given, and how many workers there are

@@ -1,17 +1,11 @@
 -- What commands mean on a network that runs: one whose steps are kept, or one that counts them alone.
 use Rattle.std.specs.Prelude.{◌≡◌, ℕ, ◌⊎◌, Option, Some, None, MatchOption, refl, slice_get}
 use Rattle.faults.specs.declared.kind.FaultKind.{FaultKind}
-use Rattle.ipv4_prefix.specs.LongestMatch.{longest_match}
-use Rattle.ipv4_prefix.specs.Prefix.{Prefix}
-use Rattle.network_model.specs.declared.route.Entry.{Entry}
-use Rattle.network_model.specs.declared.step.Step.{Step}
-use Rattle.network_model.specs.declared.step.Refusal.{Refusal}
+use Rattle.ipv4_prefix.specs.{LongestMatch.longest_match, Prefix.Prefix}
+use Rattle.network_model.specs.{declared.route.Entry.Entry, declared.step.Step.Step, declared.step.Refusal.Refusal, World.Network, World.Router, World.World, Step.Lawful, Step.next}
 use Rattle.network_model.specs.declared.step.Refusal.TheVariants.{UnknownRouter, NoMemory, Stale, NoImage}
-use Rattle.network_model.specs.World.{Network, Router, World}
-use Rattle.network_model.specs.Step.{Lawful, next}
 use Rattle.world.specs.Steps.{CanBeRefused}
-use Rattle.fabric.specs.Fabric.{Fabric, after_step, fabric_refusal}
-use Rattle.fabric.specs.Images.{answer_at}
+use Rattle.fabric.specs.{Fabric.Fabric, Fabric.after_step, Fabric.fabric_refusal, Images.answer_at}
 use Rattle.simulation.specs.Simulation.{Simulation, opening_simulation, simulation_refusal, after_step as after_step_there}
 use Rattle.plans.specs.Faults.{OfRefusal}
 use Rattle.lines.specs.Report.{unknown_router}

@@ -1,15 +1,9 @@
 -- How a network is let settle.
 use Rattle.std.specs.Prelude.{◌≡◌, ◌⊎◌, ℕ, true}
-use Rattle.network_model.specs.declared.step.Refusal.{Refusal}
-use Rattle.network_model.specs.declared.step.Refusal.TheVariants.{NoMemory}
-use Rattle.network_model.specs.Forwarding.{is_quiet}
-use Rattle.network_model.specs.Turns.{is_settled}
-use Rattle.fabric.specs.Fabric.{Fabric}
-use Rattle.fabric.specs.Headline.{HasBestRows}
+use Rattle.network_model.specs.{declared.step.Refusal.Refusal, declared.step.Refusal.TheVariants.NoMemory, Forwarding.is_quiet, Turns.is_settled}
+use Rattle.fabric.specs.{Fabric.Fabric, Headline.HasBestRows}
 use Rattle.guarded.specs.Served.{IsServed, IsTurnRefused, none_asked, IsFabricStopped}
-use Rattle.simulation.specs.Simulation.{Simulation}
-use Rattle.simulation.specs.Headline.{HasBestRows as HasBestRowsThere}
-use Rattle.simulation.specs.Settling.{HasTurned, IsStopped}
+use Rattle.simulation.specs.{Simulation.Simulation, Headline.HasBestRows as HasBestRowsThere, Settling.HasTurned, Settling.IsStopped}
 
 -- ---- where steps are kept
 

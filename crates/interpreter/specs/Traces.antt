@@ -1,11 +1,8 @@
 -- The traces of packets, and where one crosses from the rows of one prefix to those of another.
 use Rattle.std.specs.Prelude.{◌≡◌, ℕ, Bool, true, false, not, List, [], ◌∷◌, Option, None, option_map, option_and_then}
-use Rattle.std.specs.List.{position_from}
-use Rattle.std.specs.Option.{option_map_or}
+use Rattle.std.specs.{List.position_from, Option.option_map_or}
 use Rattle.ipv4_prefix.specs.Prefix.{Prefix, prefix_eq}
-use Rattle.network_model.specs.declared.trace.Trace.{Trace}
-use Rattle.network_model.specs.World.{World}
-use Rattle.network_model.specs.Forwarding.{row_for, trace, trace_of}
+use Rattle.network_model.specs.{declared.trace.Trace.Trace, World.World, Forwarding.row_for, Forwarding.trace, Forwarding.trace_of}
 use Rattle.all_packets.specs.Through.{through}
 
 -- the trace of a packet for the address from a router: through, whichever prefixes match it, or while one prefix does

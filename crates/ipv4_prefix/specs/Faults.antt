@@ -1,10 +1,8 @@
 -- Which texts spell addresses and prefixes, and what is wrong with the others.
 use Rattle.std.specs.Prelude.{◌≡◌, ℕ, ◌-◌, ◌%◌, ◌^◌, ◌<◌, ◌≤◌, ◌≢◌, Bool, ◌==◌, List, Contains, decimal}
 use Rattle.std.specs.List.{before_first, after_first}
-use Rattle.ipv4_prefix.specs.declared.fault.PrefixFault.{PrefixFault}
+use Rattle.ipv4_prefix.specs.{declared.fault.PrefixFault.PrefixFault, Prefix.Prefix, Prefix.IsPrefix, Texts.address_text, Texts.prefix_text}
 use Rattle.ipv4_prefix.specs.declared.fault.PrefixFault.TheVariants.{NoSlash, BadAddress, BadLength, HostBits}
-use Rattle.ipv4_prefix.specs.Prefix.{Prefix, IsPrefix}
-use Rattle.ipv4_prefix.specs.Texts.{address_text, prefix_text}
 use Rattle.faults.specs.declared.kind.FaultKind.{FaultKind}
 
 -- the block with this first address and this length

@@ -2,16 +2,10 @@
 use Rattle.std.specs.Prelude.{◌≡◌, ◌≢◌, ℕ, ◌+◌, ◌⊎◌, ⊤, List, [], ◌∷◌, ◌++◌, Some, length, slice_get, codes, IsUtf8}
 use Rattle.std.specs.List.{AllZip}
 use Rattle.ipv4_prefix.specs.Prefix.{Prefix}
-use Rattle.network_model.specs.declared.network.LinkSpec.{LinkSpec}
-use Rattle.network_model.specs.declared.step.Step.{Step}
-use Rattle.texts.specs.Words.{Text}
+use Rattle.network_model.specs.{declared.network.LinkSpec.LinkSpec, declared.step.Step.Step}
+use Rattle.texts.specs.{Words.Text, Lines.lines_of}
 use Rattle.script.specs.Directories.{Directory}
-use Rattle.journal.specs.declared.fault.JournalFault.{JournalFault}
-use Rattle.journal.specs.declared.fault.JournalFault.TheVariants.{BadText, BadLine, NoMemory}
-use Rattle.journal.specs.declared.read.Version.{Version}
-use Rattle.journal.specs.declared.read.Version.TheVariants.{One, Two}
-use Rattle.texts.specs.Lines.{lines_of}
-use Rattle.journal.specs.Steps.{steps_text, SaysStep}
+use Rattle.journal.specs.{declared.fault.JournalFault.JournalFault, declared.fault.JournalFault.TheVariants.BadText, declared.fault.JournalFault.TheVariants.BadLine, declared.fault.JournalFault.TheVariants.NoMemory, declared.read.Version.Version, declared.read.Version.TheVariants.One, declared.read.Version.TheVariants.Two, Steps.steps_text, Steps.SaysStep}
 
 -- the first line
 abbrev pub heading : Version → Text

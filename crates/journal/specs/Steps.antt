@@ -1,12 +1,9 @@
 -- The steps of a journal as lines.
 use Rattle.std.specs.Prelude.{ℕ, List, ◌++◌, Option, Some, option_map, slice_get, codes, decimal}
-use Rattle.ipv4_prefix.specs.Prefix.{Prefix}
-use Rattle.ipv4_prefix.specs.Texts.{prefix_text}
-use Rattle.network_model.specs.declared.network.LinkSpec.{LinkSpec}
-use Rattle.network_model.specs.declared.step.Step.{Step}
+use Rattle.ipv4_prefix.specs.{Prefix.Prefix, Texts.prefix_text}
+use Rattle.network_model.specs.{declared.network.LinkSpec.LinkSpec, declared.step.Step.Step}
 use Rattle.network_model.specs.declared.step.Step.TheVariants.{LinkUp, LinkDown, SetCost, Deliver, Publish, Release, Attach, Detach}
-use Rattle.texts.specs.Words.{Text, words_of}
-use Rattle.texts.specs.Lines.{lines_text}
+use Rattle.texts.specs.{Words.Text, Words.words_of, Lines.lines_text}
 use Rattle.script.specs.Commands.{AsksStep}
 use Rattle.script.specs.Directories.{Directory, name_text, neighbour_at, source_at}
 

@@ -1,9 +1,7 @@
 -- What holds of a network that has come to rest: successors lead along cheapest ways to an attached router.
 use Rattle.std.specs.Prelude.{◌≡◌, ℕ, ◌+◌, ◌<◌, ◌≤◌, true, false, List, [], ◌∷◌, Some, None, length}
 use Rattle.metric.specs.Distance.{infinity, greatest_cost}
-use Rattle.network_model.specs.Machine.{port_count, port_successor}
-use Rattle.network_model.specs.Network.{most_routers}
-use Rattle.network_model.specs.View.{LinkEnd, State, at_port}
+use Rattle.network_model.specs.{Machine.port_count, Machine.port_successor, Network.most_routers, View.LinkEnd, View.State, View.at_port}
 use Rattle.machine_laws.specs.Laws.{is_active}
 use Rattle.loop_freedom.specs.Network.{Topology, PublishedEdge, ControlEdge, IsEdgeWalk, HoldsInEveryState, next_hop_of}
 

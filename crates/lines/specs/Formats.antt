@@ -1,12 +1,9 @@
 -- Lines in a format.
 use Rattle.std.specs.Prelude.{[], ◌∷◌, ◌++◌, if◌then◌else◌}
 use Rattle.texts.specs.Words.{Text}
-use Rattle.command_line.specs.declared.format.Format.{Format}
-use Rattle.command_line.specs.declared.format.Format.TheVariants.{Text as ForPeople, Json}
+use Rattle.command_line.specs.{declared.format.Format.Format, declared.format.Format.TheVariants.Text as ForPeople, declared.format.Format.TheVariants.Json}
 use Rattle.script.specs.Directories.{Directory}
-use Rattle.lines.specs.Lines.{line_json, line_text}
-use Rattle.lines.specs.declared.line.Line.{Line}
-use Rattle.lines.specs.declared.told.Printer.{Printer}
+use Rattle.lines.specs.{Lines.line_json, Lines.line_text, declared.line.Line.Line, declared.told.Printer.Printer}
 
 -- of a line for people and an object of JSON, the one of the format
 abbrev pub in_format : {A : Type 0} → Format → A → A → A

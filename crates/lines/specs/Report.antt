@@ -1,23 +1,11 @@
 -- What is told of links, routers, machines and rows.
 use Rattle.std.specs.Prelude.{◌≡◌, ℕ, List, ◌⊎◌, Option, Some, None, nat_lt, if◌then◌else◌, length}
-use Rattle.std.specs.List.{flat_map}
-use Rattle.std.specs.FinMap.{find as row_of}
-use Rattle.std.specs.Io.KnownBytes.{Appends}
+use Rattle.std.specs.{List.flat_map, FinMap.find as row_of, Io.KnownBytes.Appends}
 use Rattle.ipv4_prefix.specs.Prefix.{Prefix, prefix_cmp}
-use Rattle.network_model.specs.World.{Link, Router, World}
-use Rattle.network_model.specs.declared.route.Entry.{Entry}
-use Rattle.network_model.specs.declared.step.Refusal.{Refusal}
-use Rattle.network_model.specs.declared.step.Refusal.TheVariants.{UnknownRouter}
+use Rattle.network_model.specs.{World.Link, World.Router, World.World, declared.route.Entry.Entry, declared.step.Refusal.Refusal, declared.step.Refusal.TheVariants.UnknownRouter}
 use Rattle.dual_machine.specs.State.{MachineState as Machine}
-use Rattle.lines.specs.States.{link_state, IsMachineState}
+use Rattle.lines.specs.{States.link_state, States.IsMachineState, declared.answers.Asked.TheVariants.Row, declared.line.Line.Line, declared.line.Line.TheVariants.Asked, declared.line.Line.TheVariants.Machine as OfMachine, declared.line.Line.TheVariants.Unheard, declared.states.LinkLine.LinkLine, declared.states.MachineLine.MachineLine, declared.told.Printer.Printer, Formats.printed}
 use Rattle.texts.specs.Words.{Text}
-use Rattle.lines.specs.declared.answers.Asked.TheVariants.{Row}
-use Rattle.lines.specs.declared.line.Line.{Line}
-use Rattle.lines.specs.declared.line.Line.TheVariants.{Asked, Machine as OfMachine, Unheard}
-use Rattle.lines.specs.declared.states.LinkLine.{LinkLine}
-use Rattle.lines.specs.declared.states.MachineLine.{MachineLine}
-use Rattle.lines.specs.declared.told.Printer.{Printer}
-use Rattle.lines.specs.Formats.{printed}
 
 -- why nothing is told of a router: it is not there
 abbrev pub unknown_router : World → ℕ → Option Refusal

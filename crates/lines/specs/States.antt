@@ -3,9 +3,7 @@ use Rattle.std.specs.Prelude.{◌≡◌, ℕ, IsSome, Option, None, Some, length
 use Rattle.network_model.specs.World.{Link, Router}
 use Rattle.diffusing_replies.specs.Origin.{origin_number}
 use Rattle.dual_machine.specs.State.{MachineState as Machine}
-use Rattle.lines.specs.declared.records.LinkState.{LinkState}
-use Rattle.lines.specs.declared.records.RouterState.{RouterState}
-use Rattle.lines.specs.declared.records.MachineState.{MachineState}
+use Rattle.lines.specs.{declared.records.LinkState.LinkState, declared.records.RouterState.RouterState, declared.records.MachineState.MachineState}
 
 -- what is told of a link
 abbrev pub link_state : Link → LinkState

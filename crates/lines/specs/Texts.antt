@@ -1,43 +1,15 @@
 -- Lines for people.
 use Rattle.std.specs.Prelude.{ℕ, Bool, true, false, if◌then◌else◌, List, [], ◌++◌, Option, Some, None, Result, Ok, Err, codes, decimal}
 use Rattle.std.specs.List.{flat_map}
-use Rattle.faults.specs.Numbers.{kind_number, name_of}
-use Rattle.faults.specs.declared.kind.FaultKind.{FaultKind}
-use Rattle.metric.specs.Distance.{distance_text}
-use Rattle.metric.specs.declared.kind.Kind.{Kind}
-use Rattle.metric.specs.declared.kind.Kind.TheVariants.{Update, Query, Reply}
-use Rattle.ipv4_prefix.specs.Prefix.{Prefix}
-use Rattle.ipv4_prefix.specs.Texts.{address_text, prefix_text}
-use Rattle.network_model.specs.declared.item.Item.{Item}
-use Rattle.network_model.specs.declared.item.Message.{Message}
-use Rattle.network_model.specs.declared.item.Notice.{Notice}
-use Rattle.network_model.specs.declared.machine.Neighbour.{Neighbour}
-use Rattle.network_model.specs.declared.network.LinkSpec.{LinkSpec}
-use Rattle.network_model.specs.declared.route.Entry.{Entry}
-use Rattle.network_model.specs.declared.route.Entry.TheVariants.{Local, Via, Unreachable}
-use Rattle.network_model.specs.declared.step.Step.{Step}
-use Rattle.network_model.specs.declared.trace.Ending.{Ending}
+use Rattle.faults.specs.{Numbers.kind_number, Numbers.name_of, declared.kind.FaultKind.FaultKind}
+use Rattle.metric.specs.{Distance.distance_text, declared.kind.Kind.Kind, declared.kind.Kind.TheVariants.Update, declared.kind.Kind.TheVariants.Query, declared.kind.Kind.TheVariants.Reply}
+use Rattle.ipv4_prefix.specs.{Prefix.Prefix, Texts.address_text, Texts.prefix_text}
+use Rattle.network_model.specs.{declared.item.Item.Item, declared.item.Message.Message, declared.item.Notice.Notice, declared.machine.Neighbour.Neighbour, declared.network.LinkSpec.LinkSpec, declared.route.Entry.Entry, declared.route.Entry.TheVariants.Local, declared.route.Entry.TheVariants.Via, declared.route.Entry.TheVariants.Unreachable, declared.step.Step.Step, declared.trace.Ending.Ending}
 use Rattle.texts.specs.Words.{Text}
 use Rattle.script.specs.Directories.{Directory, name_text, neighbour_at}
 use Rattle.journal.specs.Steps.{step_text}
-use Rattle.lines.specs.declared.answers.Answer.{Answer}
-use Rattle.lines.specs.declared.answers.Asked.{Asked}
-use Rattle.lines.specs.declared.answers.Asked.TheVariants.{Row, Lookup, Packet}
-use Rattle.lines.specs.declared.states.LinkLine.{LinkLine}
-use Rattle.lines.specs.declared.states.RouterLine.{RouterLine}
-use Rattle.lines.specs.declared.states.MachineLine.{MachineLine}
-use Rattle.lines.specs.declared.records.MachineState.{MachineState}
-use Rattle.lines.specs.declared.reasons.Known.{Known}
-use Rattle.lines.specs.declared.reasons.Known.TheVariants.{Owes, Attached, AtNeighbour}
-use Rattle.lines.specs.declared.waiting.Waiting.{Waiting}
-use Rattle.lines.specs.declared.waiting.Waiting.TheVariants.{Queued, Noticed, Kept}
-use Rattle.lines.specs.declared.ends.Counts.{Counts}
-use Rattle.lines.specs.declared.ends.Ended.{Ended}
+use Rattle.lines.specs.{declared.answers.Answer.Answer, declared.answers.Asked.Asked, declared.answers.Asked.TheVariants.Row, declared.answers.Asked.TheVariants.Lookup, declared.answers.Asked.TheVariants.Packet, declared.states.LinkLine.LinkLine, declared.states.RouterLine.RouterLine, declared.states.MachineLine.MachineLine, declared.records.MachineState.MachineState, declared.reasons.Known.Known, declared.reasons.Known.TheVariants.Owes, declared.reasons.Known.TheVariants.Attached, declared.reasons.Known.TheVariants.AtNeighbour, declared.waiting.Waiting.Waiting, declared.waiting.Waiting.TheVariants.Queued, declared.waiting.Waiting.TheVariants.Noticed, declared.waiting.Waiting.TheVariants.Kept, declared.ends.Counts.Counts, declared.ends.Ended.Ended, declared.times.Tally.Tally, declared.times.Effect.Effect, declared.times.ChangeLine.ChangeLine, declared.times.SpellLine.SpellLine}
 use Rattle.lines.specs.declared.ends.Ended.TheVariants.{Done, AtRest, Agrees, StepsDone, Differs, Refused}
-use Rattle.lines.specs.declared.times.Tally.{Tally}
-use Rattle.lines.specs.declared.times.Effect.{Effect}
-use Rattle.lines.specs.declared.times.ChangeLine.{ChangeLine}
-use Rattle.lines.specs.declared.times.SpellLine.{SpellLine}
 
 -- ---- values
 

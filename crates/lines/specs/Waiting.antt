@@ -1,14 +1,9 @@
 -- What is told of what routers have yet to take, and of what they hold.
 use Rattle.std.specs.Prelude.{ℕ, Bool, List}
 use Rattle.std.specs.List.{flat_map}
-use Rattle.network_model.specs.declared.item.Held.{Held}
-use Rattle.network_model.specs.declared.item.Item.{Item}
-use Rattle.network_model.specs.declared.item.Notice.{Notice}
+use Rattle.network_model.specs.{declared.item.Held.Held, declared.item.Item.Item, declared.item.Notice.Notice}
 use Rattle.texts.specs.Words.{Text}
-use Rattle.lines.specs.declared.line.Line.TheVariants.{Waiting}
-use Rattle.lines.specs.declared.waiting.Waiting.TheVariants.{Kept, Noticed, Queued}
-use Rattle.lines.specs.declared.told.Printer.{Printer}
-use Rattle.lines.specs.Formats.{printed}
+use Rattle.lines.specs.{declared.line.Line.TheVariants.Waiting, declared.waiting.Waiting.TheVariants.Kept, declared.waiting.Waiting.TheVariants.Noticed, declared.waiting.Waiting.TheVariants.Queued, declared.told.Printer.Printer, Formats.printed}
 
 -- items that a router has yet to take from its port, on a link in this session, a line each
 abbrev pub queued_lines : Printer → ℕ → ℕ → ℕ → List Item → Text

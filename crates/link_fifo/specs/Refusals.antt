@@ -1,18 +1,9 @@
 -- Why a call on links is refused, and what else it answers.
 use Rattle.std.specs.Prelude.{◌≡◌, ℕ, false, not, nat_lt, List, [], ◌∷◌, Option, Some, None, Result, Ok, Err, MatchBool, MatchOption, MatchResult, IsOkUnless, slice_get, is_none}
 use Rattle.std.specs.Option.{option_map_or, ok_or}
-use Rattle.network_model.specs.declared.item.Item.{Item}
-use Rattle.network_model.specs.declared.item.Message.{Message}
-use Rattle.network_model.specs.declared.item.Held.{Held}
-use Rattle.network_model.specs.declared.network.End.{End}
-use Rattle.network_model.specs.declared.step.Refusal.{Refusal}
-use Rattle.network_model.specs.World.{Link, side}
-use Rattle.network_model.specs.Network.{first_cause}
-use Rattle.network_model.specs.Step.{is_up, is_up_in, last_session}
-use Rattle.link_fifo.specs.declared.refusal.LinkRefusal.{LinkRefusal}
+use Rattle.network_model.specs.{declared.item.Item.Item, declared.item.Message.Message, declared.item.Held.Held, declared.network.End.End, declared.step.Refusal.Refusal, World.Link, World.side, Network.first_cause, Step.is_up, Step.is_up_in, Step.last_session}
+use Rattle.link_fifo.specs.{declared.refusal.LinkRefusal.LinkRefusal, declared.refusal.Put.Put, declared.refusal.Put.TheVariants.Queued, declared.refusal.Put.TheVariants.Stale}
 use Rattle.link_fifo.specs.declared.refusal.LinkRefusal.TheVariants.{UnknownLink, AlreadyUp, IsDown, SessionsSpent, NothingToDeliver, NoMemory}
-use Rattle.link_fifo.specs.declared.refusal.Put.{Put}
-use Rattle.link_fifo.specs.declared.refusal.Put.TheVariants.{Queued, Stale}
 
 -- the refusal of a step that a refusal of its link brings about
 abbrev pub step_refusal : LinkRefusal → Refusal

@@ -1,8 +1,7 @@
 -- Which faults a call can answer.
 use Rattle.std.specs.Prelude.{◌≡◌, ℕ, ◌⊎◌, ◌==◌, if◌then◌else◌, Option, None, Some}
 use Rattle.row_words.specs.Rows.{WordTable}
-use Rattle.c_interface.specs.Faults.{fault_number, IsDoneOrOutOfMemory}
-use Rattle.c_interface.specs.declared.fault.CallFault.{CallFault}
+use Rattle.c_interface.specs.{Faults.fault_number, Faults.IsDoneOrOutOfMemory, declared.fault.CallFault.CallFault}
 use Rattle.c_interface.specs.declared.fault.CallFault.TheVariants.{Empty, BadCount, Shared, NoMemory}
 
 -- why a patch of an image is refused

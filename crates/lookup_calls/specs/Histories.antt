@@ -2,12 +2,8 @@
 use Rattle.std.specs.Prelude.{ℕ, List, [], ◌∷◌, Option, None, Some}
 use Rattle.receipts.specs.Logs.{Log}
 use Rattle.ipv4_prefix.specs.Prefix.{Prefix}
-use Rattle.row_words.specs.Rows.{WordTable}
-use Rattle.row_words.specs.declared.cells.Marked.{Marked}
-use Rattle.lookup_calls.specs.Images.{new_rows, patched_table}
-use Rattle.lookup_calls.specs.Prefixes.{withdrawn}
-use Rattle.lookup_calls.specs.declared.change.Change.{Change}
-use Rattle.lookup_calls.specs.declared.prefixes.Block.{Block}
+use Rattle.row_words.specs.{Rows.WordTable, declared.cells.Marked.Marked}
+use Rattle.lookup_calls.specs.{Images.new_rows, Images.patched_table, Prefixes.withdrawn, declared.change.Change.Change, declared.prefixes.Block.Block}
 
 -- which writer it is, and the images that it had published at some moment, the first that it was made of
 abbrev pub Published : Type 0

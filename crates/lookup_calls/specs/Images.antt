@@ -1,11 +1,8 @@
 -- Images that are made of rows, and rows set in them.
 use Rattle.std.specs.Prelude.{ℕ, List, []}
 use Rattle.ipv4_prefix.specs.Prefix.{Prefix}
-use Rattle.row_words.specs.Rows.{WordTable, with_marked}
-use Rattle.row_words.specs.declared.cells.Marked.{Marked}
-use Rattle.lookup_calls.specs.Tables.{wordless_rows}
-use Rattle.lookup_calls.specs.declared.patch.NewRows.{NewRows}
-use Rattle.lookup_calls.specs.declared.patch.NewRows.TheVariants.{Plain, Words}
+use Rattle.row_words.specs.{Rows.WordTable, Rows.with_marked, declared.cells.Marked.Marked}
+use Rattle.lookup_calls.specs.{Tables.wordless_rows, declared.patch.NewRows.NewRows, declared.patch.NewRows.TheVariants.Plain, declared.patch.NewRows.TheVariants.Words}
 
 -- the image of rows that are set in order, of generation 0
 abbrev pub new_image : List (Prefix × Marked) → WordTable

@@ -3,9 +3,7 @@ use Rattle.std.specs.Prelude.{◌≡◌, true, ⊤}
 use Rattle.std.specs.FinMap.{is_sorted}
 use Rattle.ipv4_prefix.specs.Prefix.{prefix_cmp}
 use Rattle.row_words.specs.Rows.{WordTable}
-use Rattle.lookup_calls.specs.Tables.{wordless_table}
-use Rattle.lookup_calls.specs.declared.kept.Form.{Form}
-use Rattle.lookup_calls.specs.declared.kept.Form.TheVariants.{Plain, Words}
+use Rattle.lookup_calls.specs.{Tables.wordless_table, declared.kept.Form.Form, declared.kept.Form.TheVariants.Plain, declared.kept.Form.TheVariants.Words}
 
 -- the rows and words of an image of either form
 abbrev pub form_table : Form → WordTable

@@ -1,14 +1,9 @@
 -- Prefixes of C, the rows without theirs, and the rows from one on.
 use Rattle.std.specs.Prelude.{◌≡◌, ℕ, ◌⊎◌, ◌==◌, if◌then◌else◌, List, [], ◌∷◌, map, length, take, drop, Option, None, Some}
 use Rattle.ipv4_prefix.specs.Prefix.{Prefix}
-use Rattle.row_words.specs.Rows.{WordTable, without_marked}
-use Rattle.row_words.specs.declared.cells.Marked.{Marked}
+use Rattle.row_words.specs.{Rows.WordTable, Rows.without_marked, declared.cells.Marked.Marked}
 use Rattle.array_bitmap.specs.Cursor.{rows_onward}
-use Rattle.c_interface.specs.Faults.{fault_number, first_of}
-use Rattle.c_interface.specs.Rows.{prefix_fault, entry_row}
-use Rattle.c_interface.specs.declared.fault.CallFault.{CallFault}
-use Rattle.c_interface.specs.declared.fault.CallFault.TheVariants.{Empty, Shared}
-use Rattle.c_interface.specs.declared.row.Row.{Row}
+use Rattle.c_interface.specs.{Faults.fault_number, Faults.first_of, Rows.prefix_fault, Rows.entry_row, declared.fault.CallFault.CallFault, declared.fault.CallFault.TheVariants.Empty, declared.fault.CallFault.TheVariants.Shared, declared.row.Row.Row}
 use Rattle.lookup_calls.specs.declared.prefixes.Block.{Block}
 
 -- the prefix, where it is one

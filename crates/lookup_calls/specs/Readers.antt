@@ -1,9 +1,7 @@
 -- What the calls of writers and readers can answer.
 use Rattle.std.specs.Prelude.{◌≡◌, ℕ, ◌⊎◌, ◌==◌, ◌≤◌, ◌<◌, Bool, true, false, Option, None, Some, length}
 use Rattle.row_words.specs.Rows.{WordTable}
-use Rattle.c_interface.specs.Faults.{fault_number, IsDoneOrOutOfMemory}
-use Rattle.c_interface.specs.declared.fault.CallFault.{CallFault}
-use Rattle.c_interface.specs.declared.fault.CallFault.TheVariants.{Empty, BadCount, Shared}
+use Rattle.c_interface.specs.{Faults.fault_number, Faults.IsDoneOrOutOfMemory, declared.fault.CallFault.CallFault, declared.fault.CallFault.TheVariants.Empty, declared.fault.CallFault.TheVariants.BadCount, declared.fault.CallFault.TheVariants.Shared}
 use Rattle.lookup_calls.specs.Histories.{Published}
 
 -- what the call answers that makes a writer, by the image, if there is one

@@ -3,14 +3,9 @@ use Rattle.std.specs.Prelude.{ℕ, ◌-◌, ◌*◌, ◌/◌, ◌^◌, ◌==◌,
 use Rattle.std.specs.Option.{option_map}
 use Rattle.ipv4_prefix.specs.Prefix.{Prefix}
 use Rattle.array_bitmap.specs.Words.{len_of, kind_of, word_port, session_of}
-use Rattle.network_model.specs.Publication.{Image, image_answer}
-use Rattle.network_model.specs.declared.route.Entry.{Entry}
+use Rattle.network_model.specs.{Publication.Image, Publication.image_answer, declared.route.Entry.Entry}
 use Rattle.row_words.specs.Rows.{WordTable, marked_answer, caller_word}
-use Rattle.c_interface.specs.Faults.{first_of}
-use Rattle.c_interface.specs.Rows.{row_fault, answer_row}
-use Rattle.c_interface.specs.declared.fault.CallFault.{CallFault}
-use Rattle.c_interface.specs.declared.fault.CallFault.TheVariants.{BadCount}
-use Rattle.c_interface.specs.declared.row.Row.{Row}
+use Rattle.c_interface.specs.{Faults.first_of, Rows.row_fault, Rows.answer_row, declared.fault.CallFault.CallFault, declared.fault.CallFault.TheVariants.BadCount, declared.row.Row.Row}
 
 -- the fault of the first row that has one
 abbrev pub first_row_fault : List Row → Option CallFault

@@ -1,12 +1,9 @@
 -- Rows of C and their words, as rows of a table.
 use Rattle.std.specs.Prelude.{ℕ, ◌-◌, ◌^◌, List, [], ◌∷◌, map}
 use Rattle.ipv4_prefix.specs.Prefix.{Prefix}
-use Rattle.network_model.specs.Publication.{Image}
-use Rattle.network_model.specs.declared.route.Entry.{Entry}
-use Rattle.c_interface.specs.Rows.{row_entry}
-use Rattle.c_interface.specs.declared.row.Row.{Row}
-use Rattle.row_words.specs.Rows.{WordTable}
-use Rattle.row_words.specs.declared.cells.Marked.{Marked}
+use Rattle.network_model.specs.{Publication.Image, declared.route.Entry.Entry}
+use Rattle.c_interface.specs.{Rows.row_entry, declared.row.Row.Row}
+use Rattle.row_words.specs.{Rows.WordTable, declared.cells.Marked.Marked}
 
 -- the word of a row that is given without one. A look-up answers it, too, if no row covers the address
 abbrev pub no_word : ℕ

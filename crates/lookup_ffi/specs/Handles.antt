@@ -3,9 +3,7 @@ use Rattle.std.specs.Prelude.{Option}
 use Rattle.row_words.specs.Rows.{WordTable}
 use Rattle.c_interface.specs.Handles.{held}
 use Rattle.lookup_calls.specs.Histories.{Published}
-use Rattle.lookup_ffi.specs.declared.handle.ImageHandle.{ImageHandle}
-use Rattle.lookup_ffi.specs.declared.reader_handle.ReaderHandle.{ReaderHandle}
-use Rattle.lookup_ffi.specs.declared.writer_handle.WriterHandle.{WriterHandle}
+use Rattle.lookup_ffi.specs.{declared.handle.ImageHandle.ImageHandle, declared.reader_handle.ReaderHandle.ReaderHandle, declared.writer_handle.WriterHandle.WriterHandle}
 
 -- the image that a handle holds, if any
 abbrev pub handle_image : ImageHandle → Option WordTable

@@ -1,14 +1,9 @@
 -- What every event does to a sound machine: the laws on which a network of machines rests.
 use Rattle.std.specs.Prelude.{◌≡◌, ◌≢◌, ◌⊎◌, ℕ, ◌+◌, ◌<◌, ◌≤◌, Bool, true, false, ◌&&◌, ◌==◌, if◌then◌else◌, List, [], ◌∷◌, ◌++◌, Option, Some, None, is_some, slice_get, length}
-use Rattle.network_model.specs.declared.machine.Neighbour.{Neighbour}
-use Rattle.network_model.specs.declared.machine.Event.{Event}
+use Rattle.network_model.specs.{declared.machine.Neighbour.Neighbour, declared.machine.Event.Event, declared.machine.Outgoing.Outgoing, Numbers.one_if}
 use Rattle.network_model.specs.declared.machine.Event.TheVariants.{Message, Up, Down, Cost, Attached, Detached}
-use Rattle.metric.specs.declared.kind.Kind.{Kind}
-use Rattle.metric.specs.declared.kind.Kind.TheVariants.{Update, Query, Reply}
+use Rattle.metric.specs.{declared.kind.Kind.Kind, declared.kind.Kind.TheVariants.Update, declared.kind.Kind.TheVariants.Query, declared.kind.Kind.TheVariants.Reply, Distance.infinity}
 use Rattle.network_model.specs.Machine.{Machine, Computation, opening_machine, reaction, distance, least, ways, port_count, records_after, attachment_after, is_port}
-use Rattle.network_model.specs.declared.machine.Outgoing.{Outgoing}
-use Rattle.network_model.specs.Numbers.{one_if}
-use Rattle.metric.specs.Distance.{infinity}
 
 -- the port that an event ends the wait for: its reply came, or its link is lost
 abbrev pub released : Event → Option ℕ

@@ -2,8 +2,7 @@
 use Rattle.std.specs.Prelude.{◌≡◌, ◌≢◌, ℕ, ◌≤◌, true, List, [], ◌∷◌, Some, ⊤}
 use Rattle.std.specs.FinMap.{find as row_of}
 use Rattle.ipv4_prefix.specs.Prefix.{Prefix, prefix_cmp}
-use Rattle.network_model.specs.declared.route.Entry.{Entry}
-use Rattle.network_model.specs.View.{LinkEnd, at_port}
+use Rattle.network_model.specs.{declared.route.Entry.Entry, View.LinkEnd, View.at_port}
 use Rattle.daemon_laws.specs.Packets.{rows_in_force, session_leads, unmarked_leads}
 use Rattle.daemon_laws.specs.Happenings.{Happening, BeginsAnew, CanHappen, own_session, MayRewire, link_stays}
 use Rattle.moving_daemon_packets.specs.Moving.{Moment, moment_next, moment_rewired, moment_after, DaemonEvent, Goes, Does, Rewires}

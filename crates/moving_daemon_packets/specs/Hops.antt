@@ -3,9 +3,7 @@ use Rattle.std.specs.Prelude.{ℕ, suc, ◌≤◌, List, [], ◌∷◌, ⊤}
 use Rattle.ipv4_prefix.specs.Prefix.{Prefix}
 use Rattle.loop_freedom.specs.Network.{Topology}
 use Rattle.coming_to_rest.specs.Rest.{IsFinite}
-use Rattle.daemon_laws.specs.Processes.{Processes}
-use Rattle.daemon_laws.specs.Packets.{IsForwardedByRows, rows_in_force}
-use Rattle.daemon_laws.specs.Happenings.{after_happening}
+use Rattle.daemon_laws.specs.{Processes.Processes, Packets.IsForwardedByRows, Packets.rows_in_force, Happenings.after_happening}
 use Rattle.daemons_come_to_rest.specs.Rest.{HappensAlone}
 use Rattle.moving_daemon_packets.specs.Moving.{DaemonEvent, Goes, Does, Rewires, LeadsOn}
 

@@ -1,16 +1,10 @@
 -- A packet that is on its way between routers in processes of their own, while whatever may happen does, and ports get other neighbours.
 use Rattle.std.specs.Prelude.{◌≡◌, ℕ, suc, ◌<◌, ◌≤◌, Bool, true, false, ◌&&◌, ◌||◌, ◌==◌, nat_lt, if◌then◌else◌, List, [], ◌∷◌, Option, ⊤}
 use Rattle.ipv4_prefix.specs.Prefix.{Prefix}
-use Rattle.network_model.specs.declared.route.Entry.{Entry}
-use Rattle.network_model.specs.World.{machine_of}
-use Rattle.network_model.specs.View.{at_port}
+use Rattle.network_model.specs.{declared.route.Entry.Entry, World.machine_of, View.at_port}
 use Rattle.loop_freedom.specs.Network.{Topology}
 use Rattle.moving_packets.specs.Moving.{IsBetter}
-use Rattle.daemon_laws.specs.Processes.{Processes}
-use Rattle.daemon_laws.specs.Packets.{IsForwardedByRows, rows_in_force, session_leads}
-use Rattle.daemon_laws.specs.Facts.{fds_next}
-use Rattle.daemon_laws.specs.Moments.{fds_reached}
-use Rattle.daemon_laws.specs.Rest.{entry_in_force}
+use Rattle.daemon_laws.specs.{Processes.Processes, Packets.IsForwardedByRows, Packets.rows_in_force, Packets.session_leads, Facts.fds_next, Moments.fds_reached, Rest.entry_in_force}
 use Rattle.daemon_laws.specs.Happenings.{Happening, Publishes, PublishesSome, Forgets, BeginsAnew, CanHappen, after_happening, MayRewire, is_new_link, rewired, AreReached}
 
 -- the links and the processes at a moment, and the feasible distance with which each router published last

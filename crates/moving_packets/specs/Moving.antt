@@ -2,16 +2,9 @@
 use Rattle.std.specs.Prelude.{◌≡◌, ◌≢◌, ◌⊎◌, ℕ, suc, ◌+◌, ◌*◌, ◌<◌, ◌≤◌, Bool, true, false, ◌&&◌, ◌||◌, ◌==◌, nat_lt, if◌then◌else◌, List, [], ◌∷◌, Option, Some, None, IsSome, length, slice_get, ⊤}
 use Rattle.std.specs.Option.{option_map_or}
 use Rattle.ipv4_prefix.specs.Prefix.{Prefix, covers}
-use Rattle.network_model.specs.declared.route.Entry.{Entry}
-use Rattle.network_model.specs.declared.step.Step.{Step}
-use Rattle.network_model.specs.declared.step.Step.TheVariants.{Deliver, Publish}
-use Rattle.network_model.specs.Machine.{Machine, opening_machine}
+use Rattle.network_model.specs.{declared.route.Entry.Entry, declared.step.Step.Step, declared.step.Step.TheVariants.Deliver, declared.step.Step.TheVariants.Publish, Machine.Machine, Machine.opening_machine, Network.IsNetwork, Step.Lawful, Step.next, Forwarding.hop, Forwarding.IsForwarded, View.fd_in}
 use Rattle.network_model.specs.World.{World, Network, machine_of, opening}
-use Rattle.network_model.specs.Network.{IsNetwork}
-use Rattle.network_model.specs.Step.{Lawful, next}
 use Rattle.network_model.specs.Run.{Runs, History, history, with_step}
-use Rattle.network_model.specs.Forwarding.{hop, IsForwarded}
-use Rattle.network_model.specs.View.{fd_in}
 use Rattle.machine_laws.specs.Laws.{is_active, is_up_at}
 use Rattle.no_packet_loops.specs.Packets.{published_entry}
 use Rattle.coming_to_rest.specs.Worlds.{is_own}

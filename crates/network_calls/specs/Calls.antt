@@ -1,38 +1,16 @@
 -- What the calls answer, by the network that a handle holds, and what they leave.
 use Rattle.std.specs.Prelude.{◌≡◌, ◌≢◌, ◌⊎◌, ℕ, ◌≤◌, ◌==◌, nat_lt, true, false, if◌then◌else◌, List, [], ◌∷◌, length, map, take, Option, Some, None, option_and_then, option_map, slice_get, is_none, Result, Ok, Err, MatchOption, IfSome}
 use Rattle.std.specs.Option.{option_map_or}
-use Rattle.network_model.specs.declared.item.Held.{Held}
-use Rattle.network_model.specs.declared.step.Refusal.{Refusal}
-use Rattle.network_model.specs.declared.step.Step.{Step}
+use Rattle.network_model.specs.{declared.item.Held.Held, declared.step.Refusal.Refusal, declared.step.Step.Step, declared.trace.Ending.Ending, Publication.Image, Publication.image_answer, Run.Runs, Step.release_at, Turns.is_settled, Network.first_cause, World.Router, World.World}
 use Rattle.network_model.specs.declared.step.Step.TheVariants.{LinkUp, LinkDown, SetCost, Deliver, Publish, Release, Attach, Detach}
-use Rattle.network_model.specs.declared.trace.Ending.{Ending}
 use Rattle.network_model.specs.declared.trace.Ending.TheVariants.{Delivered, NoRoute, Unreachable, DeadLink, Crossed}
-use Rattle.network_model.specs.Publication.{Image, image_answer}
-use Rattle.network_model.specs.Run.{Runs}
-use Rattle.network_model.specs.Step.{release_at}
-use Rattle.network_model.specs.Turns.{is_settled}
-use Rattle.network_model.specs.Network.{first_cause}
-use Rattle.network_model.specs.World.{Router, World}
 use Rattle.ipv4_prefix.specs.Prefix.{Prefix}
 use Rattle.world.specs.Steps.{port_refusal, is_stale, DeliveryNeedsMemory}
-use Rattle.c_interface.specs.Rows.{answer_row, as_prefix, prefix_fault}
-use Rattle.c_interface.specs.declared.fault.CallFault.TheVariants.{Empty, BadCount}
-use Rattle.c_interface.specs.declared.row.Row.{Row}
+use Rattle.c_interface.specs.{Rows.answer_row, Rows.as_prefix, Rows.prefix_fault, declared.fault.CallFault.TheVariants.Empty, declared.fault.CallFault.TheVariants.BadCount, declared.row.Row.Row}
 use Rattle.single_router.specs.Publishing.{IsWrittenOver}
-use Rattle.simulation.specs.Settling.{HasTurned, IsStopped}
-use Rattle.simulation.specs.Simulation.{Simulation, after_steps, simulation_refusal}
-use Rattle.simulation.specs.Tracing.{IsTraced}
-use Rattle.network_calls.specs.Failures.{failure_number, refusal_number}
-use Rattle.network_calls.specs.Steps.{parts_of_step_fault, step_of}
-use Rattle.network_calls.specs.Shown.{machine_heard}
-use Rattle.network_calls.specs.declared.machine.MachineShown.{MachineShown}
-use Rattle.network_calls.specs.declared.counts.Counts.{Counts}
-use Rattle.network_calls.specs.declared.failure.Failure.{Failure}
+use Rattle.simulation.specs.{Settling.HasTurned, Settling.IsStopped, Simulation.Simulation, Simulation.after_steps, Simulation.simulation_refusal, Tracing.IsTraced}
+use Rattle.network_calls.specs.{Failures.failure_number, Failures.refusal_number, Steps.parts_of_step_fault, Steps.step_of, Shown.machine_heard, declared.machine.MachineShown.MachineShown, declared.counts.Counts.Counts, declared.failure.Failure.Failure, Running.clocked_in, Running.network_in, Running.reported_in, declared.running.Going.Going, declared.running.Going.TheVariants.BySteps, declared.running.Going.TheVariants.InTime, declared.step.StepParts.StepParts}
 use Rattle.network_calls.specs.declared.failure.Failure.TheVariants.{Given, HasClock, NoClock, NoRecord, Refused}
-use Rattle.network_calls.specs.Running.{clocked_in, network_in, reported_in}
-use Rattle.network_calls.specs.declared.running.Going.{Going}
-use Rattle.network_calls.specs.declared.running.Going.TheVariants.{BySteps, InTime}
-use Rattle.network_calls.specs.declared.step.StepParts.{StepParts}
 
 -- what a test of the network finds; that the handle holds none comes first
 abbrev pub held_failure : {X : Type 0} → (X → Option Failure) → Option X → Option Failure

@@ -2,22 +2,10 @@
 use Rattle.std.specs.Prelude.{◌≡◌, ℕ, ◌==◌, ◌&&◌, Bool, if◌then◌else◌, MatchBool, List, length, Option, None, Some}
 use Rattle.coming_to_rest.specs.Worlds.{is_own}
 use Rattle.network_model.specs.declared.network.Limits.{Limits}
-use Rattle.c_interface.specs.Faults.{first_of}
-use Rattle.c_interface.specs.declared.fault.CallFault.{CallFault}
-use Rattle.c_interface.specs.declared.fault.CallFault.TheVariants.{BadCount, BadKind}
+use Rattle.c_interface.specs.{Faults.first_of, declared.fault.CallFault.CallFault, declared.fault.CallFault.TheVariants.BadCount, declared.fault.CallFault.TheVariants.BadKind}
 use Rattle.single_router.specs.States.{flag}
-use Rattle.timed_simulation.specs.declared.links.LinkDelays.{LinkDelays}
-use Rattle.timed_simulation.specs.declared.events.Event.{Event}
-use Rattle.network_calls.specs.Parts.{IsFaultWithin}
-use Rattle.network_calls.specs.Steps.{parts_of_step, parts_of_step_fault, step_of}
-use Rattle.network_calls.specs.declared.failure.Failure.{Failure}
-use Rattle.network_calls.specs.declared.failure.Failure.TheVariants.{Given}
-use Rattle.network_calls.specs.declared.parts.AttachmentParts.{AttachmentParts}
-use Rattle.network_calls.specs.declared.parts.FaultPlace.{FaultPlace}
-use Rattle.network_calls.specs.declared.parts.LinkParts.{LinkParts}
-use Rattle.network_calls.specs.declared.step.StepParts.{StepParts}
-use Rattle.network_calls.specs.declared.delays.DelayParts.{DelayParts}
-use Rattle.network_calls.specs.declared.delays.EventParts.{EventParts}
+use Rattle.timed_simulation.specs.{declared.links.LinkDelays.LinkDelays, declared.events.Event.Event}
+use Rattle.network_calls.specs.{Parts.IsFaultWithin, Steps.parts_of_step, Steps.parts_of_step_fault, Steps.step_of, declared.failure.Failure.Failure, declared.failure.Failure.TheVariants.Given, declared.parts.AttachmentParts.AttachmentParts, declared.parts.FaultPlace.FaultPlace, declared.parts.LinkParts.LinkParts, declared.step.StepParts.StepParts, declared.delays.DelayParts.DelayParts, declared.delays.EventParts.EventParts}
 
 -- ---- openings
 

@@ -1,9 +1,7 @@
 -- Why a call is refused, and the numbers by which C knows that.
 use Rattle.std.specs.Prelude.{◌≡◌, ℕ, ◌⊎◌, Option, None, Some}
 use Rattle.faults.specs.Numbers.{kind_number}
-use Rattle.network_model.specs.Kinds.{network_kind, refusal_kind}
-use Rattle.network_model.specs.declared.network.NetworkFault.{NetworkFault}
-use Rattle.network_model.specs.declared.step.Refusal.{Refusal}
+use Rattle.network_model.specs.{Kinds.network_kind, Kinds.refusal_kind, declared.network.NetworkFault.NetworkFault, declared.step.Refusal.Refusal}
 use Rattle.timed_simulation.specs.Kinds.{time_kind}
 use Rattle.c_interface.specs.Faults.{fault_number, IsDoneOrOutOfMemory}
 use Rattle.network_calls.specs.declared.failure.Failure.{Failure}

@@ -1,6 +1,5 @@
 -- What holds of every network that runs.
-use Rattle.simulation.specs.Headline.{NeverMeetsTwice, LeadsAtLeastCost, ConvergesLeftAlone}
-use Rattle.simulation.specs.Simulation.{Simulation, ForwardsAsPublished}
+use Rattle.simulation.specs.{Headline.NeverMeetsTwice, Headline.LeadsAtLeastCost, Headline.ConvergesLeftAlone, Simulation.Simulation, Simulation.ForwardsAsPublished}
 
 -- its images in force answer by longest match over what the routers published, no packet circles along them, at quiet they lead along
 -- least-cost walks, and left alone it comes to rest there

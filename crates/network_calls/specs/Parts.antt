@@ -2,24 +2,11 @@
 use Rattle.std.specs.Prelude.{◌≡◌, ◌⊎◌, ℕ, ◌+◌, if◌then◌else◌, List, [], ◌∷◌, map, Option, None, Some, option_map}
 use Rattle.std.specs.Option.{option_map_or}
 use Rattle.ipv4_prefix.specs.Prefix.{Prefix}
-use Rattle.network_model.specs.declared.network.Limits.{Limits}
-use Rattle.network_model.specs.declared.network.LinkSpec.{LinkSpec}
-use Rattle.network_model.specs.declared.network.NetworkFault.{NetworkFault}
+use Rattle.network_model.specs.{declared.network.Limits.Limits, declared.network.LinkSpec.LinkSpec, declared.network.NetworkFault.NetworkFault, World.Network, Network.network_fault, Network.widest_limits, Network.AreWithin}
 use Rattle.network_model.specs.declared.network.NetworkFault.TheVariants.{BadRouters, BadLink, TooManyLinks, BadOwner}
-use Rattle.network_model.specs.World.{Network}
-use Rattle.network_model.specs.Network.{network_fault, widest_limits, AreWithin}
-use Rattle.c_interface.specs.Faults.{first_of}
-use Rattle.c_interface.specs.Rows.{as_prefix, prefix_fault}
-use Rattle.c_interface.specs.declared.fault.CallFault.{CallFault}
-use Rattle.c_interface.specs.declared.fault.CallFault.TheVariants.{NoMemory}
+use Rattle.c_interface.specs.{Faults.first_of, Rows.as_prefix, Rows.prefix_fault, declared.fault.CallFault.CallFault, declared.fault.CallFault.TheVariants.NoMemory}
 use Rattle.single_router.specs.Inputs.{cost_fault}
-use Rattle.network_calls.specs.Failures.{failure_number}
-use Rattle.network_calls.specs.declared.failure.Failure.{Failure}
-use Rattle.network_calls.specs.declared.failure.Failure.TheVariants.{Given, BadLimits, Network as InNetwork}
-use Rattle.network_calls.specs.declared.parts.LimitsParts.{LimitsParts}
-use Rattle.network_calls.specs.declared.parts.LinkParts.{LinkParts}
-use Rattle.network_calls.specs.declared.parts.AttachmentParts.{AttachmentParts}
-use Rattle.network_calls.specs.declared.parts.FaultPlace.{FaultPlace}
+use Rattle.network_calls.specs.{Failures.failure_number, declared.failure.Failure.Failure, declared.failure.Failure.TheVariants.Given, declared.failure.Failure.TheVariants.BadLimits, declared.failure.Failure.TheVariants.Network as InNetwork, declared.parts.LimitsParts.LimitsParts, declared.parts.LinkParts.LinkParts, declared.parts.AttachmentParts.AttachmentParts, declared.parts.FaultPlace.FaultPlace}
 
 -- ---- limits
 

@@ -1,15 +1,10 @@
 -- The network that C has: one that goes on by the steps of its caller, or one in simulated time, with a record or without.
 use Rattle.std.specs.Prelude.{◌≡◌, ℕ, Bool, List, Option, None, Some, option_map, option_and_then, MatchOption}
-use Rattle.network_model.specs.declared.step.Step.{Step}
-use Rattle.network_model.specs.World.{Network}
+use Rattle.network_model.specs.{declared.step.Step.Step, World.Network}
 use Rattle.simulation.specs.Simulation.{Simulation, after_step, opening_simulation}
-use Rattle.timed_simulation.specs.Timed.{Timed, opening_timed}
-use Rattle.timed_simulation.specs.declared.links.LinkDelays.{LinkDelays}
-use Rattle.timed_reports.specs.Reports.{Reported}
-use Rattle.timed_reports.specs.Recordings.{report_in, timed_in, IsOpened}
-use Rattle.timed_reports.specs.declared.recording.Recording.{Recording}
-use Rattle.network_calls.specs.declared.running.Going.{Going}
-use Rattle.network_calls.specs.declared.running.Going.TheVariants.{BySteps, InTime}
+use Rattle.timed_simulation.specs.{Timed.Timed, Timed.opening_timed, declared.links.LinkDelays.LinkDelays}
+use Rattle.timed_reports.specs.{Reports.Reported, Recordings.report_in, Recordings.timed_in, Recordings.IsOpened, declared.recording.Recording.Recording}
+use Rattle.network_calls.specs.{declared.running.Going.Going, declared.running.Going.TheVariants.BySteps, declared.running.Going.TheVariants.InTime}
 
 -- ---- what it is
 

@@ -1,24 +1,12 @@
 -- What a machine, a link, a queue, a gate and notices have, as C is shown it.
 use Rattle.std.specs.Prelude.{◌≡◌, ℕ, nat_lt, List, map, take, drop, length, Option, option_and_then, option_map, slice_get, unwrap_or, IfSome}
-use Rattle.std.specs.List.{range_with_len}
-use Rattle.std.specs.Option.{option_map_or}
-use Rattle.std.specs.FinMap.{find as row_of}
+use Rattle.std.specs.{List.range_with_len, Option.option_map_or, FinMap.find as row_of}
 use Rattle.ipv4_prefix.specs.Prefix.{Prefix, prefix_cmp}
-use Rattle.network_model.specs.Machine.{Machine}
-use Rattle.network_model.specs.Step.{is_due, ripe_front}
+use Rattle.network_model.specs.{Machine.Machine, Step.is_due, Step.ripe_front, declared.item.Item.Item, declared.item.Notice.Notice}
 use Rattle.network_model.specs.World.{Link, Router, World, side_at}
-use Rattle.network_model.specs.declared.item.Item.{Item}
 use Rattle.network_model.specs.declared.item.Item.TheVariants.{Up, Down, Cost, Message}
-use Rattle.network_model.specs.declared.item.Notice.{Notice}
-use Rattle.single_router.specs.Frames.{frame_of, message_kind_number}
-use Rattle.single_router.specs.States.{flag, state_of}
-use Rattle.single_router.specs.declared.frame.Frame.{Frame}
-use Rattle.network_calls.specs.declared.gate.GateShown.{GateShown}
-use Rattle.network_calls.specs.declared.gate.NoticeShown.{NoticeShown}
-use Rattle.network_calls.specs.declared.link.ItemShown.{ItemShown}
-use Rattle.network_calls.specs.declared.link.LinkShown.{LinkShown}
-use Rattle.network_calls.specs.declared.machine.MachineShown.{MachineShown}
-use Rattle.network_calls.specs.declared.machine.NeighbourShown.{NeighbourShown}
+use Rattle.single_router.specs.{Frames.frame_of, Frames.message_kind_number, States.flag, States.state_of, declared.frame.Frame.Frame}
+use Rattle.network_calls.specs.{declared.gate.GateShown.GateShown, declared.gate.NoticeShown.NoticeShown, declared.link.ItemShown.ItemShown, declared.link.LinkShown.LinkShown, declared.machine.MachineShown.MachineShown, declared.machine.NeighbourShown.NeighbourShown}
 
 -- ---- machines
 

@@ -1,8 +1,7 @@
 -- Spells as C has them: those that ended, and those that go on.
 use Rattle.std.specs.Prelude.{◌-◌, ◌^◌, List, is_some, unwrap_or}
 use Rattle.std.specs.List.{filter}
-use Rattle.timed_reports.specs.declared.spells.Spell.{Spell}
-use Rattle.timed_reports.specs.declared.spells.Watched.{Watched}
+use Rattle.timed_reports.specs.{declared.spells.Spell.Spell, declared.spells.Watched.Watched}
 use Rattle.network_calls.specs.declared.spells.SpellParts.{SpellParts}
 
 -- a spell that ended

@@ -3,10 +3,7 @@ use Rattle.std.specs.Prelude.{ℕ, ◌==◌, nat_lt, if◌then◌else◌, Option
 use Rattle.ipv4_prefix.specs.Prefix.{Prefix}
 use Rattle.network_model.specs.declared.step.Step.{Step}
 use Rattle.network_model.specs.declared.step.Step.TheVariants.{LinkUp, LinkDown, SetCost, Deliver, Publish, Release, Attach, Detach}
-use Rattle.c_interface.specs.Faults.{first_of}
-use Rattle.c_interface.specs.Rows.{as_prefix, prefix_fault}
-use Rattle.c_interface.specs.declared.fault.CallFault.{CallFault}
-use Rattle.c_interface.specs.declared.fault.CallFault.TheVariants.{BadKind}
+use Rattle.c_interface.specs.{Faults.first_of, Rows.as_prefix, Rows.prefix_fault, declared.fault.CallFault.CallFault, declared.fault.CallFault.TheVariants.BadKind}
 use Rattle.single_router.specs.Inputs.{cost_fault}
 use Rattle.network_calls.specs.declared.step.StepParts.{StepParts}
 

@@ -1,21 +1,9 @@
 -- What the calls answer that are about time, by the network that a handle holds, and what they leave.
 use Rattle.std.specs.Prelude.{◌≡◌, ◌≢◌, ◌⊎◌, ℕ, ◌<◌, ◌≤◌, nat_lt, if◌then◌else◌, true, Option, Some, None, option_map, slice_get}
 use Rattle.std.specs.Option.{option_map_or}
-use Rattle.timed_simulation.specs.declared.events.Event.{Event}
-use Rattle.timed_simulation.specs.declared.events.Change.{Change}
-use Rattle.timed_simulation.specs.declared.fault.TimeFault.{TimeFault}
-use Rattle.timed_simulation.specs.declared.fault.TimeFault.TheVariants.{PastMoment}
-use Rattle.timed_simulation.specs.Timed.{Timed}
-use Rattle.timed_simulation.specs.Due.{IsDoneUntil, NothingIsLate}
+use Rattle.timed_simulation.specs.{declared.events.Event.Event, declared.events.Change.Change, declared.fault.TimeFault.TimeFault, declared.fault.TimeFault.TheVariants.PastMoment, Timed.Timed, Due.IsDoneUntil, Due.NothingIsLate}
 use Rattle.timed_simulation.specs.Runs.{IsAtRest, IsStoppedAt, IsStoppedShort, IsTimedRun}
-use Rattle.network_calls.specs.Calls.{held_failure}
-use Rattle.network_calls.specs.Delays.{change_fault}
-use Rattle.network_calls.specs.Failures.{failure_number}
-use Rattle.network_calls.specs.Running.{clocked_in}
-use Rattle.network_calls.specs.declared.failure.Failure.{Failure}
-use Rattle.network_calls.specs.declared.failure.Failure.TheVariants.{Given, NoClock, Time}
-use Rattle.network_calls.specs.declared.running.Going.{Going}
-use Rattle.network_calls.specs.declared.step.StepParts.{StepParts}
+use Rattle.network_calls.specs.{Calls.held_failure, Delays.change_fault, Failures.failure_number, Running.clocked_in, declared.failure.Failure.Failure, declared.failure.Failure.TheVariants.Given, declared.failure.Failure.TheVariants.NoClock, declared.failure.Failure.TheVariants.Time, declared.running.Going.Going, declared.step.StepParts.StepParts}
 
 -- ---- changes
 

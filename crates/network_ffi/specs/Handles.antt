@@ -5,9 +5,7 @@ use Rattle.course.specs.Counts.{none_sent}
 use Rattle.simulation.specs.Simulation.{Simulation, simulation_of}
 use Rattle.timed_simulation.specs.Timed.{Timed}
 use Rattle.timed_reports.specs.Reports.{Reported}
-use Rattle.network_calls.specs.Running.{clocked_in, network_in, reported_in}
-use Rattle.network_calls.specs.declared.running.Going.{Going}
-use Rattle.network_calls.specs.declared.running.Going.TheVariants.{BySteps}
+use Rattle.network_calls.specs.{Running.clocked_in, Running.network_in, Running.reported_in, declared.running.Going.Going, declared.running.Going.TheVariants.BySteps}
 use Rattle.network_ffi.specs.declared.handle.NetworkHandle.{NetworkHandle}
 
 -- what a handle holds, if anything: a network that goes by steps, or one in simulated time

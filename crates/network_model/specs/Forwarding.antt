@@ -1,16 +1,10 @@
 -- Where packets go, what walks cost, and when a network is quiet.
 use Rattle.std.specs.Prelude.{◌≡◌, ℕ, zero, suc, ◌+◌, ◌≤◌, Bool, true, false, not, ◌&&◌, if◌then◌else◌, List, [], ◌∷◌, Option, Some, None, slice_get, option_and_then, option_map, is_none, length}
-use Rattle.std.specs.List.{list_all}
-use Rattle.std.specs.Option.{option_map_or}
-use Rattle.ipv4_prefix.specs.Prefix.{Prefix, prefix_eq}
-use Rattle.ipv4_prefix.specs.LongestMatch.{longest_match}
-use Rattle.network_model.specs.declared.route.Entry.{Entry}
-use Rattle.network_model.specs.declared.network.Place.{Place}
-use Rattle.network_model.specs.declared.trace.Ending.{Ending}
+use Rattle.std.specs.{List.list_all, Option.option_map_or}
+use Rattle.ipv4_prefix.specs.{Prefix.Prefix, Prefix.prefix_eq, LongestMatch.longest_match}
+use Rattle.network_model.specs.{declared.route.Entry.Entry, declared.network.Place.Place, declared.trace.Ending.Ending, declared.trace.Trace.Trace as TraceFields, Step.is_up_in, Step.changed_rows}
 use Rattle.network_model.specs.declared.trace.Ending.TheVariants.{Delivered, NoRoute, Unreachable, DeadLink, Crossed}
-use Rattle.network_model.specs.declared.trace.Trace.{Trace as TraceFields}
 use Rattle.network_model.specs.World.{Link, Router, Attachments, World, other, side, link_at, far_side_at, attachment_at}
-use Rattle.network_model.specs.Step.{is_up_in, changed_rows}
 
 -- ---- packets
 

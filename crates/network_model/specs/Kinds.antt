@@ -1,7 +1,6 @@
 -- Which fault a refusal is, and what is wrong with a network that cannot be opened: as which number and name the program prints it.
 use Rattle.faults.specs.declared.kind.FaultKind.{FaultKind}
-use Rattle.network_model.specs.declared.step.Refusal.{Refusal}
-use Rattle.network_model.specs.declared.network.NetworkFault.{NetworkFault}
+use Rattle.network_model.specs.{declared.step.Refusal.Refusal, declared.network.NetworkFault.NetworkFault}
 
 -- the kind of a refusal has its name
 abbrev pub refusal_kind : Refusal → FaultKind

@@ -3,11 +3,8 @@ use Rattle.std.specs.Prelude.{◌≡◌, ◌≤◌, ℕ, Bool, not, ◌&&◌, �
 use Rattle.std.specs.List.{list_any}
 use Rattle.metric.specs.Distance.{IsCost}
 use Rattle.ipv4_prefix.specs.Prefix.{Prefix, IsPrefix, prefix_eq}
-use Rattle.network_model.specs.declared.network.Limits.{Limits}
-use Rattle.network_model.specs.declared.network.LinkSpec.{LinkSpec}
-use Rattle.network_model.specs.declared.network.NetworkFault.{NetworkFault}
+use Rattle.network_model.specs.{declared.network.Limits.Limits, declared.network.LinkSpec.LinkSpec, declared.network.NetworkFault.NetworkFault, World.Network, World.prefixes_of}
 use Rattle.network_model.specs.declared.network.NetworkFault.TheVariants.{BadRouters, BadLink, TooManyLinks, BadOwner}
-use Rattle.network_model.specs.World.{Network, prefixes_of}
 
 -- ---- limits
 

@@ -1,10 +1,8 @@
 -- Patches, the lists of patches that a writer published, and the tables and images that they stand for.
 use Rattle.std.specs.Prelude.{ℕ, List, [], ◌∷◌, Option}
 use Rattle.std.specs.FinMap.{put}
-use Rattle.ipv4_prefix.specs.Prefix.{Prefix, prefix_cmp}
-use Rattle.ipv4_prefix.specs.LongestMatch.{longest_match}
-use Rattle.network_model.specs.declared.route.Answer.{Answer}
-use Rattle.network_model.specs.declared.route.Entry.{Entry}
+use Rattle.ipv4_prefix.specs.{Prefix.Prefix, Prefix.prefix_cmp, LongestMatch.longest_match}
+use Rattle.network_model.specs.{declared.route.Answer.Answer, declared.route.Entry.Entry}
 
 -- rows to set, with the generation that they make
 pub record Patch : Type 0 where

@@ -1,11 +1,8 @@
 -- Lists of steps, done one after another, and what the steps leave behind that no state holds.
 use Rattle.std.specs.Prelude.{◌≡◌, ℕ, ◌+◌, List, [], ◌∷◌, ◌++◌, Option, Some, None, slice_get, slice_set}
 use Rattle.std.specs.Option.{option_map_or}
-use Rattle.network_model.specs.declared.step.Step.{Step}
-use Rattle.network_model.specs.declared.step.Step.TheVariants.{Publish}
-use Rattle.network_model.specs.declared.step.Refusal.{Refusal}
+use Rattle.network_model.specs.{declared.step.Step.Step, declared.step.Step.TheVariants.Publish, declared.step.Refusal.Refusal, Step.Lawful, Step.next, Step.refusal}
 use Rattle.network_model.specs.World.{World, Router, Network, opening}
-use Rattle.network_model.specs.Step.{Lawful, next, refusal}
 
 -- the steps, each lawful where it is done, lead from one world to the other
 abbrev pub Runs : World → List Step → World → Type 0

@@ -1,28 +1,13 @@
 -- The steps of a network: which are lawful, why another is refused, and what a lawful one makes.
 use Rattle.std.specs.Prelude.{◌≡◌, ℕ, ◌+◌, ◌-◌, ◌<◌, Bool, true, false, not, ◌&&◌, ◌||◌, ◌==◌, nat_lt, if◌then◌else◌, List, [], ◌∷◌, ◌++◌, map, length, drop, Option, Some, None, slice_get, filter, option_and_then, is_none, ◌⊎◌}
-use Rattle.std.specs.List.{flat_map}
-use Rattle.std.specs.Option.{option_map_or}
-use Rattle.std.specs.FinMap.{find as row_of, put}
-use Rattle.std.specs.FinMap.Entries.{where_key}
+use Rattle.std.specs.{List.flat_map, Option.option_map_or, FinMap.find as row_of, FinMap.put, FinMap.Entries.where_key}
 use Rattle.metric.specs.Distance.{IsCost}
 use Rattle.ipv4_prefix.specs.Prefix.{Prefix, prefix_cmp, prefix_eq}
-use Rattle.network_model.specs.declared.machine.Event.{Event}
-use Rattle.network_model.specs.declared.machine.Outgoing.{Outgoing}
-use Rattle.network_model.specs.declared.item.Message.{Message}
-use Rattle.network_model.specs.declared.item.Item.{Item}
-use Rattle.network_model.specs.declared.item.Held.{Held}
-use Rattle.network_model.specs.declared.item.Notice.{Notice}
-use Rattle.network_model.specs.declared.route.Entry.{Entry}
-use Rattle.network_model.specs.declared.route.Entry.TheVariants.{Local, Via, Unreachable}
-use Rattle.network_model.specs.declared.network.End.{End}
-use Rattle.network_model.specs.declared.network.Port.{Port}
-use Rattle.network_model.specs.declared.step.Step.{Step}
+use Rattle.network_model.specs.{declared.machine.Event.Event, declared.machine.Outgoing.Outgoing, declared.item.Message.Message, declared.item.Item.Item, declared.item.Held.Held, declared.item.Notice.Notice, declared.route.Entry.Entry, declared.route.Entry.TheVariants.Local, declared.route.Entry.TheVariants.Via, declared.route.Entry.TheVariants.Unreachable, declared.network.End.End, declared.network.Port.Port, declared.step.Step.Step, declared.step.Refusal.Refusal, Network.first_cause}
 use Rattle.network_model.specs.declared.step.Step.TheVariants.{LinkUp, LinkDown, SetCost, Deliver, Publish, Release, Attach, Detach}
-use Rattle.network_model.specs.declared.step.Refusal.{Refusal}
 use Rattle.network_model.specs.declared.step.Refusal.TheVariants.{UnknownRouter, UnknownLink, AlreadyUp, IsDown, SessionsSpent, NothingToDeliver, NothingDue, NothingRipe, UnknownPrefix, NotAttached}
 use Rattle.network_model.specs.Machine.{Machine, Reaction, reaction, changed_at, port_count, event_at_home}
 use Rattle.network_model.specs.World.{Gate, Side, Link, Table, Router, Attachments, World, other, place_at, link_at, side_at, degree_of, attachment_at, is_known, machine_of}
-use Rattle.network_model.specs.Network.{first_cause}
 
 -- ---- links
 

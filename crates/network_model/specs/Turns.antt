@@ -1,12 +1,7 @@
 -- What a router does next, and when a network has nothing left to do.
 use Rattle.std.specs.Prelude.{ℕ, zero, suc, ◌+◌, ◌%◌, Bool, not, ◌&&◌, nat_lt, if◌then◌else◌, List, [], ◌∷◌, map, length, Option, find, is_none}
-use Rattle.std.specs.List.{range_with_len, list_all}
-use Rattle.std.specs.Option.{option_map_or}
-use Rattle.network_model.specs.declared.step.Step.{Step}
-use Rattle.network_model.specs.declared.step.Step.TheVariants.{Deliver, Publish, Release}
-use Rattle.network_model.specs.World.{World, degree_of}
-use Rattle.network_model.specs.Step.{refusal, is_due, next}
-use Rattle.network_model.specs.Forwarding.{is_quiet_link, has_no_notice}
+use Rattle.std.specs.{List.range_with_len, List.list_all, Option.option_map_or}
+use Rattle.network_model.specs.{declared.step.Step.Step, declared.step.Step.TheVariants.Deliver, declared.step.Step.TheVariants.Publish, declared.step.Step.TheVariants.Release, World.World, World.degree_of, Step.refusal, Step.is_due, Step.next, Forwarding.is_quiet_link, Forwarding.has_no_notice}
 
 -- whether a step that can be asked is lawful
 abbrev pub is_lawful : World → Step → Bool

@@ -1,21 +1,10 @@
 -- A network as one prefix sees it: the machines of its routers, and what is on the way between them.
 use Rattle.std.specs.Prelude.{ℕ, Bool, false, ◌&&◌, ◌==◌, if◌then◌else◌, List, [], ◌∷◌, ◌++◌, take, drop, Option, Some, None, slice_get, option_and_then}
-use Rattle.std.specs.Option.{option_map_or}
-use Rattle.std.specs.FinMap.{find as row_of}
+use Rattle.std.specs.{Option.option_map_or, FinMap.find as row_of}
 use Rattle.ipv4_prefix.specs.Prefix.{Prefix, prefix_cmp, prefix_eq}
-use Rattle.metric.specs.declared.kind.Kind.{Kind}
-use Rattle.metric.specs.Distance.{infinity}
-use Rattle.network_model.specs.declared.item.Message.{Message}
-use Rattle.network_model.specs.declared.item.Item.{Item}
-use Rattle.network_model.specs.declared.item.Held.{Held}
-use Rattle.network_model.specs.declared.route.Entry.{Entry}
-use Rattle.network_model.specs.declared.route.Entry.TheVariants.{Local, Via, Unreachable}
-use Rattle.network_model.specs.declared.network.End.{End}
-use Rattle.network_model.specs.declared.network.Place.{Place}
-use Rattle.network_model.specs.Machine.{Machine, opening_machine}
+use Rattle.metric.specs.{declared.kind.Kind.Kind, Distance.infinity}
+use Rattle.network_model.specs.{declared.item.Message.Message, declared.item.Item.Item, declared.item.Held.Held, declared.route.Entry.Entry, declared.route.Entry.TheVariants.Local, declared.route.Entry.TheVariants.Via, declared.route.Entry.TheVariants.Unreachable, declared.network.End.End, declared.network.Place.Place, Machine.Machine, Machine.opening_machine, Step.session_at, Run.History}
 use Rattle.network_model.specs.World.{Link, Router, World, Network, side, machine_of, place_at, opening}
-use Rattle.network_model.specs.Step.{session_at}
-use Rattle.network_model.specs.Run.{History}
 
 -- ---- what is seen
 

@@ -1,22 +1,9 @@
 -- A network of routers and links as one value, and the value with which it opens.
 use Rattle.std.specs.Prelude.{ℕ, ◌+◌, Bool, false, ◌==◌, if◌then◌else◌, List, [], ◌∷◌, map, length, Option, Some, None, slice_get, filter, option_and_then, option_map, unwrap_or}
-use Rattle.std.specs.List.{range_with_len, list_any, cons_option}
-use Rattle.std.specs.Option.{option_map_or}
-use Rattle.std.specs.FinMap.{find as row_of, put}
+use Rattle.std.specs.{List.range_with_len, List.list_any, List.cons_option, Option.option_map_or, FinMap.find as row_of, FinMap.put}
 use Rattle.metric.specs.Distance.{infinity}
 use Rattle.ipv4_prefix.specs.Prefix.{Prefix, prefix_cmp, prefix_eq}
-use Rattle.network_model.specs.declared.machine.Neighbour.{Neighbour}
-use Rattle.network_model.specs.declared.item.Item.{Item}
-use Rattle.network_model.specs.declared.item.Held.{Held}
-use Rattle.network_model.specs.declared.item.Notice.{Notice}
-use Rattle.network_model.specs.declared.route.Entry.{Entry}
-use Rattle.network_model.specs.declared.route.Entry.TheVariants.{Local}
-use Rattle.network_model.specs.declared.network.End.{End}
-use Rattle.network_model.specs.declared.network.End.TheVariants.{A, B}
-use Rattle.network_model.specs.declared.network.LinkSpec.{LinkSpec}
-use Rattle.network_model.specs.declared.network.Place.{Place}
-use Rattle.network_model.specs.declared.network.Port.{Port}
-use Rattle.network_model.specs.Machine.{Machine, opening_machine}
+use Rattle.network_model.specs.{declared.machine.Neighbour.Neighbour, declared.item.Item.Item, declared.item.Held.Held, declared.item.Notice.Notice, declared.route.Entry.Entry, declared.route.Entry.TheVariants.Local, declared.network.End.End, declared.network.End.TheVariants.A, declared.network.End.TheVariants.B, declared.network.LinkSpec.LinkSpec, declared.network.Place.Place, declared.network.Port.Port, Machine.Machine, Machine.opening_machine}
 
 -- ---- links
 

@@ -1,11 +1,8 @@
 -- The four facts on which the freedom from loops rests, said of a whole network: of what a prefix sees at the two ends of each link that is up.
 use Rattle.std.specs.Prelude.{◌≡◌, true, List, Some}
 use Rattle.ipv4_prefix.specs.Prefix.{Prefix}
-use Rattle.network_model.specs.declared.network.Place.{Place}
-use Rattle.network_model.specs.declared.step.Step.{Step}
+use Rattle.network_model.specs.{declared.network.Place.Place, declared.step.Step.Step, Network.IsNetwork, Run.Runs, Run.history}
 use Rattle.network_model.specs.World.{World, Network, other, opening}
-use Rattle.network_model.specs.Network.{IsNetwork}
-use Rattle.network_model.specs.Run.{Runs, history}
 use Rattle.network_model.specs.View.{LinkEnd, State, lay, destination_view}
 use Rattle.loop_freedom.specs.Facts.{LinkFacts, end_towards}
 

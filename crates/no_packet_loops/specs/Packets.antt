@@ -1,16 +1,9 @@
 -- What holds of the packets of every network, after every list of lawful steps.
 use Rattle.std.specs.Prelude.{◌≡◌, ℕ, ◌<◌, Bool, if◌then◌else◌, List, [], ◌∷◌, Option, Some, IsSome, slice_get, option_and_then, length, false, ⊤}
-use Rattle.std.specs.Option.{option_map_or}
-use Rattle.std.specs.FinMap.{find as row_of}
-use Rattle.ipv4_prefix.specs.Prefix.{Prefix, prefix_cmp}
-use Rattle.ipv4_prefix.specs.LongestMatch.{longest_match}
-use Rattle.network_model.specs.declared.route.Entry.{Entry}
-use Rattle.network_model.specs.World.{World, Network, opening}
-use Rattle.network_model.specs.declared.step.Step.{Step}
-use Rattle.network_model.specs.Network.{IsNetwork}
-use Rattle.network_model.specs.Run.{Runs, History, history}
+use Rattle.std.specs.{Option.option_map_or, FinMap.find as row_of}
+use Rattle.ipv4_prefix.specs.{Prefix.Prefix, Prefix.prefix_cmp, LongestMatch.longest_match}
+use Rattle.network_model.specs.{declared.route.Entry.Entry, World.World, World.Network, World.opening, declared.step.Step.Step, Network.IsNetwork, Run.Runs, Run.History, Run.history, View.fd_in}
 use Rattle.network_model.specs.Forwarding.{entry_leads, IsForwarded, IsPacketWalk, trace}
-use Rattle.network_model.specs.View.{fd_in}
 use Rattle.loop_freedom.specs.Network.{meets_twice}
 
 -- what holds of every world that lawful steps lead to from the opening of a network

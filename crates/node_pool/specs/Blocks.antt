@@ -1,11 +1,7 @@
 -- What the calls of a pool of nodes and results do to each of its two pools.
 use Rattle.std.specs.Prelude.{ℕ, ◌≡◌, ◌≢◌, ◌+◌, ◌-◌, ◌<◌, ◌≤◌, None, Result, IsOk, IfOk, OnOk, OnErr}
-use Rattle.node_pool.specs.Cell.{IsFilled}
+use Rattle.node_pool.specs.{Cell.IsFilled, declared.pool.Pool.Pool, declared.pools.NodePool.NodePool, declared.pools.Block.Block, declared.pools.Block.TheVariants.Nodes, declared.pools.Block.TheVariants.Results}
 use Rattle.node_pool.specs.Pool.{cell, cell_count, room, free_blocks, KeepsCells, IsNoLarger, IsBehind, IsTaken, IsUsedBlock}
-use Rattle.node_pool.specs.declared.pool.Pool.{Pool}
-use Rattle.node_pool.specs.declared.pools.NodePool.{NodePool}
-use Rattle.node_pool.specs.declared.pools.Block.{Block}
-use Rattle.node_pool.specs.declared.pools.Block.TheVariants.{Nodes, Results}
 
 module _ {T A : Type 0} where
   -- A block of `size` cells is taken, which were free, or the call is refused, as there was less room. A free block of the size is taken before there are more cells.

@@ -1,7 +1,6 @@
 -- What cells hold, and what is written to them.
 use Rattle.std.specs.Prelude.{ℕ, ◌≡◌, ◌+◌, ◌<◌, ◌≤◌, List, Option, Some, None, slice_index_or}
-use Rattle.node_pool.specs.declared.cells.Cell.{Cell}
-use Rattle.node_pool.specs.declared.cells.Cell.TheVariants.{Free, Used}
+use Rattle.node_pool.specs.{declared.cells.Cell.Cell, declared.cells.Cell.TheVariants.Free, declared.cells.Cell.TheVariants.Used}
 
 module _ {T : Type 0} where
   -- the value in a cell, or none where it is free

@@ -1,8 +1,6 @@
 -- How the free blocks of each size are linked.
 use Rattle.std.specs.Prelude.{ℕ, ◌≡◌, ◌+◌, ◌-◌, ◌<◌, ◌≤◌, List, length, is_some, false, slice_index_or}
-use Rattle.node_pool.specs.declared.cells.Cell.{Cell}
-use Rattle.node_pool.specs.declared.cells.FreeList.{FreeList}
-use Rattle.node_pool.specs.Cell.{cell_at, at, next_free}
+use Rattle.node_pool.specs.{declared.cells.Cell.Cell, declared.cells.FreeList.FreeList, Cell.cell_at, Cell.at, Cell.next_free}
 
 -- the list of the blocks of `i + 1` cells; an empty one where there is none
 abbrev pub free_list : List FreeList → ℕ → FreeList

@@ -1,8 +1,6 @@
 -- What a pool holds, and what its calls do: from places to values, or none where a cell is free.
 use Rattle.std.specs.Prelude.{ℕ, ◌≡◌, ◌≢◌, ◌+◌, ◌-◌, ◌^◌, ◌<◌, ◌≤◌, min, vec_capacity, vec_len, Option, Some, None, is_some, true}
-use Rattle.node_pool.specs.Cell.{at, IsFilled}
-use Rattle.node_pool.specs.FreeLists.{count_at}
-use Rattle.node_pool.specs.declared.pool.Pool.{Pool}
+use Rattle.node_pool.specs.{Cell.at, Cell.IsFilled, FreeLists.count_at, declared.pool.Pool.Pool}
 
 module _ {T A : Type 0} where
   -- the value at a place, or none where the cell is free or there is none

@@ -1,16 +1,9 @@
 -- What a clause says of the ends of a queue.
 use Rattle.std.specs.Prelude.{◌≡◌, ◌+◌, ℕ, List, [], length, All, sum_by}
-use Rattle.atomic_table.specs.Seated.{TableId}
-use Rattle.atomic_table.specs.declared.badge.Badge.{Badge}
-use Rattle.crossbeam_channel.specs.declared.flavors.array.Key.{Key}
-use Rattle.crossbeam_channel.specs.declared.flavors.array.Rows.{Rows}
-use Rattle.crossbeam_channel.specs.Claims.{view}
-use Rattle.crossbeam_channel.specs.Ends.{sends_on, receives_on}
+use Rattle.atomic_table.specs.{Seated.TableId, declared.badge.Badge.Badge}
+use Rattle.crossbeam_channel.specs.{declared.flavors.array.Key.Key, declared.flavors.array.Rows.Rows, Claims.view, Ends.sends_on, Ends.receives_on}
 use Rattle.publication.specs.declared.job.Job.{Job}
-use Rattle.packet_queue.specs.declared.message.Taken.{Taken}
-use Rattle.packet_queue.specs.declared.injector.Injector.{Injector}
-use Rattle.packet_queue.specs.declared.taker.Taker.{Taker}
-use Rattle.packet_queue.specs.Jobs.{jobs_of}
+use Rattle.packet_queue.specs.{declared.message.Taken.Taken, declared.injector.Injector.Injector, declared.taker.Taker.Taker, Jobs.jobs_of}
 
 -- which queue it is
 abbrev pub QueueName : Type 0 → Type 0

@@ -1,8 +1,7 @@
 -- The rule of the queue: what was put is what was taken and what the queue holds, however messages are weighed.
 use Rattle.std.specs.Prelude.{◌≡◌, ◌+◌, ℕ, List, [], sum_by, All}
-use Rattle.packet_queue.specs.declared.message.Taken.{Taken}
+use Rattle.packet_queue.specs.{declared.message.Taken.Taken, declared.rule.Hand.Hand}
 use Rattle.packet_queue.specs.declared.message.Taken.TheVariants as T
-use Rattle.packet_queue.specs.declared.rule.Hand.{Hand}
 
 -- what a pass with so many parts has put and taken, oldest first
 abbrev pub hand : {B : Type 0} → ℕ → List (Taken B) → List (Taken B) → Hand B

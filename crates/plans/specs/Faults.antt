@@ -2,18 +2,10 @@
 use Rattle.std.specs.Prelude.{◌≡◌, ℕ, ◌<◌, ◌≤◌, ◌⊎◌, Bool, true, false, if◌then◌else◌, IsUtf8, Option, None, Some, IfSome, length, option_map}
 use Rattle.faults.specs.declared.kind.FaultKind.{FaultKind}
 use Rattle.texts.specs.Words.{Text}
-use Rattle.script.specs.declared.place.Key.{Key}
-use Rattle.script.specs.declared.place.Key.TheVariants.{Links, Prefixes}
-use Rattle.script.specs.declared.place.Located.{Located}
-use Rattle.script.specs.Kinds.{line_kind}
-use Rattle.network_model.specs.declared.network.NetworkFault.{NetworkFault}
-use Rattle.network_model.specs.declared.step.Refusal.{Refusal}
-use Rattle.network_model.specs.Kinds.{refusal_kind}
+use Rattle.script.specs.{declared.place.Key.Key, declared.place.Key.TheVariants.Links, declared.place.Key.TheVariants.Prefixes, declared.place.Located.Located, Kinds.line_kind}
+use Rattle.network_model.specs.{declared.network.NetworkFault.NetworkFault, declared.step.Refusal.Refusal, Kinds.refusal_kind}
 use Rattle.journal.specs.declared.fault.JournalFault.{JournalFault}
-use Rattle.plans.specs.declared.fault.Fault.{Fault}
-use Rattle.plans.specs.declared.place.Where.{Where}
-use Rattle.plans.specs.declared.outcome.Outcome.{Outcome}
-use Rattle.plans.specs.declared.outcome.Outcome.TheVariants.{Done, Refused as RefusedStep, Differs}
+use Rattle.plans.specs.{declared.fault.Fault.Fault, declared.place.Where.Where, declared.outcome.Outcome.Outcome, declared.outcome.Outcome.TheVariants.Done, declared.outcome.Outcome.TheVariants.Refused as RefusedStep, declared.outcome.Outcome.TheVariants.Differs}
 
 -- ---- statuses
 

@@ -3,11 +3,9 @@ use Rattle.std.specs.Prelude.{◌≡◌, Bool, false, true, ◌≤◌, ◌++◌,
 use Rattle.std.specs.Io.KnownBytes.{Appends}
 use Rattle.fabric.specs.Fabric.{Fabric}
 use Rattle.texts.specs.Words.{Text}
-use Rattle.script.specs.Reading.{Parts}
-use Rattle.script.specs.Directories.{Directory}
+use Rattle.script.specs.{Reading.Parts, Directories.Directory}
 use Rattle.journal.specs.Journal.{journal_text}
-use Rattle.plans.specs.Faults.{most_bytes}
-use Rattle.plans.specs.Scenarios.{IsScenario}
+use Rattle.plans.specs.{Faults.most_bytes, Scenarios.IsScenario}
 
 -- ---- check
 

@@ -4,15 +4,10 @@ use Rattle.fabric.specs.Fabric.{opening_fabric}
 use Rattle.texts.specs.Words.{Text}
 use Rattle.command_line.specs.declared.words.Words.{Words}
 use Rattle.command_line.specs.declared.words.Words.TheVariants.{Check, Run, Replay, Time, Explain, Shell}
-use Rattle.plans.specs.declared.fault.Fault.{Fault}
-use Rattle.plans.specs.declared.outcome.Outcome.{Outcome}
-use Rattle.plans.specs.declared.outcome.Outcome.TheVariants.{Done}
-use Rattle.plans.specs.Faults.{OfBytes, status_at, status_of}
-use Rattle.plans.specs.Scenarios.{StopsReading}
+use Rattle.plans.specs.{declared.fault.Fault.Fault, declared.outcome.Outcome.Outcome, declared.outcome.Outcome.TheVariants.Done, Faults.OfBytes, Faults.status_at, Faults.status_of, Scenarios.StopsReading}
 use Rattle.interpreter.specs.Nets.{counted_meaning, kept_meaning, opening_counted}
-use Rattle.play.specs.Ends.{IsChecked, KeepsJournal}
+use Rattle.play.specs.{Ends.IsChecked, Ends.KeepsJournal, Replays.Replays, Replays.StopsReplay}
 use Rattle.timing.specs.Ends.{IsTimedToEnd, StopsTime}
-use Rattle.play.specs.Replays.{Replays, StopsReplay}
 use Rattle.play.specs.Works.{Comes, IsOfNothing, IsOfWorkers, IsWorked, Stops, StopsOn, none_kept}
 
 -- how a command ends that has met no fault, where the text of a journal is wanted or not

@@ -1,24 +1,12 @@
 -- How a replay ends.
 use Rattle.std.specs.Prelude.{◌≡◌, ℕ, ◌≤◌, ◌⊎◌, nat_lt, if◌then◌else◌, List, Option, Some, None, length, take}
-use Rattle.network_model.specs.declared.step.Step.{Step}
-use Rattle.network_model.specs.declared.step.Refusal.{Refusal}
-use Rattle.network_model.specs.declared.step.Refusal.TheVariants.{JournalFull}
-use Rattle.network_model.specs.Journal.{most_steps}
-use Rattle.network_model.specs.Step.{refusal}
-use Rattle.network_model.specs.World.{World, opening}
-use Rattle.network_model.specs.Run.{Runs}
+use Rattle.network_model.specs.{declared.step.Step.Step, declared.step.Refusal.Refusal, declared.step.Refusal.TheVariants.JournalFull, Journal.most_steps, Step.refusal, World.World, World.opening, Run.Runs}
 use Rattle.world.specs.Steps.{StopsAt}
 use Rattle.texts.specs.Words.{Text}
 use Rattle.script.specs.Reading.{Parts}
-use Rattle.journal.specs.declared.fault.JournalFault.{JournalFault}
-use Rattle.journal.specs.declared.read.Version.{Version}
-use Rattle.journal.specs.declared.read.Version.TheVariants.{Two}
-use Rattle.journal.specs.Journal.{IsJournal, IsJournalFault as IsJournalFault}
-use Rattle.plans.specs.declared.fault.Fault.{Fault}
-use Rattle.plans.specs.declared.outcome.Outcome.{Outcome}
-use Rattle.plans.specs.declared.outcome.Outcome.TheVariants.{Done, Refused, Differs}
+use Rattle.journal.specs.{declared.fault.JournalFault.JournalFault, declared.read.Version.Version, declared.read.Version.TheVariants.Two, Journal.IsJournal, Journal.IsJournalFault as IsJournalFault}
+use Rattle.plans.specs.{declared.fault.Fault.Fault, declared.outcome.Outcome.Outcome, declared.outcome.Outcome.TheVariants.Done, declared.outcome.Outcome.TheVariants.Refused, declared.outcome.Outcome.TheVariants.Differs, Scenarios.IsScenario, Scenarios.StopsReading, Scenarios.network_read}
 use Rattle.plans.specs.Faults.{journal_fault, most_bytes, most_journal_bytes, Gives, IsUnreadFrom}
-use Rattle.plans.specs.Scenarios.{IsScenario, StopsReading, network_read}
 
 -- why a step of a journal is refused, of which so many were done: a journal has no place for more, or as the world refuses it
 abbrev pub replay_refusal : World → ℕ → Step → Option Refusal

@@ -3,16 +3,10 @@ use Rattle.std.specs.Prelude.{◌≡◌, ◌≤◌, ◌⊎◌, ⊤, Bool, true, 
 use Rattle.fabric.specs.Fabric.{Fabric, opening_fabric}
 use Rattle.network_model.specs.World.{Network}
 use Rattle.texts.specs.Words.{Text}
-use Rattle.script.specs.Reading.{Parts}
-use Rattle.script.specs.Directories.{Directory, directory_of}
-use Rattle.script.specs.declared.command.Command.{Command}
-use Rattle.plans.specs.declared.fault.Fault.{Fault}
-use Rattle.plans.specs.declared.plan.Plan.{Plan}
+use Rattle.script.specs.{Reading.Parts, Directories.Directory, Directories.directory_of, declared.command.Command.Command}
+use Rattle.plans.specs.{declared.fault.Fault.Fault, declared.plan.Plan.Plan, Scenarios.IsScenario, Scenarios.StopsReading, Scenarios.network_read}
 use Rattle.plans.specs.Faults.{most_bytes, CannotRead, IsWantOfMemory, IsWithoutReaders}
-use Rattle.plans.specs.Scenarios.{IsScenario, StopsReading, network_read}
-use Rattle.interpreter.specs.Commands.{AreDone, AreTried, StopsAtCommand}
-use Rattle.interpreter.specs.Dispatching.{IsUnanswered}
-use Rattle.interpreter.specs.Nets.{Meaning, kept_meaning}
+use Rattle.interpreter.specs.{Commands.AreDone, Commands.AreTried, Commands.StopsAtCommand, Dispatching.IsUnanswered, Nets.Meaning, Nets.kept_meaning}
 
 -- ---- what is done on a network that was opened
 

@@ -5,8 +5,7 @@ use mathlib.Core.List.{IsPrefix}
 use Rattle.ipv4_prefix.specs.Prefix.{Prefix, prefix_eq}
 use Rattle.network_model.specs.Publication.{Patch, Image, published_generation, published_image}
 use Rattle.network_model.specs.declared.route.Entry.{Entry}
-use Rattle.image_patch.specs.Patches.{patched}
-use Rattle.image_patch.specs.declared.Patch.{Patch as PatchFields}
+use Rattle.image_patch.specs.{Patches.patched, declared.Patch.Patch as PatchFields}
 use Rattle.publication.specs.declared.known.Known.{Known}
 
 -- the rows that a patch sets, and the generation that it makes

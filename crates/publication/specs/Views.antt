@@ -3,10 +3,8 @@ use Rattle.std.specs.Prelude.{◌≡◌, ℕ, List, Option, Some, IfSome}
 use mathlib.Core.Option.{some}
 use lib.ListN.{get_elem?}
 use Rattle.ipv4_prefix.specs.Prefix.{Prefix}
-use Rattle.network_model.specs.Publication.{Image}
-use Rattle.network_model.specs.declared.route.Entry.{Entry}
-use Rattle.publication.specs.declared.known.Known.{Known}
-use Rattle.publication.specs.Lists.{Begins, image_of}
+use Rattle.network_model.specs.{Publication.Image, declared.route.Entry.Entry}
+use Rattle.publication.specs.{declared.known.Known.Known, Lists.Begins, Lists.image_of}
 
 -- the image that is shown is that of its list, which every view begins
 abbrev pub Keeps : List (List (Prefix × Entry)) → Image → Known → List (Option Known) → Type 0

@@ -1,16 +1,9 @@
 -- What holds of a world that is quiet: published rows lead along cheapest ways to an attached router.
 use Rattle.std.specs.Prelude.{◌≡◌, ◌⊎◌, ℕ, ◌<◌, true, List, [], ◌∷◌, Some, None, slice_get, option_and_then}
-use Rattle.std.specs.Option.{option_map_or}
-use Rattle.std.specs.FinMap.{find as row_of}
+use Rattle.std.specs.{Option.option_map_or, FinMap.find as row_of}
 use Rattle.ipv4_prefix.specs.Prefix.{Prefix, prefix_cmp}
-use Rattle.network_model.specs.Machine.{Machine, opening_machine}
-use Rattle.network_model.specs.declared.route.Entry.TheVariants.{Local, Via, Unreachable}
+use Rattle.network_model.specs.{Machine.Machine, Machine.opening_machine, declared.route.Entry.TheVariants.Local, declared.route.Entry.TheVariants.Via, declared.route.Entry.TheVariants.Unreachable, declared.network.Place.Place, declared.step.Step.Step, Network.IsNetwork, Run.Runs, Forwarding.IsWalkHome, Forwarding.IsLeastWalk, Forwarding.is_quiet}
 use Rattle.network_model.specs.World.{Link, World, Network, other, side, place_at, attachment_at, machine_of, opening}
-use Rattle.network_model.specs.declared.network.Place.{Place}
-use Rattle.network_model.specs.declared.step.Step.{Step}
-use Rattle.network_model.specs.Network.{IsNetwork}
-use Rattle.network_model.specs.Run.{Runs}
-use Rattle.network_model.specs.Forwarding.{IsWalkHome, IsLeastWalk, is_quiet}
 use Rattle.no_packet_loops.specs.Packets.{published_entry, control_entry}
 
 -- ---- rows and chains of rows

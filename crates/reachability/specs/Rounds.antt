@@ -2,14 +2,10 @@
 use Rattle.std.specs.Prelude.{◌≡◌, ℕ, ◌<◌, Bool, true, false, List, Option, Some, None, is_some, slice_get, length}
 use Rattle.std.specs.Option.{option_map_or}
 use Rattle.ipv4_prefix.specs.Prefix.{Prefix}
-use Rattle.network_model.specs.declared.network.End.{End}
-use Rattle.network_model.specs.declared.route.Entry.{Entry}
-use Rattle.network_model.specs.declared.route.Entry.TheVariants.{Local, Via, Unreachable}
+use Rattle.network_model.specs.{declared.network.End.End, declared.route.Entry.Entry, declared.route.Entry.TheVariants.Local, declared.route.Entry.TheVariants.Via, declared.route.Entry.TheVariants.Unreachable, Forwarding.entry_leads}
 use Rattle.network_model.specs.World.{Link, World, other, side, attachment_at}
-use Rattle.network_model.specs.Forwarding.{entry_leads}
 use Rattle.no_packet_loops.specs.Packets.{published_entry}
-use Rattle.reachability.specs.Ways.{HasWay, Reaches}
-use Rattle.reachability.specs.Marks.{is_in}
+use Rattle.reachability.specs.{Ways.HasWay, Ways.Reaches, Marks.is_in}
 
 -- ---- links
 

@@ -1,11 +1,8 @@
 -- Ways from routers to a prefix: over links that are up, and by the rows that routers published.
 use Rattle.std.specs.Prelude.{◌≡◌, ℕ, ◌<◌, ◌≤◌, List, Some, slice_get, length}
 use Rattle.ipv4_prefix.specs.Prefix.{Prefix}
-use Rattle.network_model.specs.declared.network.End.{End}
-use Rattle.network_model.specs.declared.network.Place.{Place}
+use Rattle.network_model.specs.{declared.network.End.End, declared.network.Place.Place, Network.most_routers, Network.most_links, Forwarding.IsWalkHome}
 use Rattle.network_model.specs.World.{Link, Router, World, side, place_at, attachment_at}
-use Rattle.network_model.specs.Network.{most_routers, most_links}
-use Rattle.network_model.specs.Forwarding.{IsWalkHome}
 use Rattle.quiet_routes.specs.Routes.{IsChain}
 
 -- rows that were published lead from router i home: over links that are up in the rows' sessions, to a router that is attached to the prefix and whose row is local

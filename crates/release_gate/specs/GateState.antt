@@ -1,7 +1,6 @@
 -- What a router holds back.
 use Rattle.std.specs.Prelude.{ℕ, [], ◌∷◌, ◌++◌}
-use Rattle.network_model.specs.declared.item.Held.{Held}
-use Rattle.network_model.specs.World.{Gate}
+use Rattle.network_model.specs.{declared.item.Held.Held, World.Gate}
 
 -- a gate, and for how many more messages it has memory
 pub record GateState : Type 0 where

@@ -1,9 +1,7 @@
 -- A table of which some changed rows are published, and one that forgets a prefix.
 use Rattle.std.specs.Prelude.{ℕ, take}
 use Rattle.ipv4_prefix.specs.Prefix.{Prefix}
-use Rattle.network_model.specs.Publication.{with_rows}
-use Rattle.network_model.specs.Step.{changed_rows}
-use Rattle.network_model.specs.World.{Table}
+use Rattle.network_model.specs.{Publication.with_rows, Step.changed_rows, World.Table}
 use Rattle.route_table.specs.Place.{without}
 
 -- a table with the first n of its changed rows in force

@@ -1,7 +1,6 @@
 -- Where the row of a prefix stands in a list of rows in the order of their prefixes.
 use Rattle.std.specs.Prelude.{◌≡◌, ℕ, ◌<◌, ◌≤◌, List, Result, Ok, Err, length, not}
-use Rattle.std.specs.declared.cmp.Ordering.TheVariants.{Less, Greater}
-use Rattle.std.specs.List.{AllWithin, HoldsAt, filter}
+use Rattle.std.specs.{declared.cmp.Ordering.TheVariants.Less, declared.cmp.Ordering.TheVariants.Greater, List.AllWithin, List.HoldsAt, List.filter}
 use Rattle.ipv4_prefix.specs.Prefix.{Prefix, prefix_cmp, prefix_eq}
 
 -- the row of the prefix stands here; or no row has it, and a new one would go between the rows below and those above

@@ -1,14 +1,9 @@
 -- The two maps of a router, as they are kept in one list of rows.
 use Rattle.std.specs.Prelude.{◌≡◌, ℕ, ◌≤◌, Bool, false, not, List, [], ◌∷◌, Some, map, filter, length, option_map, if◌then◌else◌}
-use Rattle.std.specs.FinMap.{put}
-use Rattle.std.specs.List.{filter_map}
-use Rattle.std.specs.Option.{option_map_or}
+use Rattle.std.specs.{FinMap.put, List.filter_map, Option.option_map_or}
 use Rattle.ipv4_prefix.specs.Prefix.{Prefix, prefix_cmp}
-use Rattle.network_model.specs.declared.route.Entry.{Entry}
-use Rattle.network_model.specs.World.{Table}
-use Rattle.network_model.specs.Step.{entry_eq}
-use Rattle.route_table.specs.Place.{without}
-use Rattle.route_table.specs.declared.row.Row.{Row}
+use Rattle.network_model.specs.{declared.route.Entry.Entry, World.Table, Step.entry_eq}
+use Rattle.route_table.specs.{Place.without, declared.row.Row.Row}
 
 -- the two maps, and how many new prefixes fit without memory
 pub record TableAndRoom : Type 0 where

@@ -1,16 +1,10 @@
 -- What a router does in a process of its own, beside what routers of a network do: it publishes some of its rows, and it
 -- forgets a prefix of which it knows nothing any more.
 use Rattle.std.specs.Prelude.{ℕ, Bool, false, not, ◌&&◌, ◌||◌, ◌==◌, is_none}
-use Rattle.std.specs.List.{list_all}
-use Rattle.std.specs.Option.{option_map_or}
-use Rattle.std.specs.FinMap.{find as row_of}
+use Rattle.std.specs.{List.list_all, Option.option_map_or, FinMap.find as row_of}
 use Rattle.ipv4_prefix.specs.Prefix.{Prefix, prefix_cmp}
 use Rattle.metric.specs.Distance.{infinity}
-use Rattle.network_model.specs.declared.machine.Neighbour.{Neighbour}
-use Rattle.network_model.specs.declared.route.Entry.TheVariants.{Unreachable}
-use Rattle.network_model.specs.Machine.{Machine}
-use Rattle.network_model.specs.Step.{has_row}
-use Rattle.network_model.specs.World.{Router}
+use Rattle.network_model.specs.{declared.machine.Neighbour.Neighbour, declared.route.Entry.TheVariants.Unreachable, Machine.Machine, Step.has_row, World.Router}
 use Rattle.route_table.specs.Place.{without}
 pub use Rattle.route_table.specs.Parts.{with_some_published, without_rows}
 

@@ -1,16 +1,8 @@
 -- A router's machines as the network sees them, and what every router keeps.
 use Rattle.std.specs.Prelude.{◌≡◌, ℕ, ◌≤◌, true, false, Bool, List, map, length}
-use Rattle.std.specs.List.{AllByRecursion}
-use Rattle.std.specs.FinMap.{is_sorted}
+use Rattle.std.specs.{List.AllByRecursion, FinMap.is_sorted}
 use Rattle.ipv4_prefix.specs.Prefix.{Prefix, prefix_cmp}
-use Rattle.network_model.specs.declared.machine.Neighbour.{Neighbour}
-use Rattle.network_model.specs.declared.network.Port.{Port}
-use Rattle.network_model.specs.declared.machine.Event.{Event}
-use Rattle.network_model.specs.declared.machine.Event.TheVariants.{Up, Down}
-use Rattle.network_model.specs.Machine.{Machine, changed_at}
-use Rattle.network_model.specs.World.{Table, Gate, Router}
-use Rattle.network_model.specs.Step.{chosen_rows}
-use Rattle.network_model.specs.Network.{most_ports}
+use Rattle.network_model.specs.{declared.machine.Neighbour.Neighbour, declared.network.Port.Port, declared.machine.Event.Event, declared.machine.Event.TheVariants.Up, declared.machine.Event.TheVariants.Down, Machine.Machine, Machine.changed_at, World.Table, World.Gate, World.Router, Step.chosen_rows, Network.most_ports}
 use Rattle.dual_machine.specs.State.{MachineState}
 
 -- the machines without their origin states

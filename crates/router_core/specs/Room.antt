@@ -2,9 +2,7 @@
 use Rattle.std.specs.Prelude.{◌≡◌, ℕ, ◌+◌, ◌*◌, ◌<◌, ◌⊎◌, None, length}
 use Rattle.std.specs.FinMap.{find as row_of}
 use Rattle.ipv4_prefix.specs.Prefix.{Prefix, prefix_cmp}
-use Rattle.network_model.specs.Network.{most_ports}
-use Rattle.network_model.specs.World.{Router}
-use Rattle.network_model.specs.declared.item.Item.{Item}
+use Rattle.network_model.specs.{Network.most_ports, World.Router, declared.item.Item.Item}
 
 -- so many messages a router has memory for, sent in one reaction or held: one more than it can have ports
 abbrev pub kept_room : ℕ

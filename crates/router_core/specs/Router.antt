@@ -1,8 +1,7 @@
 -- When a router may take an item from a port.
 use Rattle.std.specs.Prelude.{◌≡◌, ℕ, Bool, true, false, List, slice_get}
 use Rattle.std.specs.Option.{option_map_or}
-use Rattle.network_model.specs.declared.item.Item.{Item}
-use Rattle.network_model.specs.declared.network.Port.{Port}
+use Rattle.network_model.specs.{declared.item.Item.Item, declared.network.Port.Port}
 
 -- whether the router's port is up
 abbrev pub is_port_up : List Port → ℕ → Bool

@@ -1,17 +1,10 @@
 -- What the calls answer, by the router that a handle holds, and what they leave.
 use Rattle.std.specs.Prelude.{◌≡◌, ◌≢◌, ◌⊎◌, ℕ, List, length, if◌then◌else◌, is_some, Option, Some, None, option_map, Result, Ok, Err, IfOk, IfSome}
-use Rattle.network_model.specs.Step.{ripe_front}
-use Rattle.network_model.specs.World.{Router}
-use Rattle.c_interface.specs.Faults.{fault_number, first_of}
-use Rattle.c_interface.specs.Rows.{as_prefix, prefix_fault}
-use Rattle.c_interface.specs.declared.fault.CallFault.{CallFault}
+use Rattle.network_model.specs.{Step.ripe_front, World.Router}
+use Rattle.c_interface.specs.{Faults.fault_number, Faults.first_of, Rows.as_prefix, Rows.prefix_fault, declared.fault.CallFault.CallFault, declared.row.Row.Row}
 use Rattle.c_interface.specs.declared.fault.CallFault.TheVariants.{Empty, NoMemory, NothingRipe, UnknownPrefix}
-use Rattle.c_interface.specs.declared.row.Row.{Row}
-use Rattle.single_router.specs.Bounded.{BoundedRouter, bounded_fault, with_router}
-use Rattle.single_router.specs.Inputs.{router_after, InputNeedsMemory}
+use Rattle.single_router.specs.{Bounded.BoundedRouter, Bounded.bounded_fault, Bounded.with_router, Inputs.router_after, Inputs.InputNeedsMemory, States.flag, States.shown_state, declared.input.Input.Input}
 use Rattle.single_router.specs.Publishing.{IsWrittenOver, has_more, rows_given, router_given, forget_fault}
-use Rattle.single_router.specs.States.{flag, shown_state}
-use Rattle.single_router.specs.declared.input.Input.{Input}
 
 -- what a test of the router finds; that the handle holds none comes first
 abbrev pub held_fault : (BoundedRouter → Option CallFault) → Option BoundedRouter → Option CallFault

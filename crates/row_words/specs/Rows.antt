@@ -1,12 +1,8 @@
 -- Rows with a word beside each entry, and the numbers of cells that stand for them in an image.
 use Rattle.std.specs.Prelude.{ℕ, ◌≡◌, ◌+◌, ◌*◌, ◌-◌, ◌/◌, ◌%◌, ◌^◌, ◌<◌, ◌≤◌, not, true, List, [], ◌∷◌, length, map, filter, Option, Some, None, slice_index_or}
-use Rattle.std.specs.List.{AllByRecursion}
-use Rattle.std.specs.FinMap.{put, is_sorted}
-use Rattle.ipv4_prefix.specs.Prefix.{Prefix, prefix_cmp, prefix_eq}
-use Rattle.ipv4_prefix.specs.LongestMatch.{longest_match}
-use Rattle.network_model.specs.Publication.{Image}
-use Rattle.network_model.specs.declared.route.Entry.{Entry}
-use Rattle.network_model.specs.declared.route.Entry.TheVariants.{Local, Via, Unreachable}
+use Rattle.std.specs.{List.AllByRecursion, FinMap.put, FinMap.is_sorted}
+use Rattle.ipv4_prefix.specs.{Prefix.Prefix, Prefix.prefix_cmp, Prefix.prefix_eq, LongestMatch.longest_match}
+use Rattle.network_model.specs.{Publication.Image, declared.route.Entry.Entry, declared.route.Entry.TheVariants.Local, declared.route.Entry.TheVariants.Via, declared.route.Entry.TheVariants.Unreachable}
 use Rattle.row_words.specs.declared.cells.Marked.{Marked}
 
 -- ---- what callers see

@@ -1,21 +1,10 @@
 -- Books of what was shown: what a change makes of one, and when one shows its link or its router as it is.
 use Rattle.std.specs.Prelude.{◌≡◌, ◌&&◌, ℕ, All, List, [], ◌∷◌, Bool, false, true, Option, Some, None, slice_get, slice_set, vec_len}
-use Rattle.std.specs.Option.{option_map_or}
-use Rattle.std.specs.FinMap.{find as row_of}
+use Rattle.std.specs.{Option.option_map_or, FinMap.find as row_of}
 use Rattle.ipv4_prefix.specs.Prefix.{Prefix, prefix_cmp, prefix_eq}
-use Rattle.network_model.specs.Machine.{Machine}
-use Rattle.network_model.specs.declared.item.Item.{Item}
-use Rattle.network_model.specs.World.{Link, Router}
-use Rattle.lines.specs.declared.records.LinkState.{LinkState}
-use Rattle.lines.specs.declared.records.RouterState.{RouterState}
-use Rattle.run_states.specs.declared.shown.MachineShown.{MachineShown}
-use Rattle.run_states.specs.declared.link_book.LinkBook.{LinkBook}
-use Rattle.run_states.specs.declared.link_book.LinkChange.{LinkChange}
-use Rattle.run_states.specs.declared.router_book.RouterBook.{RouterBook}
-use Rattle.run_states.specs.declared.router_book.RouterChange.{RouterChange}
-use Rattle.run_states.specs.Queues.{has_message, queue_after}
-use Rattle.lines.specs.States.{link_state, router_state}
-use Rattle.run_states.specs.Shown.{ShowsMachine}
+use Rattle.network_model.specs.{Machine.Machine, declared.item.Item.Item, World.Link, World.Router}
+use Rattle.lines.specs.{declared.records.LinkState.LinkState, declared.records.RouterState.RouterState, States.link_state, States.router_state}
+use Rattle.run_states.specs.{declared.shown.MachineShown.MachineShown, declared.link_book.LinkBook.LinkBook, declared.link_book.LinkChange.LinkChange, declared.router_book.RouterBook.RouterBook, declared.router_book.RouterChange.RouterChange, Queues.has_message, Queues.queue_after, Shown.ShowsMachine}
 
 -- what is shown after a change: what it says, or where it says nothing what was shown before
 abbrev pub shown_after : {X : Type 0} → Option X → Option X → Option X

@@ -1,19 +1,11 @@
 -- What a step may change, and the marks of it.
 use Rattle.std.specs.Prelude.{◌≡◌, ◌≢◌, ◌||◌, ℕ, Bool, true, false, is_some, List, Option, Some, None, map, slice_get, vec_len}
-use Rattle.std.specs.FinMap.{find as row_of}
-use Rattle.std.specs.Option.{option_map_or}
+use Rattle.std.specs.{FinMap.find as row_of, Option.option_map_or}
 use Rattle.ipv4_prefix.specs.Prefix.{Prefix, prefix_cmp}
-use Rattle.network_model.specs.declared.item.Item.{Item}
-use Rattle.network_model.specs.declared.step.Step.{Step}
-use Rattle.network_model.specs.declared.step.Step.TheVariants.{LinkDown, Deliver, Publish}
-use Rattle.network_model.specs.World.{World}
-use Rattle.network_model.specs.Step.{changed_rows, front_at}
+use Rattle.network_model.specs.{declared.item.Item.Item, declared.step.Step.Step, declared.step.Step.TheVariants.LinkDown, declared.step.Step.TheVariants.Deliver, declared.step.Step.TheVariants.Publish, World.World, Step.changed_rows, Step.front_at}
 use Rattle.world.specs.Touched.{touched_by}
-use Rattle.run_states.specs.declared.link_book.LinkBook.{LinkBook}
-use Rattle.run_states.specs.declared.router_book.RouterBook.{RouterBook}
-use Rattle.run_states.specs.declared.recorder.Recorder.{Recorder}
+use Rattle.run_states.specs.{declared.link_book.LinkBook.LinkBook, declared.router_book.RouterBook.RouterBook, declared.recorder.Recorder.Recorder, Recorders.IsRecorderOf, Recorders.ShowSame}
 use Rattle.run_states.specs.Books.{MachinesMarked, matches_prefix, link_shows, router_shows}
-use Rattle.run_states.specs.Recorders.{IsRecorderOf, ShowSame}
 
 -- the link that a step may change
 abbrev pub touched_link : World → Step → Option ℕ

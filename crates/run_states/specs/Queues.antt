@@ -1,8 +1,7 @@
 -- What becomes of the items that an end of a link has yet to take.
 use Rattle.std.specs.Prelude.{◌++◌, ◌==◌, ◌&&◌, ℕ, Bool, List, if◌then◌else◌, drop, filter, not, vec_len}
 use Rattle.std.specs.List.{list_any}
-use Rattle.network_model.specs.declared.item.Item.{Item}
-use Rattle.network_model.specs.Step.{is_notice}
+use Rattle.network_model.specs.{declared.item.Item.Item, Step.is_notice}
 use Rattle.run_states.specs.declared.queue.QueueChange.{QueueChange}
 
 -- what is left of a queue of which so many were taken, and then the messages lost or not

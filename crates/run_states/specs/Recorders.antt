@@ -1,16 +1,10 @@
 -- When a recorder shows a world as it is, and what becomes of it.
 use Rattle.std.specs.Prelude.{◌≡◌, ◌≤◌, ℕ, List, [], ◌∷◌, Bool, false, true, is_some, None, Some, All, length, map, slice_get, slice_set, vec_len}
-use Rattle.std.specs.FinMap.{find as row_of, is_sorted}
-use Rattle.std.specs.List.{list_any}
+use Rattle.std.specs.{FinMap.find as row_of, FinMap.is_sorted, List.list_any}
 use Rattle.ipv4_prefix.specs.Prefix.{Prefix, prefix_cmp, prefix_eq}
 use Rattle.network_model.specs.Network.{most_links, most_routers}
 use Rattle.network_model.specs.World.{Attachments, Link, Router, World}
-use Rattle.run_states.specs.declared.link_book.LinkBook.{LinkBook}
-use Rattle.run_states.specs.declared.link_book.LinkChange.{LinkChange}
-use Rattle.run_states.specs.declared.router_book.RouterBook.{RouterBook}
-use Rattle.run_states.specs.declared.router_book.RouterChange.{RouterChange}
-use Rattle.run_states.specs.declared.recorder.Changes.{Changes}
-use Rattle.run_states.specs.declared.recorder.Recorder.{Recorder}
+use Rattle.run_states.specs.{declared.link_book.LinkBook.LinkBook, declared.link_book.LinkChange.LinkChange, declared.router_book.RouterBook.RouterBook, declared.router_book.RouterChange.RouterChange, declared.recorder.Changes.Changes, declared.recorder.Recorder.Recorder}
 use Rattle.run_states.specs.Books.{HasPlaces, IsBlankRouter, LinkFollows, RouterFollows, ShowsLink, ShowsRouter, ShowsUnmarked, link_shows, router_shows}
 
 -- a recorder has a book for each link and for each router, no more than a network has, and in those of routers a place for each

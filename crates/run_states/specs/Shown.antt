@@ -1,12 +1,9 @@
 -- What a state shows.
 use Rattle.std.specs.Prelude.{◌≡◌, ◌<◌, ℕ, Some}
-use Rattle.std.specs.FinMap.{find as row_of}
+use Rattle.std.specs.{FinMap.find as row_of, Ordering.nat_cmp}
 use Rattle.std.specs.FinSet as set
-use Rattle.std.specs.Ordering.{nat_cmp}
 use Rattle.ipv4_prefix.specs.Prefix.{Prefix, prefix_cmp}
-use Rattle.network_model.specs.Machine.{Machine as ModelMachine}
-use Rattle.network_model.specs.Network.{most_ports}
-use Rattle.network_model.specs.World.{Router}
+use Rattle.network_model.specs.{Machine.Machine as ModelMachine, Network.most_ports, World.Router}
 use Rattle.dual_machine.specs.State.{MachineState as Machine, awaits_at}
 use Rattle.lines.specs.States.{IsMachineState}
 use Rattle.run_states.specs.declared.shown.MachineShown.{MachineShown}

@@ -1,19 +1,13 @@
 -- The lines that tell of a run.
 use Rattle.std.specs.Prelude.{◌≡◌, ℕ, zero, suc, ◌+◌, ◌-◌, ◌%◌, ◌==◌, ◌||◌, Bool, List, [], ◌∷◌, Option, None, if◌then◌else◌, filter, length, option_map, slice_get, take}
 use Rattle.std.specs.List.{range_with_len}
-use Rattle.network_model.specs.declared.network.LinkSpec.{LinkSpec}
-use Rattle.network_model.specs.declared.step.Step.{Step}
-use Rattle.network_model.specs.World.{Network, World, opening}
-use Rattle.network_model.specs.Run.{Runs}
+use Rattle.network_model.specs.{declared.network.LinkSpec.LinkSpec, declared.step.Step.Step, World.Network, World.World, World.opening, Run.Runs}
 use Rattle.serde_json.specs.Written.{compact_text}
-use Rattle.texts.specs.Words.{Text}
-use Rattle.texts.specs.Lines.{lines_text}
+use Rattle.texts.specs.{Words.Text, Lines.lines_text}
 use Rattle.script.specs.Directories.{Directory}
 use Rattle.journal.specs.Steps.{step_text}
-use Rattle.run_states.specs.declared.recorder.Changes.{Changes}
-use Rattle.run_states.specs.declared.recorder.Recorder.{Recorder}
+use Rattle.run_states.specs.{declared.recorder.Changes.Changes, declared.recorder.Recorder.Recorder, Values.opening_data, Values.state_data}
 use Rattle.run_states.specs.Recorders.{ArePrefixesOf, RecorderFollows, IsBlank, IsRecorderOf, ShowSame, ShowsWorld}
-use Rattle.run_states.specs.Values.{opening_data, state_data}
 
 -- ---- which states are told
 

@@ -1,31 +1,16 @@
 -- The JSON of what changed. A router, a link, a prefix and an end of a link go by their numbers.
 use Rattle.std.specs.Prelude.{ℕ, List, [], ◌∷◌, ◌++◌, Bool, true, ◌==◌, nat_lt, if◌then◌else◌, Option, Some, None, map, filter, length, position, unwrap_or, codes, vec_len}
-use Rattle.std.specs.Option.{option_map_or}
-use Rattle.std.specs.List.{flat_map, range_with_len}
+use Rattle.std.specs.{Option.option_map_or, List.flat_map, List.range_with_len, Ordering.nat_cmp}
 use Rattle.std.specs.FinSet as set
-use Rattle.std.specs.Ordering.{nat_cmp}
-use Rattle.ipv4_prefix.specs.Prefix.{Prefix, prefix_eq}
-use Rattle.ipv4_prefix.specs.Texts.{prefix_text}
+use Rattle.ipv4_prefix.specs.{Prefix.Prefix, Prefix.prefix_eq, Texts.prefix_text}
 use Rattle.metric.specs.Distance.{infinity}
-use Rattle.network_model.specs.World.{Network, World, place_at}
-use Rattle.network_model.specs.declared.route.Entry.{Entry}
-use Rattle.network_model.specs.declared.route.Entry.TheVariants.{Local, Via, Unreachable}
-use Rattle.network_model.specs.declared.item.Item.{Item}
-use Rattle.network_model.specs.declared.network.End.{End}
+use Rattle.network_model.specs.{World.Network, World.World, World.place_at, declared.route.Entry.Entry, declared.route.Entry.TheVariants.Local, declared.route.Entry.TheVariants.Via, declared.route.Entry.TheVariants.Unreachable, declared.item.Item.Item, declared.network.End.End}
 use Rattle.serde_json.specs.Data.{Data, null, boolean, number, string, array, object, Members, no_members, member, put, unsigned}
-use Rattle.serde_json.specs.View.{items_of}
-use Rattle.serde_json.specs.Written.{compact_text}
+use Rattle.serde_json.specs.{View.items_of, Written.compact_text}
 use Rattle.texts.specs.Words.{Text}
 use Rattle.script.specs.Directories.{Directory, name_text}
-use Rattle.lines.specs.Texts.{kind_text}
-use Rattle.lines.specs.declared.records.LinkState.{LinkState}
-use Rattle.lines.specs.declared.records.RouterState.{RouterState}
-use Rattle.run_states.specs.declared.shown.MachineShown.{MachineShown}
-use Rattle.run_states.specs.declared.queue.QueueChange.{QueueChange}
-use Rattle.run_states.specs.declared.link_book.LinkChange.{LinkChange}
-use Rattle.run_states.specs.declared.router_book.RouterChange.{RouterChange}
-use Rattle.run_states.specs.declared.recorder.Changes.{Changes}
-use Rattle.run_states.specs.Queues.{is_nothing}
+use Rattle.lines.specs.{Texts.kind_text, declared.records.LinkState.LinkState, declared.records.RouterState.RouterState}
+use Rattle.run_states.specs.{declared.shown.MachineShown.MachineShown, declared.queue.QueueChange.QueueChange, declared.link_book.LinkChange.LinkChange, declared.router_book.RouterChange.RouterChange, declared.recorder.Changes.Changes, Queues.is_nothing}
 
 -- a count, as a number
 abbrev pub count_value : ℕ → Data

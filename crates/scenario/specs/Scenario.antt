@@ -1,8 +1,7 @@
 -- What a document says as a scenario.
 use Rattle.std.specs.Prelude.{◌≡◌, ℕ, ◌+◌, ◌==◌, if◌then◌else◌, List, [], ◌∷◌, Option, Some, None, codes, option_map, option_and_then}
 use Rattle.toml.specs.Data.{Data, string, array, Items, no_items, item, Members, no_members, member, get_member}
-use Rattle.texts.specs.Words.{Text}
-use Rattle.texts.specs.Lists.{Lists}
+use Rattle.texts.specs.{Words.Text, Lists.Lists}
 
 -- a string's text, put before other texts
 abbrev pub text_before : Data → Option (List Text) → Option (List Text)

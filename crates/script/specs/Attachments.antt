@@ -1,12 +1,9 @@
 -- The lines of prefixes, and of the routers that are attached to them.
 use Rattle.std.specs.Prelude.{◌≡◌, ◌≢◌, ℕ, ◌^◌, ◌<◌, ◌⊎◌, List, [], ◌∷◌, Some, decimal}
-use Rattle.ipv4_prefix.specs.Prefix.{Prefix}
-use Rattle.ipv4_prefix.specs.Faults.{SpellsPrefix, IsFirstFault}
+use Rattle.ipv4_prefix.specs.{Prefix.Prefix, Faults.SpellsPrefix, Faults.IsFirstFault}
 use Rattle.metric.specs.Distance.{IsCost}
-use Rattle.script.specs.declared.fault.LineFault.{LineFault}
-use Rattle.script.specs.declared.fault.LineFault.TheVariants.{BadLine, BadCost, Prefix as OfPrefix}
+use Rattle.script.specs.{declared.fault.LineFault.LineFault, declared.fault.LineFault.TheVariants.BadLine, declared.fault.LineFault.TheVariants.BadCost, declared.fault.LineFault.TheVariants.Prefix as OfPrefix, Routers.router_number}
 use Rattle.texts.specs.Words.{Text, words_of}
-use Rattle.script.specs.Routers.{router_number}
 
 -- the words of a line: a prefix, a router's name, and the cost of its attachment, which is 1 where the line does not say it
 abbrev pub AreWords : Text → Text → Text → ℕ → Type 0

@@ -1,20 +1,12 @@
 -- The lines of the script.
 use Rattle.std.specs.Prelude.{◌≡◌, ◌≢◌, ℕ, ◌^◌, ◌<◌, ◌⊎◌, List, [], ◌∷◌, Option, Some, option_map, slice_get, position, take, Contains, codes, decimal}
 use Rattle.ipv4_prefix.specs.Faults.{SpellsAddress, IsAddressText, SpellsPrefix, IsFirstFault}
-use Rattle.ipv4_prefix.specs.Prefix.{Prefix}
-use Rattle.ipv4_prefix.specs.declared.fault.PrefixFault.{PrefixFault}
-use Rattle.ipv4_prefix.specs.declared.fault.PrefixFault.TheVariants.{BadAddress}
+use Rattle.ipv4_prefix.specs.{Prefix.Prefix, declared.fault.PrefixFault.PrefixFault, declared.fault.PrefixFault.TheVariants.BadAddress}
 use Rattle.metric.specs.Distance.{IsCost}
-use Rattle.network_model.specs.declared.network.LinkSpec.{LinkSpec}
-use Rattle.network_model.specs.declared.step.Step.{Step}
+use Rattle.network_model.specs.{declared.network.LinkSpec.LinkSpec, declared.step.Step.Step, Network.program_limits, Network.degree, Network.joins, World.places_from}
 use Rattle.network_model.specs.declared.step.Step.TheVariants.{LinkUp, LinkDown, SetCost, Deliver, Publish, Release, Attach, Detach}
-use Rattle.network_model.specs.Network.{program_limits, degree, joins}
-use Rattle.network_model.specs.World.{places_from}
-use Rattle.script.specs.declared.command.Command.{Command}
-use Rattle.script.specs.declared.fault.LineFault.{LineFault}
-use Rattle.script.specs.declared.fault.LineFault.TheVariants.{BadCommand, BadCost, Prefix as OfPrefix}
+use Rattle.script.specs.{declared.command.Command.Command, declared.fault.LineFault.LineFault, declared.fault.LineFault.TheVariants.BadCommand, declared.fault.LineFault.TheVariants.BadCost, declared.fault.LineFault.TheVariants.Prefix as OfPrefix, Routers.router_number}
 use Rattle.texts.specs.Words.{Text, words_of}
-use Rattle.script.specs.Routers.{router_number}
 
 -- ---- links and ports
 

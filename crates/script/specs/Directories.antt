@@ -1,9 +1,7 @@
 -- Who stands at the other end of each port, and what routers are called.
 use Rattle.std.specs.Prelude.{ℕ, ◌==◌, if◌then◌else◌, List, map, Option, Some, option_map, filter_map, length, min, slice_get, option_and_then, unwrap_or, codes}
 use Rattle.std.specs.List.{range_with_len}
-use Rattle.network_model.specs.declared.network.LinkSpec.{LinkSpec}
-use Rattle.network_model.specs.declared.network.Place.{Place}
-use Rattle.network_model.specs.World.{other, places_from, router_end}
+use Rattle.network_model.specs.{declared.network.LinkSpec.LinkSpec, declared.network.Place.Place, World.other, World.places_from, World.router_end}
 use Rattle.texts.specs.Words.{Text}
 use Rattle.script.specs.Routers.{no_router}
 

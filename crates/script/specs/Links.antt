@@ -2,10 +2,8 @@
 use Rattle.std.specs.Prelude.{◌≡◌, ◌≢◌, ℕ, ◌^◌, ◌<◌, List, [], ◌∷◌, unwrap_or, decimal}
 use Rattle.metric.specs.Distance.{IsCost}
 use Rattle.network_model.specs.declared.network.LinkSpec.{LinkSpec}
-use Rattle.script.specs.declared.fault.LineFault.{LineFault}
-use Rattle.script.specs.declared.fault.LineFault.TheVariants.{BadLine, BadCost}
+use Rattle.script.specs.{declared.fault.LineFault.LineFault, declared.fault.LineFault.TheVariants.BadLine, declared.fault.LineFault.TheVariants.BadCost, Routers.router_number, Routers.no_router}
 use Rattle.texts.specs.Words.{Text, words_of}
-use Rattle.script.specs.Routers.{router_number, no_router}
 
 -- a line of four words: two names, neither of them empty, and the decimal texts of two numbers of 32 bits
 pub record LinkWords (line : Text) : Type 0 where

@@ -3,19 +3,9 @@ use Rattle.std.specs.Prelude.{◌≡◌, ℕ, ◌<◌, ◌≤◌, List, [], Opti
 use Rattle.std.specs.List.{AllZip}
 use Rattle.ipv4_prefix.specs.Prefix.{Prefix}
 use Rattle.network_model.specs.declared.network.LinkSpec.{LinkSpec}
-use Rattle.script.specs.declared.command.Command.{Command}
-use Rattle.script.specs.declared.fault.LineFault.{LineFault}
-use Rattle.script.specs.declared.fault.LineFault.TheVariants.{BadName, TooLarge}
-use Rattle.script.specs.declared.place.Key.{Key}
+use Rattle.script.specs.{declared.command.Command.Command, declared.fault.LineFault.LineFault, declared.fault.LineFault.TheVariants.BadName, declared.fault.LineFault.TheVariants.TooLarge, declared.place.Key.Key, declared.place.Place.Place, declared.place.Located.Located, Routers.AreNames, Routers.IsBadName, Links.IsLink, Links.IsLinkFault, Attachments.IsAttachment, Attachments.IsAttachmentFault, Commands.IsCommand, Commands.IsCommandFault}
 use Rattle.script.specs.declared.place.Key.TheVariants.{Routers, Links, Prefixes, Script}
-use Rattle.script.specs.declared.place.Place.{Place}
-use Rattle.script.specs.declared.place.Located.{Located}
-use Rattle.texts.specs.Words.{Text}
-use Rattle.texts.specs.Lists.{Lists}
-use Rattle.script.specs.Routers.{AreNames, IsBadName}
-use Rattle.script.specs.Links.{IsLink, IsLinkFault}
-use Rattle.script.specs.Attachments.{IsAttachment, IsAttachmentFault}
-use Rattle.script.specs.Commands.{IsCommand, IsCommandFault}
+use Rattle.texts.specs.{Words.Text, Lists.Lists}
 
 -- the greatest number of commands
 abbrev pub most_commands : ℕ

@@ -1,6 +1,5 @@
 -- What a script that was read stands for.
-use Rattle.script.specs.Reading.{Parts}
-use Rattle.script.specs.declared.reading.Script.{Script}
+use Rattle.script.specs.{Reading.Parts, declared.reading.Script.Script}
 
 -- the parts of a script that was read
 abbrev pub script_parts : Script → Parts

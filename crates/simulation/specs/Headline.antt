@@ -1,8 +1,7 @@
 -- What holds of every simulation: no packet circles along the images in force, at quiet rows lead along least-cost walks, and left alone it comes to rest there.
 use Rattle.std.specs.Prelude.{◌≡◌, ℕ, ◌<◌, true, false, List, Option, Some, slice_get, option_and_then}
 use Rattle.ipv4_prefix.specs.Prefix.{Prefix}
-use Rattle.network_model.specs.Publication.{image_answer}
-use Rattle.network_model.specs.Forwarding.{entry_leads, is_quiet}
+use Rattle.network_model.specs.{Publication.image_answer, Forwarding.entry_leads, Forwarding.is_quiet}
 use Rattle.loop_freedom.specs.Network.{meets_twice}
 use Rattle.all_packets.specs.Packets.{IsWayBy}
 use Rattle.quiet_routes.specs.Routes.{HasBestRow}

@@ -1,8 +1,6 @@
 -- Steps that routers do in turn.
 use Rattle.std.specs.Prelude.{◌≡◌, ℕ, List, length}
-use Rattle.network_model.specs.declared.step.Step.{Step}
-use Rattle.network_model.specs.declared.step.Refusal.{Refusal}
-use Rattle.network_model.specs.Run.{Runs}
+use Rattle.network_model.specs.{declared.step.Step.Step, declared.step.Refusal.Refusal, Run.Runs}
 use Rattle.course.specs.Turns.{AreNextSteps, IsCourseStopped}
 use Rattle.simulation.specs.Simulation.{Simulation, after_steps, course_part}
 

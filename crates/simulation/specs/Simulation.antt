@@ -1,16 +1,9 @@
 -- A network that runs, with an image in force at each router, and how many steps made it what it is.
 use Rattle.std.specs.Prelude.{◌≡◌, ℕ, ◌+◌, List, [], ◌∷◌, length, Option, Some, option_map, slice_get}
 use Rattle.ipv4_prefix.specs.LongestMatch.{longest_match}
-use Rattle.network_model.specs.declared.route.Answer.{Answer}
-use Rattle.network_model.specs.declared.step.Step.{Step}
-use Rattle.network_model.specs.declared.step.Refusal.{Refusal}
+use Rattle.network_model.specs.{declared.route.Answer.Answer, declared.step.Step.Step, declared.step.Refusal.Refusal, Step.next, Publication.Image, Publication.image_answer, Publication.answer_of}
 use Rattle.network_model.specs.World.{Network, Router, World, opening}
-use Rattle.network_model.specs.Step.{next}
-use Rattle.network_model.specs.Publication.{Image, image_answer, answer_of}
-use Rattle.course.specs.declared.sent.Sent.{Sent}
-use Rattle.course.specs.Images.{images_in_force}
-use Rattle.course.specs.Counts.{leaving, none_sent, with_sent}
-use Rattle.course.specs.Course.{Course, course_of, course_refusal}
+use Rattle.course.specs.{declared.sent.Sent.Sent, Images.images_in_force, Counts.leaving, Counts.none_sent, Counts.with_sent, Course.Course, Course.course_of, Course.course_refusal}
 
 -- the network that was opened, the world that the steps made, the image in force at each router, how many steps were done, and how many messages of each kind they put on links
 pub record Simulation : Type 0 where

@@ -1,14 +1,10 @@
 -- A packet that is followed along the images in force, as far as there is room for the routers that it passes.
 use Rattle.std.specs.Prelude.{◌≡◌, ◌≢◌, ℕ, ◌≤◌, ◌<◌, false, List, ◌∷◌, take, drop, length, Option, Some}
-use Rattle.network_model.specs.declared.trace.Ending.{Ending}
-use Rattle.network_model.specs.declared.trace.Ending.TheVariants.{Crossed}
+use Rattle.network_model.specs.{declared.trace.Ending.Ending, declared.trace.Ending.TheVariants.Crossed}
 use Rattle.network_model.specs.Forwarding.{Onward as PacketOnward, Trace, Ends, Goes}
 use Rattle.loop_freedom.specs.Network.{meets_twice}
-use Rattle.all_packets.specs.Packets.{IsWay}
-use Rattle.all_packets.specs.Through.{through_from}
-use Rattle.simulation.specs.Simulation.{Simulation}
-use Rattle.simulation.specs.Headline.{IsWayByImages}
-use Rattle.simulation.specs.declared.tracing.Onward.{Onward}
+use Rattle.all_packets.specs.{Packets.IsWay, Through.through_from}
+use Rattle.simulation.specs.{Simulation.Simulation, Headline.IsWayByImages, declared.tracing.Onward.Onward}
 
 -- what a packet does at a router, as code has it
 abbrev pub onward_of : Onward → PacketOnward

@@ -3,14 +3,9 @@ use Rattle.std.specs.Prelude.{ℕ, Bool, ◌&&◌, nat_lt, nat_le, if◌then◌e
 use Rattle.std.specs.FinMap.{find as row_of}
 use Rattle.ipv4_prefix.specs.Prefix.{Prefix, prefix_cmp}
 use Rattle.network_model.specs.World.{Router}
-use Rattle.c_interface.specs.Faults.{first_of}
-use Rattle.c_interface.specs.declared.fault.CallFault.{CallFault}
-use Rattle.c_interface.specs.declared.fault.CallFault.TheVariants.{TooManyPrefixes}
-use Rattle.single_router.specs.declared.input.Input.{Input}
+use Rattle.c_interface.specs.{Faults.first_of, declared.fault.CallFault.CallFault, declared.fault.CallFault.TheVariants.TooManyPrefixes}
+use Rattle.single_router.specs.{declared.input.Input.Input, declared.opening.Attachment.Attachment, Inputs.told_fault, Openings.make_fault, Openings.made_router}
 use Rattle.single_router.specs.declared.input.Input.TheVariants as input
-use Rattle.single_router.specs.declared.opening.Attachment.{Attachment}
-use Rattle.single_router.specs.Inputs.{told_fault}
-use Rattle.single_router.specs.Openings.{make_fault, made_router}
 
 -- a router, and how many prefixes it may know
 pub record BoundedRouter : Type 0 where

@@ -1,7 +1,6 @@
 -- Messages as C has them.
 use Rattle.std.specs.Prelude.{ℕ}
-use Rattle.metric.specs.declared.kind.Kind.{Kind}
-use Rattle.metric.specs.declared.kind.Kind.TheVariants.{Update, Query, Reply}
+use Rattle.metric.specs.{declared.kind.Kind.Kind, declared.kind.Kind.TheVariants.Update, declared.kind.Kind.TheVariants.Query, declared.kind.Kind.TheVariants.Reply}
 use Rattle.network_model.specs.declared.item.Held.{Held}
 use Rattle.single_router.specs.declared.frame.Frame.{Frame}
 

@@ -1,23 +1,14 @@
 -- What a router is told: how it is read, when it is refused, and what the router makes of it.
 use Rattle.std.specs.Prelude.{◌≡◌, ℕ, Bool, ◌==◌, ◌&&◌, nat_lt, nat_le, if◌then◌else◌, Option, Some, None, option_and_then, slice_get, is_some, Result, Ok, Err}
 use Rattle.std.specs.FinMap.{find as row_of}
-use Rattle.metric.specs.Distance.{greatest_cost}
-use Rattle.metric.specs.declared.kind.Kind.{Kind}
-use Rattle.metric.specs.declared.kind.Kind.TheVariants.{Update, Query, Reply}
+use Rattle.metric.specs.{Distance.greatest_cost, declared.kind.Kind.Kind, declared.kind.Kind.TheVariants.Update, declared.kind.Kind.TheVariants.Query, declared.kind.Kind.TheVariants.Reply}
 use Rattle.ipv4_prefix.specs.Prefix.{Prefix, prefix_cmp}
-use Rattle.network_model.specs.declared.item.Item.{Item}
-use Rattle.network_model.specs.declared.network.Port.{Port}
-use Rattle.network_model.specs.World.{Router, machine_of}
-use Rattle.network_model.specs.Machine.{Computation, is_port}
-use Rattle.network_model.specs.Step.{router_accepting, router_at_home, session_at}
+use Rattle.network_model.specs.{declared.item.Item.Item, declared.network.Port.Port, World.Router, World.machine_of, Machine.Computation, Machine.is_port, Step.router_accepting, Step.router_at_home, Step.session_at}
 use Rattle.dual_machine.specs.State.{awaits_at}
 use Rattle.router_core.specs.Room.{MeetingNeedsMemory, NoticeNeedsMemory}
-use Rattle.c_interface.specs.Faults.{first_of}
-use Rattle.c_interface.specs.Rows.{prefix_fault}
-use Rattle.c_interface.specs.declared.fault.CallFault.{CallFault}
+use Rattle.c_interface.specs.{Faults.first_of, Rows.prefix_fault, declared.fault.CallFault.CallFault}
 use Rattle.c_interface.specs.declared.fault.CallFault.TheVariants.{BadCost, BadKind, UnknownPort, AlreadyUp, IsDown, NotAttached, OtherSession, NoMemory, Unasked, AskedTwice}
-use Rattle.single_router.specs.declared.frame.Frame.{Frame}
-use Rattle.single_router.specs.declared.input.Input.{Input}
+use Rattle.single_router.specs.{declared.frame.Frame.Frame, declared.input.Input.Input}
 use Rattle.single_router.specs.declared.input.Input.TheVariants as input
 
 -- ---- as it is read

@@ -1,15 +1,9 @@
 -- What a router begins with.
 use Rattle.std.specs.Prelude.{ℕ, nat_lt, if◌then◌else◌, false, List, [], ◌∷◌, Option, Some, None, length, map}
 use Rattle.ipv4_prefix.specs.Prefix.{Prefix}
-use Rattle.network_model.specs.declared.network.Port.{Port}
-use Rattle.network_model.specs.Network.{most_ports}
-use Rattle.network_model.specs.World.{Router, opening_router, rows_of}
-use Rattle.c_interface.specs.Faults.{first_of}
-use Rattle.c_interface.specs.Rows.{prefix_fault}
-use Rattle.c_interface.specs.declared.fault.CallFault.{CallFault}
-use Rattle.c_interface.specs.declared.fault.CallFault.TheVariants.{TooManyPorts}
-use Rattle.single_router.specs.Inputs.{cost_fault}
-use Rattle.single_router.specs.declared.opening.Attachment.{Attachment}
+use Rattle.network_model.specs.{declared.network.Port.Port, Network.most_ports, World.Router, World.opening_router, World.rows_of}
+use Rattle.c_interface.specs.{Faults.first_of, Rows.prefix_fault, declared.fault.CallFault.CallFault, declared.fault.CallFault.TheVariants.TooManyPorts}
+use Rattle.single_router.specs.{Inputs.cost_fault, declared.opening.Attachment.Attachment}
 
 -- the first of the faults of all
 abbrev pub first_fault_in : {X : Type 0} → (X → Option CallFault) → List X → Option CallFault

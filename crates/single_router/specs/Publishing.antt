@@ -2,14 +2,10 @@
 use Rattle.std.specs.Prelude.{◌≡◌, ℕ, ◌+◌, ◌^◌, Bool, ◌==◌, nat_lt, if◌then◌else◌, List, map, length, take, drop, Option, Some, None, is_some}
 use Rattle.std.specs.FinMap.{find as row_of}
 use Rattle.ipv4_prefix.specs.Prefix.{Prefix, prefix_cmp}
-use Rattle.network_model.specs.Step.{changed_rows, is_due, router_publishing}
-use Rattle.network_model.specs.World.{Router}
-use Rattle.network_model.specs.declared.route.Entry.{Entry}
+use Rattle.network_model.specs.{Step.changed_rows, Step.is_due, Step.router_publishing, World.Router, declared.route.Entry.Entry}
 use Rattle.router_core.specs.Alone.{router_publishing_some, may_forget}
-use Rattle.c_interface.specs.Rows.{entry_row}
-use Rattle.c_interface.specs.declared.fault.CallFault.{CallFault}
+use Rattle.c_interface.specs.{Rows.entry_row, declared.fault.CallFault.CallFault, declared.row.Row.Row}
 use Rattle.c_interface.specs.declared.fault.CallFault.TheVariants.{BadCount, NothingDue, GenerationsSpent, UnknownPrefix, StillUsed}
-use Rattle.c_interface.specs.declared.row.Row.{Row}
 
 -- a list of rows was written over the first of those that were there
 pub record IsWrittenOver (list : List (Prefix × Entry)) (old new : List Row) : Type 0 where

@@ -1,17 +1,11 @@
 -- What a program is shown of its router.
 use Rattle.std.specs.Prelude.{ℕ, Bool, List, map, length, if◌then◌else◌, Option, option_map, unwrap_or, is_some, option_and_then}
-use Rattle.std.specs.List.{range_with_len}
-use Rattle.std.specs.FinMap.{find as row_of}
+use Rattle.std.specs.{List.range_with_len, FinMap.find as row_of}
 use Rattle.ipv4_prefix.specs.Prefix.{Prefix, prefix_cmp}
-use Rattle.network_model.specs.Machine.{Machine, Computation}
-use Rattle.network_model.specs.Step.{changed_rows, is_due}
-use Rattle.network_model.specs.World.{Router, Table}
-use Rattle.network_model.specs.declared.route.Entry.{Entry}
+use Rattle.network_model.specs.{Machine.Machine, Machine.Computation, Step.changed_rows, Step.is_due, World.Router, World.Table, declared.route.Entry.Entry}
 use Rattle.dual_machine.specs.State.{awaits_at}
-use Rattle.c_interface.specs.Rows.{answer_row}
-use Rattle.c_interface.specs.declared.row.Row.{Row}
-use Rattle.single_router.specs.declared.state.Counts.{Counts}
-use Rattle.single_router.specs.declared.state.State.{State}
+use Rattle.c_interface.specs.{Rows.answer_row, declared.row.Row.Row}
+use Rattle.single_router.specs.{declared.state.Counts.Counts, declared.state.State.State}
 
 -- a fact as C has it
 abbrev pub flag : Bool → ℕ

@@ -1,16 +1,9 @@
 -- What looks at a world rest on: which routers are cut off from a prefix, as marks say, and which routers and prefixes an event does not concern.
 use Rattle.std.specs.Prelude.{ℕ, ◌≡◌, ◌≢◌, ◌+◌, ◌*◌, ◌⊎◌, ◌↔◌, Bool, true, false, List, length, get_or, Option, Some, None, slice_get}
 use Rattle.ipv4_prefix.specs.Prefix.{Prefix, prefix_eq}
-use Rattle.network_model.specs.declared.item.Item.{Item}
-use Rattle.network_model.specs.declared.item.Message.{Message}
-use Rattle.network_model.specs.declared.step.Step.{Step}
-use Rattle.network_model.specs.declared.step.Step.TheVariants.{Deliver}
-use Rattle.network_model.specs.Step.{front_at}
-use Rattle.network_model.specs.World.{World}
-use Rattle.reachability.specs.Marks.{Marks, is_marked, size}
-use Rattle.reachability.specs.Ways.{IsCutOff}
-use Rattle.timed_reports.specs.declared.spells.Spell.{Spell}
-use Rattle.timed_reports.specs.declared.spells.Watched.{Watched}
+use Rattle.network_model.specs.{declared.item.Item.Item, declared.item.Message.Message, declared.step.Step.Step, declared.step.Step.TheVariants.Deliver, Step.front_at, World.World}
+use Rattle.reachability.specs.{Marks.Marks, Marks.is_marked, Marks.size, Ways.IsCutOff}
+use Rattle.timed_reports.specs.{declared.spells.Spell.Spell, declared.spells.Watched.Watched}
 use Rattle.timed_reports.specs.Records.{AreInOrder, AreLooked, MovesNoWay, moves_ways}
 
 -- the routers that are marked are those that are cut off from the prefix

@@ -1,9 +1,7 @@
 -- A network in simulated time, with a record of what went on in it or without.
 use Rattle.std.specs.Prelude.{ℕ, Bool, true, false, [], Option, Some, None, drop}
 use Rattle.timed_simulation.specs.Timed.{Timed}
-use Rattle.timed_reports.specs.Reports.{Reported, IsReportOf, IsReportRun}
-use Rattle.timed_reports.specs.declared.recording.Recording.{Recording}
-use Rattle.timed_reports.specs.declared.recording.Recording.TheVariants.{On, Off}
+use Rattle.timed_reports.specs.{Reports.Reported, Reports.IsReportOf, Reports.IsReportRun, declared.recording.Recording.Recording, declared.recording.Recording.TheVariants.On, declared.recording.Recording.TheVariants.Off}
 
 -- the network in simulated time
 abbrev pub timed_in : Recording → Timed

@@ -2,17 +2,11 @@
 use Rattle.std.specs.Prelude.{ℕ, ◌≡◌, ◌≢◌, ◌<◌, ◌≤◌, ◌⊎◌, ◌↔◌, IsTrue, Bool, true, false, List, [], ◌∷◌, ◌++◌, map, flat_map, length, take, Option, Some, None, option_map, option_to_list, slice_get, slice_set, unwrap_or}
 use Rattle.std.specs.List.{list_any, range_with_len}
 use Rattle.ipv4_prefix.specs.Prefix.{Prefix, prefix_eq}
-use Rattle.network_model.specs.declared.item.Item.{Item}
-use Rattle.network_model.specs.declared.item.Message.{Message}
-use Rattle.network_model.specs.declared.step.Step.{Step}
+use Rattle.network_model.specs.{declared.item.Item.Item, declared.item.Message.Message, declared.step.Step.Step, Step.front_at, Step.next, World.World}
 use Rattle.network_model.specs.declared.step.Step.TheVariants.{LinkUp, LinkDown, SetCost, Deliver, Publish, Release, Attach, Detach}
-use Rattle.network_model.specs.Step.{front_at, next}
-use Rattle.network_model.specs.World.{World}
 use Rattle.no_packet_loops.specs.Packets.{control_entry, published_entry}
 use Rattle.timed_simulation.specs.declared.events.Event.{Event}
-use Rattle.timed_reports.specs.declared.spells.Spell.{Spell}
-use Rattle.timed_reports.specs.declared.spells.Watched.{Watched}
-use Rattle.timed_reports.specs.Spells.{IsSpell}
+use Rattle.timed_reports.specs.{declared.spells.Spell.Spell, declared.spells.Watched.Watched, Spells.IsSpell}
 
 -- what may hold of a world for a prefix and a router
 abbrev pub Kind : Type 1

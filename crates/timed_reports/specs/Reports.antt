@@ -1,17 +1,11 @@
 -- The report of a network in simulated time: what is recorded of its computations and of the routers that are cut off.
 use Rattle.std.specs.Prelude.{ℕ, ◌≡◌, List, [], ◌∷◌, ◌++◌, length}
 use mathlib.Core.List.{IsPrefix}
-use Rattle.network_model.specs.Network.{IsNetwork}
-use Rattle.network_model.specs.World.{opening, prefixes_of}
-use Rattle.network_model.specs.Run.{Runs}
+use Rattle.network_model.specs.{Network.IsNetwork, World.opening, World.prefixes_of, Run.Runs}
 use Rattle.reachability.specs.Ways.{IsCutOff}
-use Rattle.timed_simulation.specs.declared.events.Event.{Event}
-use Rattle.timed_simulation.specs.Timed.{Timed, world_of}
+use Rattle.timed_simulation.specs.{declared.events.Event.Event, Timed.Timed, Timed.world_of}
 use Rattle.timed_simulation.specs.Runs.{Ascends, IsTimedRun, LeadsTo, steps_of}
-use Rattle.timed_reports.specs.declared.spells.Spell.{Spell}
-use Rattle.timed_reports.specs.declared.spells.Watched.{Watched}
-use Rattle.timed_reports.specs.Going.{IsComputing}
-use Rattle.timed_reports.specs.Records.{AreInOrder, AreWatched, IsRecorded}
+use Rattle.timed_reports.specs.{declared.spells.Spell.Spell, declared.spells.Watched.Watched, Going.IsComputing, Records.AreInOrder, Records.AreWatched, Records.IsRecorded}
 
 -- a network in simulated time, and what is recorded of its machines' computations and of the routers that are cut off: what has ended, and what goes on
 pub record Reported : Type 0 where

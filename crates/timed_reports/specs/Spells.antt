@@ -1,7 +1,6 @@
 -- Spells: from when until when something holds of a network's world, by the events that are done.
 use Rattle.std.specs.Prelude.{ℕ, ◌≡◌, ◌⊎◌, List, [], ◌∷◌, Option, Some, None}
-use Rattle.network_model.specs.World.{World}
-use Rattle.network_model.specs.Step.{next}
+use Rattle.network_model.specs.{World.World, Step.next}
 use Rattle.timed_simulation.specs.declared.events.Event.{Event}
 
 -- it holds in this world, and after each of these events up to the one of this moment, after which it does not; with no moment it still holds after the last

@@ -1,20 +1,11 @@
 -- What is left to do and when it is due, whichever of it is first; and that nothing of it is late.
 use Rattle.std.specs.Prelude.{ℕ, ◌≡◌, ◌≤◌, ◌<◌, ◌⊎◌, true, MatchBool, List, [], ◌∷◌, map, length, Some, slice_get}
-use Rattle.network_model.specs.declared.step.Step.{Step}
-use Rattle.network_model.specs.declared.step.Step.TheVariants.{Deliver, Publish, Release}
-use Rattle.network_model.specs.declared.item.Item.{Item}
-use Rattle.network_model.specs.declared.item.Held.{Held}
-use Rattle.network_model.specs.declared.item.Notice.{Notice}
-use Rattle.network_model.specs.declared.network.Place.{Place}
+use Rattle.network_model.specs.{declared.step.Step.Step, declared.step.Step.TheVariants.Deliver, declared.step.Step.TheVariants.Publish, declared.step.Step.TheVariants.Release, declared.item.Item.Item, declared.item.Held.Held, declared.item.Notice.Notice, declared.network.Place.Place}
 use Rattle.network_model.specs.World.{Link, Router, World, place_at}
 use Rattle.network_model.specs.Step.{Lawful, front_at, is_due, is_notice, notice_at, release_at}
 use Rattle.coming_to_rest.specs.Worlds.{is_own}
-use Rattle.timed_simulation.specs.declared.links.Arrival.{Arrival}
-use Rattle.timed_simulation.specs.declared.events.Change.{Change}
-use Rattle.timed_simulation.specs.declared.events.Event.{Event}
-use Rattle.timed_simulation.specs.declared.events.RouterTime.{RouterTime}
+use Rattle.timed_simulation.specs.{declared.links.Arrival.Arrival, declared.events.Change.Change, declared.events.Event.Event, declared.events.RouterTime.RouterTime, Timed.Timed, Timed.world_of}
 use Rattle.timed_simulation.specs.Links.{Direction, TimedLink, later, towards}
-use Rattle.timed_simulation.specs.Timed.{Timed, world_of}
 
 -- ---- what is due
 

@@ -1,14 +1,9 @@
 -- The event list: what is left to do, each at its moment, and which of it is done first.
 use Rattle.std.specs.Prelude.{ℕ, zero, suc, true, false, nat_lt, max, if◌then◌else◌, Option, Some, None, option_map, option_and_then, slice_get, length}
 use Rattle.std.specs.Option.{option_map_or}
-use Rattle.network_model.specs.declared.step.Step.{Step}
-use Rattle.network_model.specs.declared.step.Step.TheVariants.{Deliver, Publish, Release}
-use Rattle.network_model.specs.declared.network.Place.{Place}
-use Rattle.network_model.specs.World.{degree_of, place_at}
+use Rattle.network_model.specs.{declared.step.Step.Step, declared.step.Step.TheVariants.Deliver, declared.step.Step.TheVariants.Publish, declared.step.Step.TheVariants.Release, declared.network.Place.Place, World.degree_of, World.place_at}
 use Rattle.network_model.specs.Step.{front_at, is_due, notice_at, release_at}
-use Rattle.timed_simulation.specs.declared.events.Event.{Event}
-use Rattle.timed_simulation.specs.Links.{later, towards}
-use Rattle.timed_simulation.specs.Timed.{Timed, world_of}
+use Rattle.timed_simulation.specs.{declared.events.Event.Event, Links.later, Links.towards, Timed.Timed, Timed.world_of}
 
 -- what a router has to do at a moment. A moment that is past counts as now
 abbrev pub own_event : Timed → ℕ → Step → Event

@@ -1,19 +1,10 @@
 -- When the items on links arrive.
 use Rattle.std.specs.Prelude.{ℕ, ◌+◌, ◌-◌, ◌^◌, ◌<◌, ◌≡◌, ⊤, true, false, Bool, min, if◌then◌else◌, List, [], ◌∷◌, ◌++◌, filter, drop, Option, Some, None, slice_get, option_map, option_and_then}
 use Rattle.std.specs.VecDeque.{deque_len, deque_capacity}
-use Rattle.network_model.specs.declared.step.Step.{Step}
+use Rattle.network_model.specs.{declared.step.Step.Step, declared.network.End.End, declared.network.End.TheVariants.A, declared.network.End.TheVariants.B, Machine.changed_at, World.World, World.other, World.place_at, Step.release_at}
 use Rattle.network_model.specs.declared.step.Step.TheVariants.{LinkUp, LinkDown, SetCost, Deliver, Release}
-use Rattle.network_model.specs.declared.network.End.{End}
-use Rattle.network_model.specs.declared.network.End.TheVariants.{A, B}
-use Rattle.network_model.specs.Machine.{changed_at}
-use Rattle.network_model.specs.World.{World, other, place_at}
-use Rattle.network_model.specs.Step.{release_at}
 use Rattle.world.specs.Steps.{is_stale}
-use Rattle.timed_simulation.specs.declared.links.Arrival.{Arrival}
-use Rattle.timed_simulation.specs.declared.links.Line.{Line}
-use Rattle.timed_simulation.specs.declared.links.LinkDelays.{LinkDelays}
-use Rattle.timed_simulation.specs.declared.links.LinkTimes.{LinkTimes}
-use Rattle.timed_simulation.specs.declared.links.Motion.{Motion}
+use Rattle.timed_simulation.specs.{declared.links.Arrival.Arrival, declared.links.Line.Line, declared.links.LinkDelays.LinkDelays, declared.links.LinkTimes.LinkTimes, declared.links.Motion.Motion}
 use Rattle.timed_simulation.specs.declared.links.Motion.TheVariants.{Told, Cut, Put, Taken}
 
 -- the last moment that the clock can show, at which nothing is done any more

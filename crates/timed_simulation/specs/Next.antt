@@ -3,8 +3,7 @@ use Rattle.std.specs.Prelude.{◌≡◌, ℕ, ◌<◌, nat_lt, if◌then◌else�
 use Rattle.std.specs.Option.{option_map_or}
 use Rattle.network_model.specs.World.{Network}
 use Rattle.world.specs.declared.touched.Touched.{Touched}
-use Rattle.timed_simulation.specs.Timed.{Timed, world_of}
-use Rattle.timed_simulation.specs.Events.{router_event}
+use Rattle.timed_simulation.specs.{Timed.Timed, Timed.world_of, Events.router_event}
 
 -- when router i has something to do next, if it has
 abbrev pub next_moment : Timed → ℕ → Option ℕ

@@ -1,22 +1,9 @@
 -- Lists of events, done in the order of their moments.
 use Rattle.std.specs.Prelude.{◌≡◌, ℕ, ◌≤◌, ◌<◌, ◌⊎◌, true, false, List, [], ◌∷◌, map, length, Some, slice_get, Result, Err, IsOkUnless, MatchBool, nat_lt}
-use Rattle.network_model.specs.declared.step.Step.{Step}
-use Rattle.network_model.specs.declared.step.Refusal.{Refusal}
-use Rattle.network_model.specs.World.{opening}
-use Rattle.network_model.specs.Step.{Lawful}
-use Rattle.network_model.specs.Network.{IsNetwork}
-use Rattle.network_model.specs.Run.{Runs}
-use Rattle.network_model.specs.Turns.{is_settled}
+use Rattle.network_model.specs.{declared.step.Step.Step, declared.step.Refusal.Refusal, World.opening, Step.Lawful, Network.IsNetwork, Run.Runs, Turns.is_settled}
 use Rattle.simulation.specs.Simulation.{simulation_refusal}
-use Rattle.timed_simulation.specs.declared.events.Event.{Event}
-use Rattle.timed_simulation.specs.declared.events.RouterTime.{RouterTime}
-use Rattle.timed_simulation.specs.declared.fault.TimeFault.{TimeFault}
-use Rattle.timed_simulation.specs.declared.fault.TimeFault.TheVariants.{PastMoment, TimeSpent, Refused}
-use Rattle.timed_simulation.specs.Links.{last_moment}
+use Rattle.timed_simulation.specs.{declared.events.Event.Event, declared.events.RouterTime.RouterTime, declared.fault.TimeFault.TimeFault, declared.fault.TimeFault.TheVariants.PastMoment, declared.fault.TimeFault.TheVariants.TimeSpent, declared.fault.TimeFault.TheVariants.Refused, Links.last_moment, Events.next_event, Due.IsDue, Due.IsFirst, Due.IsOnTime, Since.HoldsSince}
 use Rattle.timed_simulation.specs.Timed.{Timed, after_event, after_events, is_due_at, world_of}
-use Rattle.timed_simulation.specs.Events.{next_event}
-use Rattle.timed_simulation.specs.Due.{IsDue, IsFirst, IsOnTime}
-use Rattle.timed_simulation.specs.Since.{HoldsSince}
 
 -- the steps of these events
 abbrev pub steps_of : List Event → List Step

@@ -1,7 +1,6 @@
 -- Since when something holds of the network's world, by the events that were done.
 use Rattle.std.specs.Prelude.{ℕ, ◌≡◌, ◌⊎◌, Bool, true, false, List, [], ◌∷◌}
-use Rattle.network_model.specs.World.{World}
-use Rattle.network_model.specs.Step.{next}
+use Rattle.network_model.specs.{World.World, Step.next}
 use Rattle.timed_simulation.specs.declared.events.Event.{Event}
 
 -- the test holds in this world, and after each of these events

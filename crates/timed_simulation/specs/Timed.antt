@@ -1,16 +1,9 @@
 -- A network in simulated time: a simulation, and when what is left to do is due.
 use Rattle.std.specs.Prelude.{ℕ, Bool, false, if◌then◌else◌, List, [], ◌∷◌, map, drop, length, Option, Some, None, slice_get, nat_lt, unwrap_or, position, insert}
 use Rattle.std.specs.Option.{option_map_or}
-use Rattle.network_model.specs.declared.step.Step.{Step}
-use Rattle.network_model.specs.declared.step.Step.TheVariants.{Deliver}
-use Rattle.network_model.specs.Machine.{changed_at}
-use Rattle.network_model.specs.World.{Network, World}
-use Rattle.network_model.specs.Step.{is_due}
+use Rattle.network_model.specs.{declared.step.Step.Step, declared.step.Step.TheVariants.Deliver, Machine.changed_at, World.Network, World.World, Step.is_due}
 use Rattle.simulation.specs.Simulation.{Simulation, after_step, opening_simulation}
-use Rattle.timed_simulation.specs.declared.links.LinkDelays.{LinkDelays}
-use Rattle.timed_simulation.specs.declared.events.Change.{Change}
-use Rattle.timed_simulation.specs.declared.events.Event.{Event}
-use Rattle.timed_simulation.specs.declared.events.RouterTime.{RouterTime}
+use Rattle.timed_simulation.specs.{declared.links.LinkDelays.LinkDelays, declared.events.Change.Change, declared.events.Event.Event, declared.events.RouterTime.RouterTime}
 use Rattle.timed_simulation.specs.Links.{TimedLink, links_after, motion_of, opening_directions}
 
 -- the simulation, the moment of its last step (the clock), when the items on each link arrive, how long each router takes to publish and since when it has something to publish, and the changes that are given and not yet done, by their moments

@@ -3,15 +3,9 @@ use Rattle.std.specs.Prelude.{◌≤◌, ◌⊎◌, List, Option, length}
 use Rattle.network_model.specs.World.{Network}
 use Rattle.texts.specs.Words.{Text}
 use Rattle.script.specs.Reading.{Parts}
-use Rattle.plans.specs.declared.fault.Fault.{Fault}
-use Rattle.plans.specs.Faults.{OfBytes, most_bytes}
-use Rattle.plans.specs.Scenarios.{IsScenario, StopsReading, network_read}
-use Rattle.timed_simulation.specs.Timed.{Timed, opening_timed}
-use Rattle.timed_simulation.specs.Runs.{IsAtRest}
-use Rattle.timing.specs.declared.times.Times.{Times}
-use Rattle.timing.specs.declared.snapshot.Begun.{Begun}
-use Rattle.timing.specs.Runs.{IsOfEvents, Leads, with_changes}
-use Rattle.timing.specs.Times.{IsOfTimes, IsTimes}
+use Rattle.plans.specs.{declared.fault.Fault.Fault, Faults.OfBytes, Faults.most_bytes, Scenarios.IsScenario, Scenarios.StopsReading, Scenarios.network_read}
+use Rattle.timed_simulation.specs.{Timed.Timed, Timed.opening_timed, Runs.IsAtRest}
+use Rattle.timing.specs.{declared.times.Times.Times, declared.snapshot.Begun.Begun, Runs.IsOfEvents, Runs.Leads, Runs.with_changes, Times.IsOfTimes, Times.IsTimes}
 
 -- a network with these delays was given these changes. Each was done or refused, and it came to rest
 pub record RunsTimes (n : Network) (times : Times) : Type 0 where

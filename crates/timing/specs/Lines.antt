@@ -1,14 +1,11 @@
 -- The lines of a document of times.
 use Rattle.std.specs.Prelude.{◌≡◌, ℕ, ◌==◌, if◌then◌else◌, false, List, [], ◌∷◌, Some, slice_get, position, decimal}
 use Rattle.ipv4_prefix.specs.Prefix.{Prefix}
-use Rattle.network_model.specs.declared.network.LinkSpec.{LinkSpec}
-use Rattle.network_model.specs.Network.{joins}
+use Rattle.network_model.specs.{declared.network.LinkSpec.LinkSpec, Network.joins}
 use Rattle.coming_to_rest.specs.Worlds.{is_own}
 use Rattle.texts.specs.Words.{Text, words_of}
-use Rattle.script.specs.Routers.{router_number}
-use Rattle.script.specs.Commands.{AsksStep}
-use Rattle.timed_simulation.specs.declared.links.LinkDelays.{LinkDelays}
-use Rattle.timed_simulation.specs.declared.events.Change.{Change}
+use Rattle.script.specs.{Routers.router_number, Commands.AsksStep}
+use Rattle.timed_simulation.specs.{declared.links.LinkDelays.LinkDelays, declared.events.Change.Change}
 use Rattle.timing.specs.declared.given.Given.{Given}
 
 -- the delays of a link on which an item is so long on its way from a router, and so long back

@@ -1,20 +1,13 @@
 -- Runs in which changes are done, or refused and taken off.
 use Rattle.std.specs.Prelude.{◌≡◌, ◌≤◌, ◌⊎◌, ℕ, true, List, [], ◌∷◌, Option, Some, MatchOption, slice_get}
 use Rattle.faults.specs.declared.kind.FaultKind.{FaultKind}
-use Rattle.network_model.specs.declared.step.Refusal.{Refusal}
-use Rattle.network_model.specs.Turns.{is_settled}
+use Rattle.network_model.specs.{declared.step.Refusal.Refusal, Turns.is_settled}
 use Rattle.simulation.specs.Simulation.{simulation_refusal}
-use Rattle.plans.specs.declared.fault.Fault.{Fault}
-use Rattle.plans.specs.Faults.{refused_fault, unplaced}
-use Rattle.timed_simulation.specs.declared.events.Change.{Change}
-use Rattle.timed_simulation.specs.declared.events.Event.{Event}
+use Rattle.plans.specs.{declared.fault.Fault.Fault, Faults.refused_fault, Faults.unplaced}
+use Rattle.timed_simulation.specs.{declared.events.Change.Change, declared.events.Event.Event, Events.next_event, Due.IsDue, Runs.IsNext, Runs.IsTimedRun}
 use Rattle.timed_simulation.specs.Timed.{Timed, after_event, with_timed_change, world_of}
-use Rattle.timed_simulation.specs.Events.{next_event}
-use Rattle.timed_simulation.specs.Due.{IsDue}
-use Rattle.timed_simulation.specs.Runs.{IsNext, IsTimedRun}
 use Rattle.timed_reports.specs.Recordings.{without_first}
-use Rattle.timing.specs.declared.snapshot.Snapshot.{Snapshot}
-use Rattle.timing.specs.declared.snapshot.Begun.{Begun}
+use Rattle.timing.specs.{declared.snapshot.Snapshot.Snapshot, declared.snapshot.Begun.Begun}
 
 -- how far a run is
 abbrev pub snapshot_of : Timed → Snapshot

@@ -1,14 +1,8 @@
 -- The steps of a run in simulated time, each with its moment.
 use Rattle.std.specs.Prelude.{◌≡◌, ℕ, List, [], ◌∷◌, ◌++◌, map, Option, Some, None}
-use Rattle.network_model.specs.declared.step.Step.{Step}
-use Rattle.network_model.specs.declared.step.Refusal.{Refusal}
-use Rattle.network_model.specs.World.{Network}
-use Rattle.timed_simulation.specs.declared.events.Event.{Event}
-use Rattle.timed_simulation.specs.Timed.{Timed, opening_timed}
-use Rattle.timed_simulation.specs.Due.{NothingIsDue}
-use Rattle.timed_simulation.specs.Runs.{steps_of}
-use Rattle.timing.specs.declared.times.Times.{Times}
-use Rattle.timing.specs.Runs.{ComesNext, with_changes}
+use Rattle.network_model.specs.{declared.step.Step.Step, declared.step.Refusal.Refusal, World.Network}
+use Rattle.timed_simulation.specs.{declared.events.Event.Event, Timed.Timed, Timed.opening_timed, Due.NothingIsDue, Runs.steps_of}
+use Rattle.timing.specs.{declared.times.Times.Times, Runs.ComesNext, Runs.with_changes}
 
 -- an event, and why it was refused if it was
 pub record Came : Type 0 where

@@ -5,20 +5,12 @@ use Rattle.toml.specs.Parse.{parse_document}
 use Rattle.faults.specs.declared.kind.FaultKind.{FaultKind}
 use Rattle.network_model.specs.World.{Network}
 use Rattle.texts.specs.Words.{Text}
-use Rattle.scenario.specs.declared.fault.Fault.{Fault as DocumentFault}
-use Rattle.scenario.specs.Kinds.{document_kind}
-use Rattle.script.specs.declared.fault.LineFault.{LineFault}
-use Rattle.script.specs.Kinds.{line_kind}
-use Rattle.plans.specs.declared.fault.Fault.{Fault}
-use Rattle.plans.specs.declared.place.Where.{Where}
-use Rattle.plans.specs.declared.place.TimesKey.{TimesKey}
-use Rattle.plans.specs.Faults.{IsUnread, unplaced}
+use Rattle.scenario.specs.{declared.fault.Fault.Fault as DocumentFault, Kinds.document_kind}
+use Rattle.script.specs.{declared.fault.LineFault.LineFault, Kinds.line_kind}
+use Rattle.plans.specs.{declared.fault.Fault.Fault, declared.place.Where.Where, declared.place.TimesKey.TimesKey, Faults.IsUnread, Faults.unplaced}
 use Rattle.timed_simulation.specs.declared.links.LinkDelays.{LinkDelays}
 use Rattle.timing.specs.declared.given.Given.{Given}
-use Rattle.timing.specs.declared.times.Times.{Times}
-use Rattle.timing.specs.Document.{HasNoTimes, TimesLists, times_in}
-use Rattle.timing.specs.Given.{with_given}
-use Rattle.timing.specs.Lines.{SaysChange, SaysLink, SaysRouter}
+use Rattle.timing.specs.{declared.times.Times.Times, Document.HasNoTimes, Document.TimesLists, Document.times_in, Given.with_given, Lines.SaysChange, Lines.SaysLink, Lines.SaysRouter}
 
 -- the delays of the links are those that lines say, and one for the others
 pub record AreLinkDelays (names : List Text) (n : Network) (lines : List Text) (other : ℕ) (delays : List LinkDelays) : Type 0 where

@@ -1,8 +1,7 @@
 -- A packet that is followed router by router, as code has it: by one prefix, or through, whichever prefixes match it.
 use Rattle.std.specs.Prelude.{ℕ, zero, suc, ◌<◌, Bool, true, false, [], Option, Some, None, IsSome, length}
 use Rattle.ipv4_prefix.specs.Prefix.{Prefix}
-use Rattle.network_model.specs.World.{World}
-use Rattle.network_model.specs.Forwarding.{Trace, onward, traced_by}
+use Rattle.network_model.specs.{World.World, Forwarding.Trace, Forwarding.onward, Forwarding.traced_by}
 
 -- the prefix that the routers behind one that matched p have to match too, if there is one
 abbrev pub kept_prefix : Bool → Prefix → Option Prefix

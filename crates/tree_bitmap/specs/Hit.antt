@@ -1,9 +1,7 @@
 -- What a look-up found in a node, as the length of a prefix and the place of its result.
 use Rattle.std.specs.Prelude.{ℕ, ◌+◌, ◌*◌, Option, Some, None}
 use Rattle.bitmaps.specs.Bits.{rank}
-use Rattle.tree_bitmap.specs.Bits.{length_of}
-use Rattle.tree_bitmap.specs.declared.node.Node.{Node}
-use Rattle.tree_bitmap.specs.declared.lanes.Hit.{Hit}
+use Rattle.tree_bitmap.specs.{Bits.length_of, declared.node.Node.Node, declared.lanes.Hit.Hit}
 
 -- of an internal bit of a node, if there is one: the length counts from the node
 abbrev pub bit_place : Node → Option ℕ → Option (ℕ × ℕ)

@@ -1,14 +1,8 @@
 -- A look-up on its way down a tree.
 use Rattle.std.specs.Prelude.{ℕ, ◌≡◌, ◌*◌, ◌==◌, min, Option, Some, true, false, if◌then◌else◌}
 use Rattle.node_pool.specs.Pool.{cell}
-use Rattle.bitmaps.specs.Bits.{IsHighest}
-use Rattle.tree_bitmap.specs.Tree.{path_node, path_place}
-use Rattle.bitmaps.specs.Greatest.{GreatestBelow}
-use Rattle.tree_bitmap.specs.Hit.{hit_place}
-use Rattle.tree_bitmap.specs.declared.tree.Tree.{Tree}
-use Rattle.tree_bitmap.specs.declared.node.Node.{Node}
-use Rattle.tree_bitmap.specs.declared.lanes.Hit.{Hit}
-use Rattle.tree_bitmap.specs.declared.lanes.Lane.{Lane}
+use Rattle.bitmaps.specs.{Bits.IsHighest, Greatest.GreatestBelow}
+use Rattle.tree_bitmap.specs.{Tree.path_node, Tree.path_place, Hit.hit_place, declared.tree.Tree.Tree, declared.node.Node.Node, declared.lanes.Hit.Hit, declared.lanes.Lane.Lane}
 
 -- nothing was found
 abbrev pub no_hit : Hit

@@ -4,11 +4,9 @@ use Rattle.std.specs.Int.{bit_at}
 use Rattle.bitmaps.specs.Bits.{rank}
 pub use Rattle.tree_bitmap.specs.Bits.{nibble, path_top, internal_bit}
 use Rattle.node_pool.specs.Pool.{cell, room}
-use Rattle.tree_bitmap.specs.declared.tree.Tree.{Tree}
-use Rattle.tree_bitmap.specs.declared.node.Node.{Node}
+use Rattle.tree_bitmap.specs.{declared.tree.Tree.Tree, declared.node.Node.Node}
 use Rattle.network_model.specs.declared.route.Entry.{Entry}
-use Rattle.ipv4_prefix.specs.Prefix.{Prefix}
-use Rattle.ipv4_prefix.specs.Tables.{table_rows}
+use Rattle.ipv4_prefix.specs.{Prefix.Prefix, Tables.table_rows}
 
 -- a node with nothing in it
 abbrev pub blank : Node

@@ -1,8 +1,7 @@
 -- The text of the page.
 use Rattle.std.specs.Prelude.{ℕ, List, ◌++◌}
-use Rattle.view.specs.declared.code.TheConstants.{SCRIPT}
+use Rattle.view.specs.{declared.code.TheConstants.SCRIPT, declared.style.TheConstants.STYLE}
 use Rattle.view.specs.declared.markup.TheConstants.{BODY, END, FOOT, HEAD}
-use Rattle.view.specs.declared.style.TheConstants.{STYLE}
 
 -- the page that shows these states: they stand in it as they are
 abbrev pub page_text : List ℕ → List ℕ

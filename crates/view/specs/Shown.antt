@@ -1,22 +1,15 @@
 -- What is shown.
 use Rattle.std.specs.Prelude.{◌≡◌, ◌≤◌, ◌⊎◌, ℕ, Bool, true, false, List, [], Option, if◌then◌else◌, length}
 use Rattle.std.specs.Io.KnownBytes.{Appends}
-use Rattle.network_model.specs.declared.step.Step.{Step}
-use Rattle.network_model.specs.World.{Network, opening}
-use Rattle.network_model.specs.Run.{Runs}
+use Rattle.network_model.specs.{declared.step.Step.Step, World.Network, World.opening, Run.Runs}
 use Rattle.fabric.specs.Fabric.{Fabric}
 use Rattle.texts.specs.Words.{Text}
-use Rattle.script.specs.Directories.{Directory, directory_of}
-use Rattle.script.specs.Reading.{Parts}
+use Rattle.script.specs.{Directories.Directory, Directories.directory_of, Reading.Parts}
 use Rattle.journal.specs.declared.read.Version.{Version}
-use Rattle.plans.specs.Faults.{Gives}
-use Rattle.plans.specs.Scenarios.{IsScenario, network_read}
-use Rattle.play.specs.Replays.{RunsWhole}
-use Rattle.play.specs.Works.{IsRunToEnd}
+use Rattle.plans.specs.{Faults.Gives, Scenarios.IsScenario, Scenarios.network_read}
+use Rattle.play.specs.{Replays.RunsWhole, Works.IsRunToEnd}
 use Rattle.timed_simulation.specs.Timed.{Timed}
-use Rattle.timing.specs.declared.times.Times.{Times}
-use Rattle.timing.specs.Times.{IsTimes}
-use Rattle.timing.specs.Steps.{RunsInSteps}
+use Rattle.timing.specs.{declared.times.Times.Times, Times.IsTimes, Steps.RunsInSteps}
 use Rattle.run_states.specs.Told.{IsStatesText}
 use Rattle.view.specs.Page.{most_page_bytes, page_text}
 

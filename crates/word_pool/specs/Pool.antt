@@ -1,8 +1,6 @@
 -- What a pool holds: its blocks in use, its free blocks, and its room.
 use Rattle.std.specs.Prelude.{ℕ, zero, suc, ◌≡◌, ◌≢◌, ◌+◌, ◌-◌, ◌*◌, ◌/◌, ◌^◌, ◌<◌, ◌≤◌, ◌==◌, if◌then◌else◌, min, vec_capacity, vec_len, List, [], ◌∷◌, Option, Some, None, IsTrue}
-use Rattle.word_pool.specs.Heap.{Heap, SameBlocks, is_size}
-use Rattle.word_pool.specs.Layout.{entry, noted}
-use Rattle.word_pool.specs.declared.pool.Pool.{Pool}
+use Rattle.word_pool.specs.{Heap.Heap, Heap.SameBlocks, Heap.is_size, Layout.entry, Layout.noted, declared.pool.Pool.Pool}
 
 -- the words from a place on
 unfoldable pub read : (ℕ → ℕ) → ℕ → ℕ → List ℕ

@@ -1,13 +1,11 @@
 -- Which faults a call of a pool answers.
 use Rattle.std.specs.Prelude.{◌≡◌, ◌⊎◌, ⊤, List, Some}
-use Rattle.network_model.specs.declared.step.Refusal.{Refusal}
+use Rattle.network_model.specs.{declared.step.Refusal.Refusal, Kinds.refusal_kind}
 use Rattle.publication.specs.declared.job.Job.{Job}
-use Rattle.forwarder.specs.Replies.{Replied}
-use Rattle.forwarder.specs.Gathering.{fault_of, gather_kind}
+use Rattle.forwarder.specs.{Replies.Replied, Gathering.fault_of, Gathering.gather_kind}
 use Rattle.worker_pool.specs.declared.fault.PoolFault.{PoolFault}
 use Rattle.worker_pool.specs.declared.fault.PoolFault.TheVariants.{NoThread, Memory, Closed, Refused, Gather}
 use Rattle.faults.specs.declared.kind.FaultKind.{FaultKind}
-use Rattle.network_model.specs.Kinds.{refusal_kind}
 
 -- workers do not begin: there is no thread, or no memory
 abbrev pub IsBeginFault : PoolFault → Type 0

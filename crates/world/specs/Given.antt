@@ -1,9 +1,6 @@
 -- What sets of given attachments keep.
 use Rattle.std.specs.Prelude.{◌≡◌, ℕ, ◌&&◌, ◌==◌, List, length}
-use Rattle.std.specs.declared.cmp.Ordering.{Ordering}
-use Rattle.std.specs.List.{list_any}
-use Rattle.std.specs.Ordering.{nat_cmp, ordering_then}
-use Rattle.std.specs.BTreeSet.{contains}
+use Rattle.std.specs.{declared.cmp.Ordering.Ordering, List.list_any, Ordering.nat_cmp, Ordering.ordering_then, BTreeSet.contains}
 use Rattle.ipv4_prefix.specs.Prefix.{Prefix, prefix_cmp, prefix_eq}
 use Rattle.network_model.specs.World.{prefixes_of}
 use Rattle.world.specs.declared.attachment_faults.Given.{Given}

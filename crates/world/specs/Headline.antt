@@ -1,11 +1,7 @@
 -- What holds of every world to which a run of a network leads: no packet circles, and at quiet rows lead along least-cost walks.
 use Rattle.std.specs.Prelude.{◌≡◌, ℕ, ◌<◌, true, List}
 use Rattle.ipv4_prefix.specs.Prefix.{Prefix}
-use Rattle.network_model.specs.declared.step.Step.{Step}
-use Rattle.network_model.specs.World.{Network, World, opening}
-use Rattle.network_model.specs.Network.{IsNetwork}
-use Rattle.network_model.specs.Run.{Runs}
-use Rattle.network_model.specs.Forwarding.{is_quiet}
+use Rattle.network_model.specs.{declared.step.Step.Step, World.Network, World.World, World.opening, Network.IsNetwork, Run.Runs, Forwarding.is_quiet}
 use Rattle.all_packets.specs.Packets.{NoPacketCircles}
 use Rattle.quiet_routes.specs.Routes.{HasBestRow}
 use Rattle.convergence.specs.Converges.{Converges}

@@ -1,9 +1,7 @@
 -- What every world keeps: each port lies at an end of a link that no other port has, each router has its attachments, and
 -- what stands on a link towards a port leads from the port as its router last knew it to the link as it is.
 use Rattle.std.specs.Prelude.{◌≡◌, ℕ, ◌<◌, Bool, true, false, List, [], ◌∷◌, Some, slice_get, length}
-use Rattle.network_model.specs.declared.item.Item.{Item}
-use Rattle.network_model.specs.declared.network.Place.{Place}
-use Rattle.network_model.specs.declared.network.Port.{Port}
+use Rattle.network_model.specs.{declared.item.Item.Item, declared.network.Place.Place, declared.network.Port.Port}
 use Rattle.network_model.specs.World.{Link, Router, World, place_at, side}
 
 -- from a port that is up or not, taking these items leads to a link that is up or not: Up is taken by a port that is down, all else by one that is up

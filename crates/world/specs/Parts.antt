@@ -1,13 +1,9 @@
 -- The parts of a network, as they are given.
 use Rattle.std.specs.Prelude.{ℕ, ◌≤◌, List, length, map}
 use Rattle.ipv4_prefix.specs.Prefix.{Prefix}
-use Rattle.network_model.specs.declared.network.Limits.{Limits}
-use Rattle.network_model.specs.declared.network.LinkSpec.{LinkSpec}
+use Rattle.network_model.specs.{declared.network.Limits.Limits, declared.network.LinkSpec.LinkSpec, declared.network.Place.Place, declared.item.Notice.Notice, Network.degree}
 use Rattle.std.specs.declared.vec.Vec.{Vec}
-use Rattle.network_model.specs.declared.network.Place.{Place}
-use Rattle.network_model.specs.declared.item.Notice.{Notice}
 use Rattle.network_model.specs.World.{Network, Link, Router, Attachments, World, prefixes_of}
-use Rattle.network_model.specs.Network.{degree}
 
 -- a network of its parts
 abbrev pub network_of_parts : ℕ → List LinkSpec → List (Prefix × ℕ × ℕ) → Network

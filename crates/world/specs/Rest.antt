@@ -1,10 +1,8 @@
 -- How much of a network is not at rest.
 use Rattle.std.specs.Prelude.{◌≡◌, ℕ, ◌+◌, ◌*◌, ◌≤◌, Bool, false, not, ◌||◌, nat_lt, List, filter, length, Option, option_map, option_and_then, slice_get}
 use Rattle.std.specs.Option.{option_map_or}
-use Rattle.network_model.specs.Network.{most_links, most_routers}
+use Rattle.network_model.specs.{Network.most_links, Network.most_routers, Step.is_due, Forwarding.is_quiet_link, Forwarding.has_no_notice}
 use Rattle.network_model.specs.World.{Link, Router, Attachments, World, place_at}
-use Rattle.network_model.specs.Step.{is_due}
-use Rattle.network_model.specs.Forwarding.{is_quiet_link, has_no_notice}
 
 -- whether something stands on a link
 abbrev pub is_busy : Link → Bool

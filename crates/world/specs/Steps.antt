@@ -1,17 +1,9 @@
 -- What a step answers, and the room that the routers' generations need.
 use Rattle.std.specs.Prelude.{ℕ, ◌+◌, ◌^◌, ◌<◌, Bool, true, false, not, List, [], ◌∷◌, slice_get, is_none, Option, Some, None, Result, Err, ◌≡◌, MatchOption, IsOk, OnErr, IsOkUnless, All}
 use Rattle.std.specs.Option.{option_map_or}
-use Rattle.network_model.specs.declared.step.Step.{Step}
-use Rattle.network_model.specs.declared.step.Step.TheVariants.{Deliver, Release}
-use Rattle.network_model.specs.declared.step.Refusal.{Refusal}
-use Rattle.network_model.specs.declared.step.Refusal.TheVariants.{UnknownRouter, UnknownLink, UnknownPrefix}
-use Rattle.network_model.specs.declared.item.Held.{Held}
-use Rattle.network_model.specs.declared.item.Item.{Item}
-use Rattle.network_model.specs.declared.item.Notice.{Notice}
-use Rattle.network_model.specs.declared.network.Place.{Place}
+use Rattle.network_model.specs.{declared.step.Step.Step, declared.step.Step.TheVariants.Deliver, declared.step.Step.TheVariants.Release, declared.step.Refusal.Refusal, declared.step.Refusal.TheVariants.UnknownRouter, declared.step.Refusal.TheVariants.UnknownLink, declared.step.Refusal.TheVariants.UnknownPrefix, declared.item.Held.Held, declared.item.Item.Item, declared.item.Notice.Notice, declared.network.Place.Place, Network.first_cause}
 use Rattle.ipv4_prefix.specs.Prefix.{Prefix}
 use Rattle.network_model.specs.World.{Link, Router, World, place_at, link_at, is_known}
-use Rattle.network_model.specs.Network.{first_cause}
 use Rattle.network_model.specs.Step.{front_at, is_up_in, notice_at, refusal, release_at}
 use Rattle.router_core.specs.Room.{ItemNeedsMemory, MeetingNeedsMemory}
 

@@ -1,10 +1,7 @@
 -- What of a network a step can change, and how much of that is not at rest.
 use Rattle.std.specs.Prelude.{◌≡◌, ◌≢◌, ℕ, ◌+◌, Some, None, option_and_then, slice_get}
-use Rattle.network_model.specs.declared.step.Step.{Step}
+use Rattle.network_model.specs.{declared.step.Step.Step, World.World, Step.release_at, Numbers.one_if}
 use Rattle.network_model.specs.declared.step.Step.TheVariants.{LinkUp, LinkDown, SetCost, Deliver, Publish, Release, Attach, Detach}
-use Rattle.network_model.specs.World.{World}
-use Rattle.network_model.specs.Step.{release_at}
-use Rattle.network_model.specs.Numbers.{one_if}
 use Rattle.world.specs.declared.touched.Touched.{Touched}
 use Rattle.world.specs.Rest.{has_notice, is_busy, is_restless, link_number, passes_at}
 

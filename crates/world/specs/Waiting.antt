@@ -1,10 +1,7 @@
 -- Which port of a router has an item or a notice to take.
 use Rattle.std.specs.Prelude.{ℕ, Bool, false, not, List, Option, None, Some, slice_get, is_ok, option_and_then, if◌then◌else◌}
-use Rattle.std.specs.List.{position_from}
-use Rattle.std.specs.Option.{option_map_or}
-use Rattle.network_model.specs.declared.network.Place.{Place}
-use Rattle.network_model.specs.World.{Link, World, degree_of}
-use Rattle.network_model.specs.Forwarding.{has_no_notice}
+use Rattle.std.specs.{List.position_from, Option.option_map_or}
+use Rattle.network_model.specs.{declared.network.Place.Place, World.Link, World.World, World.degree_of, Forwarding.has_no_notice}
 use Rattle.link_fifo.specs.Refusals.{front_of}
 
 -- whether an item waits to be taken at this place
