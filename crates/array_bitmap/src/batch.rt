@@ -7,10 +7,8 @@
 ghost use Rattle.std.specs.Prelude.{◌≡◌, ◌≤◌, ◌<◌, [], List, is_some, true, length, vec_capacity, OnOk, OnErr};
 ghost use Rattle.std.specs.FinMap.{put, find as row_of};
 ghost use Rattle.ipv4_prefix.specs.Prefix.{Prefix as Block, prefix_cmp};
-ghost use Rattle.network_model.specs.Publication.{with_rows};
-ghost use Rattle.network_model.specs.declared.route.Entry.{Entry as Answer};
-ghost use Rattle.array_bitmap.specs.Batch.{put_back, IsNoted};
-ghost use Rattle.array_bitmap.specs.Image.{rows_in, IsSoundTree};
+ghost use Rattle.network_model.specs.{Publication.with_rows, declared.route.Entry.Entry as Answer};
+ghost use Rattle.array_bitmap.specs.{Batch.put_back, Batch.IsNoted, Image.rows_in, Image.IsSoundTree};
 
 use crate::tree::Tree;
 use network_model::{Entry, NoMemory, Prefix};

@@ -3,8 +3,7 @@
 ghost use Rattle.std.specs.Prelude.{◌≡◌, ◌≢◌, ℕ, ◌+◌, ◌*◌, ◌^◌, ◌<◌, ◌≤◌, ◌↔◌, IsTrue, Some, count_ones};
 ghost use Rattle.std.specs.Int.{bit_at};
 ghost use Rattle.bitmaps.specs.Bits.{rank, IsHighest};
-ghost use Rattle.array_bitmap.specs.Bits.{five_bits, row_bit, width};
-ghost use Rattle.array_bitmap.specs.Blocks.{size_for};
+ghost use Rattle.array_bitmap.specs.{Bits.five_bits, Bits.row_bit, Bits.width, Blocks.size_for};
 
 /// The level of the last blocks, which read the last three bits of addresses.
 pub(crate) const LAST_LEVEL: u32 = 5;

@@ -6,8 +6,7 @@ ghost use Rattle.bitmaps.specs.Bits.{IsHighest};
 ghost use Rattle.array_bitmap.specs.Blocks.{row_map, kid_map, row_in, kid_in, word_after, size_for, IsBlock, IsHead};
 ghost use Rattle.array_bitmap.specs.Changes.{Copies, GetsRoom, ShiftsIn, PutsWord, PutsRow, PutsKid, TakesBlank, GetsKid, ShiftsOut, Narrows, TakesWord, TakesRow, TakesKid};
 ghost use Rattle.array_bitmap.specs.Tree.{words_in_block};
-ghost use Rattle.word_pool.specs.Heap.{size_of, SameBlocks, is_size};
-ghost use Rattle.word_pool.specs.Pool.{blocks};
+ghost use Rattle.word_pool.specs.{Heap.size_of, Heap.SameBlocks, Heap.is_size, Pool.blocks};
 
 use crate::bits::{bit, chosen, count, highest, is_set, rank, size_for, with_bit, without_bit};
 use network_model::NoMemory;

@@ -9,14 +9,11 @@
 //! next row is the first of those that are next of their length.
 
 ghost use Rattle.std.specs.Prelude.{◌≡◌, ℕ, ◌+◌, ◌*◌, ◌-◌, ◌/◌, ◌%◌, ◌^◌, ◌≤◌, ◌↔◌, IfSome, IfOk, IfErr, Some, None, length, ◌<◌};
-ghost use Rattle.std.specs.Int.{bit_at};
-ghost use Rattle.std.specs.FinMap.{find as row_of};
+ghost use Rattle.std.specs.{Int.bit_at, FinMap.find as row_of};
 ghost use Rattle.ipv4_prefix.specs.Prefix.{Prefix as Block, IsPrefix, prefix_cmp};
 ghost use Rattle.array_bitmap.specs.Cursor.{IsNextPrefix, IsFirstAt, IsFoundAt, IsHeadFrom, IsNextSpot, spot_number, none_until, first_row_from};
 ghost use Rattle.array_bitmap.specs.Bits.{depth_of, level_of, path_start, row_bit, width};
-ghost use Rattle.array_bitmap.specs.Words.{shown};
-ghost use Rattle.array_bitmap.specs.Tree.{block_at, word_at, entry_in};
-ghost use Rattle.array_bitmap.specs.Image.{cells_of, rows_in, IsSoundTree};
+ghost use Rattle.array_bitmap.specs.{Words.shown, Tree.block_at, Tree.word_at, Tree.entry_in, Image.cells_of, Image.rows_in, Image.IsSoundTree};
 
 use crate::bits::{LAST_LEVEL, five_bits, is_set, next_set, path_of, rank, row_bit};
 use crate::blocks::{HEAD, Head, head_of, kid_of, rows_of};

@@ -2,8 +2,7 @@
 
 ghost use Rattle.std.specs.Prelude.{◌≡◌, ℕ, ◌<◌, ◌≤◌, ◌^◌, IfSome, All, None, false, length, map};
 ghost use Rattle.array_bitmap.specs.Words.{answer_word, IsReadBack};
-ghost use Rattle.ipv4_prefix.specs.LongestMatch.{IsLongestMatch};
-ghost use Rattle.ipv4_prefix.specs.Prefix.{covers};
+ghost use Rattle.ipv4_prefix.specs.{LongestMatch.IsLongestMatch, Prefix.covers};
 ghost use Rattle.network_model.specs.Publication.{image_answer};
 
 use crate::lanes::{LANES, answer_all, answer_one, answer_words, words_say_all};

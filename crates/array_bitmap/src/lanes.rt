@@ -1,10 +1,7 @@
 //! Look-ups on their way down an image, side by side.
 
 ghost use Rattle.std.specs.Prelude.{◌≡◌, ℕ, ◌+◌, ◌-◌, ◌^◌, ◌<◌, ◌≤◌, EachIndex, length, map, slice_index};
-ghost use Rattle.array_bitmap.specs.Blocks.{IsHead};
-ghost use Rattle.array_bitmap.specs.Image.{cells_of, rows_in, IsSoundTree};
-ghost use Rattle.array_bitmap.specs.Tree.{block_at, words_at, words_in_block};
-ghost use Rattle.array_bitmap.specs.Words.{answer_word, IsReadBack};
+ghost use Rattle.array_bitmap.specs.{Blocks.IsHead, Image.cells_of, Image.rows_in, Image.IsSoundTree, Tree.block_at, Tree.words_at, Tree.words_in_block, Words.answer_word, Words.IsReadBack};
 ghost use Rattle.ipv4_prefix.specs.LongestMatch.{longest_match};
 ghost use Rattle.word_pool.specs.Pool.{blocks};
 ghost use Rattle.array_bitmap.specs.Lane.{IsLane, IsStep, IsLongestWord, AreLanes, IsCared, lane_at, head_at};

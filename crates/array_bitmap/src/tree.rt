@@ -1,18 +1,13 @@
 //! The words of an image: arrays on the first bits of addresses, and blocks below them.
 
 ghost use Rattle.std.specs.Prelude.{◌≡◌, ◌≢◌, ℕ, ◌+◌, ◌-◌, ◌*◌, ◌^◌, ◌<◌, ◌≤◌, min, ◌==◌, vec_len, replicate, [], cond, nat_le, is_some, true, false, Option, Some, None, MatchOption, IfOk, OnOk, OnErr};
-ghost use Rattle.std.specs.Int.{bit_at};
-ghost use Rattle.array_bitmap.specs.Bits.{depth_of};
-ghost use Rattle.array_bitmap.specs.Words.{found, len_of, IsRowWord};
+ghost use Rattle.std.specs.{Int.bit_at, FinMap.put, FinMap.find as row_of};
+ghost use Rattle.array_bitmap.specs.{Bits.depth_of, Words.found, Words.len_of, Words.IsRowWord, Changes.WritesName, Removal.without_row, Removal.HasUse, Removal.IsPruned};
 ghost use Rattle.bitmaps.specs.Greatest.{GreatestBelow};
 ghost use Rattle.array_bitmap.specs.Blocks.{row_map, kid_map, IsBlock, IsHead};
 ghost use Rattle.array_bitmap.specs.Tree.{words_in_block, block_at, word_at, SetsWord};
-ghost use Rattle.array_bitmap.specs.Changes.{WritesName};
 ghost use Rattle.array_bitmap.specs.Image.{cells_of, rows_in, top_at, IsSoundTree, IsStand, LosesBlock};
-ghost use Rattle.std.specs.FinMap.{put, find as row_of};
-ghost use Rattle.array_bitmap.specs.Removal.{without_row, HasUse, IsPruned};
-ghost use Rattle.ipv4_prefix.specs.Prefix.{prefix_cmp};
-ghost use Rattle.ipv4_prefix.specs.LongestMatch.{longest_match};
+ghost use Rattle.ipv4_prefix.specs.{Prefix.prefix_cmp, LongestMatch.longest_match};
 ghost use Rattle.word_pool.specs.Pool.{blocks, capacity};
 
 use crate::bits::{count, covers, five_bits, is_set, path_of, rank, row_bit};

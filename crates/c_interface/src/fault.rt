@@ -2,8 +2,7 @@
 
 ghost use Rattle.std.specs.Prelude.{◌≡◌, ◌<◌, OnOk, IfErr};
 ghost use Rattle.faults.specs.Numbers.{kind_number};
-ghost use Rattle.c_interface.specs.Faults.{fault_number};
-ghost use Rattle.c_interface.specs.declared.fault.CallFault.TheVariants.{NoMemory as OutOfMemory, BadCost as CostFault};
+ghost use Rattle.c_interface.specs.{Faults.fault_number, declared.fault.CallFault.TheVariants.NoMemory as OutOfMemory, declared.fault.CallFault.TheVariants.BadCost as CostFault};
 
 use faults::FaultKind;
 use network_model::{BadCost, NoMemory};

@@ -1,12 +1,9 @@
 //! A fabric under a lock.
 
 ghost use Rattle.std.specs.Prelude.{◌≡◌, ◌<◌, ◌≤◌, ◌+◌, ◌↔◌, if◌then◌else◌, None, Some, Ok, true, false, length, slice_get, sum_by, vec_len, IfOk, IfErr, IfSome, IsOk, OnErr, OnOk, MatchOption, MatchResult};
-ghost use Rattle.network_model.specs.declared.step.Refusal.TheVariants.{WrongTicket as WithWrongTicket};
-ghost use Rattle.network_model.specs.Journal.{journal_sum, step_number, steps_in_sum};
+ghost use Rattle.network_model.specs.{declared.step.Refusal.TheVariants.WrongTicket as WithWrongTicket, Journal.journal_sum, Journal.step_number, Journal.steps_in_sum, Forwarding.is_quiet, Network.most_routers};
 ghost use Rattle.network_model.specs.Step as steps;
 ghost use Rattle.network_model.specs.Turns as turns;
-ghost use Rattle.network_model.specs.Forwarding.{is_quiet};
-ghost use Rattle.network_model.specs.Network.{most_routers};
 ghost use Rattle.world.specs.Steps.{IsDoneOr};
 ghost use Rattle.publication.specs.Lists.{image_of};
 ghost use Rattle.fabric.specs.Fabric.{Fabric as FabricState, count_lent, fabric_refusal};

@@ -1,11 +1,9 @@
 //! Fabrics that are settled: by one thread, and where there is much to do by several.
 
 ghost use Rattle.std.specs.Prelude.{◌≡◌, ◌+◌, ◌<◌, ◌≤◌, ◌⊎◌, Err, IsTrue, IfErr, MatchResult, OnErr, OnOk, false, sum_by, vec_len};
-ghost use Rattle.network_model.specs.declared.step.Refusal.TheVariants.{NoMemory as OutOfMemory, WrongTicket as WithWrongTicket};
+ghost use Rattle.network_model.specs.{declared.step.Refusal.TheVariants.NoMemory as OutOfMemory, declared.step.Refusal.TheVariants.WrongTicket as WithWrongTicket, Forwarding.is_quiet};
 ghost use Rattle.network_model.specs.Turns as turns;
-ghost use Rattle.network_model.specs.Forwarding.{is_quiet};
-ghost use Rattle.fabric.specs.Fabric.{Fabric as FabricState, count_lent};
-ghost use Rattle.fabric.specs.Headline.{HasBestRows};
+ghost use Rattle.fabric.specs.{Fabric.Fabric as FabricState, Fabric.count_lent, Headline.HasBestRows};
 ghost use Rattle.guarded.specs.Names.{IsNamed};
 ghost use Rattle.guarded.specs.Served.{AreBack, IsServed, IsFabricStopped, IsTurnRefused, none_asked};
 ghost use Rattle.guarded.specs.Shares.{HasServed, HaveServed, IsHolder, KeptTickets, owes};

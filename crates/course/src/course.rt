@@ -6,9 +6,7 @@ ghost use Rattle.network_model.specs.Turns as turns;
 ghost use Rattle.network_model.specs.Forwarding.{is_quiet};
 ghost use Rattle.world.specs.Steps.{DeliversWithRoom, DiscardsStale, HasRoomForSteps, IsDoneOr};
 ghost use Rattle.world.specs.Headline.{HasWorldHeadline, IsReached};
-ghost use Rattle.course.specs.Course.{course_after, course_refusal, opening_course};
-ghost use Rattle.course.specs.Links.{HasShortWays, LeadsToRouters};
-ghost use Rattle.course.specs.Turns.{open_step};
+ghost use Rattle.course.specs.{Course.course_after, Course.course_refusal, Course.opening_course, Links.HasShortWays, Links.LeadsToRouters, Turns.open_step};
 
 use crate::due::{NoneShut, Shut, first_due, open_step};
 use crate::sent::{Sent, leaving};

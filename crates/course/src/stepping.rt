@@ -4,8 +4,7 @@ ghost use Rattle.std.specs.Prelude.{◌≡◌, ◌≤◌, ◌⊎◌, None, Some,
 ghost use Rattle.network_model.specs.Run.{Runs};
 ghost use Rattle.network_model.specs.Turns as turns;
 ghost use Rattle.world.specs.Steps.{StopsAt};
-ghost use Rattle.course.specs.Course.{course_after_all, course_refusal};
-ghost use Rattle.course.specs.Turns.{HasTakenTurns, IsCourseStopped};
+ghost use Rattle.course.specs.{Course.course_after_all, Course.course_refusal, Turns.HasTakenTurns, Turns.IsCourseStopped};
 
 use crate::order::{Order, Turns};
 use network_model::{Refusal, Step};

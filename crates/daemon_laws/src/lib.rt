@@ -39,13 +39,9 @@
 //! may get another neighbour once both ends are in no session (`MayRewire`).
 #![tactic(auto)]
 
-ghost use Rattle.daemon_laws.specs.Facts.{LinkFactsAlwaysHold};
-ghost use Rattle.daemon_laws.specs.Happenings.{AfterIsReached, HoldsAlways, NoneRefused};
-ghost use Rattle.daemon_laws.specs.Moments.{LinkFactsHoldThere};
-ghost use Rattle.daemon_laws.specs.Numbers.{NumbersSuffice};
+ghost use Rattle.daemon_laws.specs.{Facts.LinkFactsAlwaysHold, Happenings.AfterIsReached, Happenings.HoldsAlways, Happenings.NoneRefused, Moments.LinkFactsHoldThere, Numbers.NumbersSuffice, Rest.RestIsAlwaysBest, Rest.SessionsBeginWhole};
 ghost use Rattle.daemon_laws.specs.Packets.{NoMixtureLoopsAtDaemons, NoPacketCirclesAtDaemons, NoPacketLoopsAtDaemons, NoUnmarkedCircles, NoUnmarkedLoops, NoUnmarkedMixtureLoops, NoUnmarkedWrittenCircles, NoWrittenCircles};
 ghost use Rattle.daemon_laws.specs.Reached.{SomeForgets, SomeNeighbour, SomePacketGoesAtDaemons, ExampleOfRest, SomeSessionAgain};
-ghost use Rattle.daemon_laws.specs.Rest.{RestIsAlwaysBest, SessionsBeginWhole};
 
 /// The laws hold at every moment that routers come to, by happenings one after another and by ports that get
 /// other neighbours.

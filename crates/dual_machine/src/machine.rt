@@ -5,9 +5,7 @@ ghost use Rattle.metric.specs.Distance.{IsCost, infinity};
 ghost use Rattle.diffusing_replies.specs.Origin as table;
 ghost use Rattle.network_model.specs.Machine as dual;
 ghost use Rattle.network_model.specs.Network.{most_ports};
-ghost use Rattle.dual_machine.specs.Event.{IsKnown, IsTimely, is_neighbour_up};
-ghost use Rattle.dual_machine.specs.Outbox.{HasRoom, most_sent};
-ghost use Rattle.dual_machine.specs.Parts.{IsDebtOf};
+ghost use Rattle.dual_machine.specs.{Event.IsKnown, Event.IsTimely, Event.is_neighbour_up, Outbox.HasRoom, Outbox.most_sent, Parts.IsDebtOf};
 ghost use Rattle.dual_machine.specs.State as state;
 
 use crate::distances::{

@@ -4,8 +4,7 @@ ghost use Rattle.std.specs.Prelude.{◌≡◌, ◌⊎◌, ◌+◌, ◌++◌, ◌
 ghost use Rattle.image_patch.specs.Patches.{patched};
 ghost use Rattle.publication.specs.Lists.{Covers, generation_of, image_of, patch_of, patched_prefixes, with_publication};
 ghost use Rattle.publication.specs.Outings.{IsOuting, new_outing};
-ghost use Rattle.fabric.specs.Desks.{all_lent, desk_in, desk_out};
-ghost use Rattle.fabric.specs.Fabric.{awaits_lent};
+ghost use Rattle.fabric.specs.{Desks.all_lent, Desks.desk_in, Desks.desk_out, Fabric.awaits_lent};
 
 use course::Shut;
 use network_model::{NoMemory, Prefix, SmallAllocator, Step};

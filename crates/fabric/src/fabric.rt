@@ -3,21 +3,16 @@
 ghost use Rattle.std.specs.Prelude.{ℕ, None, Some, Err, IsTrue, ◌≡◌, ◌≢◌, ◌⊎◌, ◌≤◌, ◌++◌, ◌+◌, ◌<◌, ◌↔◌, [], take, length, slice_get, vec_capacity, vec_len, All, IfOk, IfErr, IfSome, IsSome, IsOk, OnOk, OnErr, MatchBool, MatchOption, false};
 ghost use Rattle.network_model.specs.World as model;
 ghost use Rattle.network_model.specs.Step as steps;
-ghost use Rattle.network_model.specs.Run.{Runs};
-ghost use Rattle.network_model.specs.Journal.{journal_sum, most_steps, steps_in_sum};
+ghost use Rattle.network_model.specs.{Run.Runs, Journal.journal_sum, Journal.most_steps, Journal.steps_in_sum, Forwarding.is_quiet, Publication.answer_of, Network.most_workers};
 ghost use Rattle.world.specs.Steps.{DeliversWithRoom, DiscardsStale, IsDoneOr, StopsAt};
 ghost use Rattle.publication.specs.Lists.{image_of};
-ghost use Rattle.fabric.specs.Desks.{all_lent, writings};
+ghost use Rattle.fabric.specs.{Desks.all_lent, Desks.writings, Images.answer_at};
 ghost use Rattle.fabric.specs.Fabric.{opening_fabric, after_step, awaits_writer, count_lent, fabric_refusal, lent_at, next_fabric_step, with_lent, ForwardsAsPublished};
 ghost use Rattle.image_patch.specs.Patches.{patched};
 ghost use Rattle.course.specs.Images.{due_at};
-ghost use Rattle.fabric.specs.Images.{answer_at};
 ghost use Rattle.fabric.specs.Headline.{NeverMeetsTwice, HasBestRows, LeadsAtLeastCost, ConvergesLeftAlone};
 ghost use Rattle.fabric.specs.Writers.{IsReaderPort, LentAreDue, opening_tables, waiting_at};
 ghost use Rattle.network_model.specs.Turns as turns;
-ghost use Rattle.network_model.specs.Forwarding.{is_quiet};
-ghost use Rattle.network_model.specs.Publication.{answer_of};
-ghost use Rattle.network_model.specs.Network.{most_workers};
 
 use crate::desk::{Desk, Seats, awaits_lent, close_all, seat_all};
 use crate::images::{opening_images, patch_due};

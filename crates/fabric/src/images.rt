@@ -3,8 +3,7 @@
 ghost use Rattle.std.specs.Prelude.{◌≡◌, ◌+◌, ◌^◌, ◌<◌, ◌||◌, not, map, IfOk, IfErr, IsSome};
 ghost use Rattle.std.specs.List.{list_any};
 ghost use Rattle.ipv4_prefix.specs.Prefix.{prefix_eq};
-ghost use Rattle.network_model.specs.Step.{has_row, router_publishing};
-ghost use Rattle.network_model.specs.Publication.{with_rows};
+ghost use Rattle.network_model.specs.{Step.has_row, Step.router_publishing, Publication.with_rows};
 ghost use Rattle.world.specs.Steps.{HasRoomForSteps};
 ghost use Rattle.course.specs.Images.{image_in_force, chosen_image, due_at};
 ghost use Rattle.fabric.specs.Patches.{IsPatchDue, rows_to_set};

@@ -1,8 +1,7 @@
 //! Networks of two routers under a lock: steps, turns, and threads that serve.
 
 ghost use Rattle.std.specs.Prelude.{◌≡◌, ◌≤◌, ◌<◌, true, vec_len};
-ghost use Rattle.fabric.specs.Fabric.{count_lent};
-ghost use Rattle.fabric.specs.Writers.{opening_tables};
+ghost use Rattle.fabric.specs.{Fabric.count_lent, Writers.opening_tables};
 ghost use Rattle.guarded.specs.Names.{IsNamed};
 
 use crate::equal_to::equal;

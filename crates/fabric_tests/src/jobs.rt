@@ -1,8 +1,7 @@
 //! Jobs that a port answers: one while a turn waits, and one once nothing is left to do.
 
 ghost use Rattle.std.specs.Prelude.{◌≡◌, ◌≤◌, ◌<◌, true, length, vec_len};
-ghost use Rattle.fabric.specs.Fabric.{count_lent};
-ghost use Rattle.fabric.specs.Writers.{opening_tables};
+ghost use Rattle.fabric.specs.{Fabric.count_lent, Writers.opening_tables};
 ghost use Rattle.guarded.specs.Names.{IsNamed};
 
 use crate::equal_to::equal;

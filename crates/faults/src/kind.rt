@@ -1,8 +1,7 @@
 //! The numbers of faults.
 
 ghost use Rattle.std.specs.Prelude.{◌≡◌, ◌≢◌, ◌<◌, Some, IfSome, IfNone};
-ghost use Rattle.faults.specs.declared.kind.FaultKind.{FaultKind};
-ghost use Rattle.faults.specs.Numbers.{kind_number, name_of};
+ghost use Rattle.faults.specs.{declared.kind.FaultKind.FaultKind, Numbers.kind_number, Numbers.name_of};
 
 use std::fmt;
 

@@ -1,8 +1,7 @@
 //! Replies put in order of their jobs.
 
 ghost use Rattle.std.specs.Prelude.{◌≡◌, ◌==◌, true, [], map, All, IsPermutation, count_by, IfOk, MatchResult, Some, None};
-ghost use Rattle.std.specs.List.{list_any, list_all};
-ghost use Rattle.std.specs.List.Sorted.{IsNonDecreasingBy, IsStrictlyIncreasing};
+ghost use Rattle.std.specs.{List.list_any, List.list_all, List.Sorted.IsNonDecreasingBy, List.Sorted.IsStrictlyIncreasing};
 ghost use Rattle.forwarder.specs.Gathering.{is_reply_to, job_number, fault_at, fault_in, fault_of};
 
 use crate::reply::Reply;

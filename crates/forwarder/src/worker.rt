@@ -2,8 +2,7 @@
 
 ghost use Rattle.std.specs.Prelude.{◌≡◌, ◌⊎◌, ◌<◌, ◌++◌, ◌∷◌, [], Err, length, map, IfOk, IfErr, MatchOption};
 ghost use Rattle.network_model.specs.declared.step.Refusal.TheVariants.{NoMemory as OutOfMemory, NoImage as WithoutImage};
-ghost use Rattle.packet_queue.specs.Ends.{takes_from, taken_by};
-ghost use Rattle.packet_queue.specs.Jobs.{jobs_of};
+ghost use Rattle.packet_queue.specs.{Ends.takes_from, Ends.taken_by, Jobs.jobs_of};
 ghost use Rattle.forwarder.specs.Ports.{AreLater};
 
 use crate::port::ForwardPort;

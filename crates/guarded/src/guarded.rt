@@ -1,18 +1,14 @@
 //! A fabric with the books of its shares: how it is opened and closed, its steps and its turns.
 
 ghost use Rattle.std.specs.Prelude.{ℕ, ◌≡◌, ◌≤◌, ◌<◌, ◌+◌, ◌↔◌, if◌then◌else◌, true, false, None, Some, Ok, length, slice_get, sum_by, vec_len, IfOk, IfErr, IfSome, IsOk, OnOk, OnErr, MatchOption, MatchResult};
-ghost use Rattle.network_model.specs.declared.step.Refusal.TheVariants.{WrongTicket as WithWrongTicket};
-ghost use Rattle.network_model.specs.Journal.{journal_sum, step_number, steps_in_sum};
+ghost use Rattle.network_model.specs.{declared.step.Refusal.TheVariants.WrongTicket as WithWrongTicket, Journal.journal_sum, Journal.step_number, Journal.steps_in_sum, Forwarding.is_quiet, Network.most_routers};
 ghost use Rattle.network_model.specs.Step as steps;
 ghost use Rattle.network_model.specs.Turns as turns;
-ghost use Rattle.network_model.specs.Forwarding.{is_quiet};
-ghost use Rattle.network_model.specs.Network.{most_routers};
 ghost use Rattle.world.specs.Steps.{IsDoneOr};
 ghost use Rattle.publication.specs.Lists.{image_of};
 ghost use Rattle.fabric.specs.Fabric.{after_step, count_lent, fabric_refusal, next_fabric_step as next_turn};
-ghost use Rattle.guarded.specs.Names.{IsNamed};
+ghost use Rattle.guarded.specs.{Names.IsNamed, Shares.AreNew, Shares.IsHolder, Shares.owes};
 ghost use Rattle.guarded.specs.Served.{HasHeadline, IsFound, IsServed, IsTurn, IsTurnAt, IsTurnRefused, added_at_once};
-ghost use Rattle.guarded.specs.Shares.{AreNew, IsHolder, owes};
 
 use crate::errand::Errand;
 use crate::name::{ControlName, High, Low, Out};

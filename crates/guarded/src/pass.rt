@@ -3,8 +3,7 @@
 ghost use Rattle.std.specs.Prelude.{◌≡◌, ◌<◌, ◌≤◌, ◌+◌, ◌⊎◌, IfErr, OnOk, MatchResult, Some, vec_len};
 ghost use Rattle.network_model.specs.declared.step.Refusal.TheVariants.{WrongTicket as WithWrongTicket};
 ghost use Rattle.fabric.specs.Fabric.{next_fabric_step as next_turn};
-ghost use Rattle.guarded.specs.Served.{IsTurnRefused};
-ghost use Rattle.guarded.specs.Shares.{IsHolder, owes};
+ghost use Rattle.guarded.specs.{Served.IsTurnRefused, Shares.IsHolder, Shares.owes};
 
 use crate::errand::Errand;
 use crate::guarded::Guarded;

@@ -5,8 +5,7 @@ ghost use Rattle.std.specs.List.{position_from};
 ghost use Rattle.ipv4_prefix.specs.Prefix.{prefix_eq};
 ghost use Rattle.world.specs.Steps.{CanBeRefused};
 ghost use Rattle.lines.specs.Report.{unknown_router};
-ghost use Rattle.interpreter.specs.Nets.{IsAnswer, opening_counted};
-ghost use Rattle.interpreter.specs.Settling.{SettlesThere, StopsThere};
+ghost use Rattle.interpreter.specs.{Nets.IsAnswer, Nets.opening_counted, Settling.SettlesThere, Settling.StopsThere};
 ghost use Rattle.interpreter.specs.Traces.{IsTrace, crossing_on, matched_at, matches_other};
 
 use crate::live::Live;

@@ -1,9 +1,7 @@
 //! Jobs of a script, which workers answer.
 
 ghost use Rattle.std.specs.Prelude.{◌≡◌, ◌≤◌, ◌++◌, ◌∷◌, [], None, true, All, IfOk, IfErr, IfSome, OnErr, OnOk, count_by, length, map, vec_len};
-ghost use Rattle.std.specs.List.{list_any};
-ghost use Rattle.std.specs.List.Sorted.{IsStrictlyIncreasing};
-ghost use Rattle.std.specs.Io.KnownBytes.{Appends};
+ghost use Rattle.std.specs.{List.list_any, List.Sorted.IsStrictlyIncreasing, Io.KnownBytes.Appends};
 ghost use Rattle.network_model.specs.Network.{most_workers};
 ghost use Rattle.fabric.specs.Writers.{IsReaderPort};
 ghost use Rattle.forwarder.specs.Gathering.{is_reply_to, job_number};

@@ -4,8 +4,7 @@ ghost use Rattle.std.specs.Prelude.{◌≡◌, ◌≤◌, All, IfErr, MatchResul
 ghost use Rattle.network_model.specs.Network.{most_workers};
 ghost use Rattle.fabric.specs.Writers.{IsReaderPort};
 ghost use Rattle.lines.specs.Report.{unknown_router};
-ghost use Rattle.interpreter.specs.Dispatching.{CannotInject, IsUnanswered};
-ghost use Rattle.interpreter.specs.Settling.{Settles, StopsSettling};
+ghost use Rattle.interpreter.specs.{Dispatching.CannotInject, Dispatching.IsUnanswered, Settling.Settles, Settling.StopsSettling};
 
 use crate::dispatcher::{Dispatcher, ports_of, print_replies};
 use crate::host::Host;

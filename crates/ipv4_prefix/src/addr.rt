@@ -1,8 +1,7 @@
 //! IPv4 addresses and their texts.
 
 ghost use Rattle.std.specs.Prelude.{◌≡◌, ℕ, IfOk, OnErr, IsOkUnless, Some};
-ghost use Rattle.ipv4_prefix.specs.Texts.{address_text};
-ghost use Rattle.ipv4_prefix.specs.Faults.{SpellsAddress, IsAddressText};
+ghost use Rattle.ipv4_prefix.specs.{Texts.address_text, Faults.SpellsAddress, Faults.IsAddressText};
 
 use crate::fault::PrefixFault;
 use std::fmt;

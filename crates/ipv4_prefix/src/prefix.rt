@@ -1,9 +1,7 @@
 //! A block of IPv4 addresses.
 
 ghost use Rattle.std.specs.Prelude.{◌≡◌, ◌<◌, ◌≤◌, ◌↔◌, IfOk, IfErr, IsOk, IsTrue, OnErr, IsOkUnless, Some};
-ghost use Rattle.ipv4_prefix.specs.Prefix.{Prefix as Block, IsPrefix, covers as is_in_block};
-ghost use Rattle.ipv4_prefix.specs.Texts.{prefix_text};
-ghost use Rattle.ipv4_prefix.specs.declared.fault.PrefixFault.{PrefixFault as Fault};
+ghost use Rattle.ipv4_prefix.specs.{Prefix.Prefix as Block, Prefix.IsPrefix, Prefix.covers as is_in_block, Texts.prefix_text, declared.fault.PrefixFault.PrefixFault as Fault};
 ghost use Rattle.ipv4_prefix.specs.Faults.{block, SetsHostBits, SpellsLength, IsLengthText, SpellsPrefix, IsFirstFault};
 
 use crate::addr::{Addr, parse_addr};

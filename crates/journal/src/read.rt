@@ -1,10 +1,8 @@
 //! Reads the text of a journal.
 
 ghost use Rattle.std.specs.Prelude.{◌≡◌, ◌≢◌, ◌⊎◌, ◌∷◌, Some, IfOk, IfErr, IfSome, IfNone, IsUtf8, slice_get};
-ghost use Rattle.journal.specs.declared.fault.JournalFault.TheVariants.{NoMemory as OutOfMemory};
-ghost use Rattle.journal.specs.declared.read.Version.{Version as Versions};
+ghost use Rattle.journal.specs.{declared.fault.JournalFault.TheVariants.NoMemory as OutOfMemory, declared.read.Version.Version as Versions, Journal.heading, Journal.IsJournal, Journal.IsJournalFault};
 ghost use Rattle.texts.specs.Lines.{lines_of};
-ghost use Rattle.journal.specs.Journal.{heading, IsJournal, IsJournalFault};
 
 use crate::fault::JournalFault;
 use ipv4_prefix::Prefix;

@@ -2,8 +2,7 @@
 
 ghost use Rattle.std.specs.Prelude.{OnOk};
 ghost use Rattle.std.specs.Io.KnownBytes.{Appends};
-ghost use Rattle.journal.specs.Steps.{steps_text};
-ghost use Rattle.journal.specs.Journal.{journal_text};
+ghost use Rattle.journal.specs.{Steps.steps_text, Journal.journal_text};
 
 use crate::read::{ENDING, HEADING};
 use crate::step_text::StepText;

@@ -4,10 +4,7 @@ ghost use Rattle.std.specs.Prelude.{IfErr, OnOk};
 ghost use Rattle.std.specs.Io.KnownBytes.{Appends};
 ghost use Rattle.world.specs.Steps.{CanBeRefused};
 ghost use Rattle.network_model.specs.Turns as turns;
-ghost use Rattle.lines.specs.Report.{unknown_router};
-ghost use Rattle.lines.specs.declared.line.Line.TheVariants.{Next};
-ghost use Rattle.lines.specs.Formats.{printed};
-ghost use Rattle.lines.specs.Waiting.{held_lines, noticed_lines, queued_lines};
+ghost use Rattle.lines.specs.{Report.unknown_router, declared.line.Line.TheVariants.Next, Formats.printed, Waiting.held_lines, Waiting.noticed_lines, Waiting.queued_lines};
 
 use crate::ends::NextLine;
 use crate::line::Line;

@@ -2,9 +2,7 @@
 
 ghost use Rattle.std.specs.Prelude.{◌≡◌, Some};
 ghost use Rattle.metric.specs.Distance.{distance_text};
-ghost use Rattle.lines.specs.Formats.{in_format};
-ghost use Rattle.lines.specs.Texts.{each_name, entry_text, kind_text};
-ghost use Rattle.lines.specs.Objects.{distance_json, entry_json, names_json};
+ghost use Rattle.lines.specs.{Formats.in_format, Texts.each_name, Texts.entry_text, Texts.kind_text, Objects.distance_json, Objects.entry_json, Objects.names_json};
 
 use crate::told::Told;
 use metric::{Distance, Kind};

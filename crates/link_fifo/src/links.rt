@@ -1,12 +1,10 @@
 //! The links of a network, by number.
 
 ghost use Rattle.std.specs.Prelude.{◌≡◌, ◌<◌, ◌≤◌, ◌↔◌, ◌⊎◌, [], IsTrue, map, length, slice_get, IfSome, IfOk, IsOk, OnOk, OnErr, MatchOption, Err, Some, None, if◌then◌else◌};
-ghost use Rattle.network_model.specs.Machine.{changed_at};
+ghost use Rattle.network_model.specs.{Machine.changed_at, declared.network.End.TheVariants.A, declared.network.End.TheVariants.B};
 ghost use Rattle.network_model.specs.World as world;
 ghost use Rattle.network_model.specs.Step as step;
-ghost use Rattle.network_model.specs.declared.network.End.TheVariants.{A, B};
-ghost use Rattle.link_fifo.specs.declared.refusal.LinkRefusal.TheVariants.{NoMemory as OutOfMemory};
-ghost use Rattle.link_fifo.specs.Side.{KeepsRooms, room_at};
+ghost use Rattle.link_fifo.specs.{declared.refusal.LinkRefusal.TheVariants.NoMemory as OutOfMemory, Side.KeepsRooms, Side.room_at};
 ghost use Rattle.link_fifo.specs.Refusals.{refusal_to_come_up, refusal_to_change, IsDoneUnless, front_of, sent_in, AnswersPut};
 
 use crate::link::Link;

@@ -1,9 +1,7 @@
 //! Boxed images, for handles.
 
 ghost use Rattle.std.specs.Prelude.{◌≡◌, None, IfOk, IsOkUnless, length};
-ghost use Rattle.lookup_calls.specs.Images.{new_image};
-ghost use Rattle.lookup_calls.specs.Rows.{first_row_fault};
-ghost use Rattle.lookup_calls.specs.Tables.{plain_rows, worded_rows};
+ghost use Rattle.lookup_calls.specs.{Images.new_image, Rows.first_row_fault, Tables.plain_rows, Tables.worded_rows};
 
 use crate::kept::Kept;
 use crate::patch::Patch;

@@ -4,14 +4,12 @@
 //! them. When a call first gives it rows with words, it is made anew as one of `row_words`, from all its rows.
 
 ghost use Rattle.std.specs.Prelude.{◌≡◌, ◌≤◌, ◌∷◌, [], IfOk, IfSome, OnErr, OnOk, length, true};
-ghost use Rattle.std.specs.FinMap.{is_sorted};
-ghost use Rattle.std.specs.Option.{option_map};
+ghost use Rattle.std.specs.{FinMap.is_sorted, Option.option_map};
 ghost use Rattle.array_bitmap.specs.Cursor.{first_row_from, IsHeadFrom};
 ghost use Rattle.ipv4_prefix.specs.Prefix.{prefix_cmp};
 ghost use Rattle.c_interface.specs.Rows.{answer_row};
 ghost use Rattle.row_words.specs.Rows.{with_marked, without_marked};
-ghost use Rattle.lookup_calls.specs.Rows.{answer_rows, answer_words, entry_answer};
-ghost use Rattle.lookup_calls.specs.Tables.{wordless, wordless_rows, wordless_table};
+ghost use Rattle.lookup_calls.specs.{Rows.answer_rows, Rows.answer_words, Rows.entry_answer, Tables.wordless, Tables.wordless_rows, Tables.wordless_table};
 
 use crate::rows::{answer, answer_burst, answer_marked, answer_marked_burst};
 use array_bitmap::parts::{

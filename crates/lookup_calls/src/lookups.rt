@@ -2,11 +2,8 @@
 
 ghost use Rattle.std.specs.Prelude.{◌≡◌, IfErr, IfSome, OnErr, OnOk, Some, length};
 ghost use Rattle.c_interface.specs.Faults.{fault_number};
-ghost use Rattle.lookup_calls.specs.Faults.{IsLookupStatus};
+ghost use Rattle.lookup_calls.specs.{Faults.IsLookupStatus, Histories.last_image, Readers.IsReadStatus, Rows.answer_rows, Rows.answer_words};
 ghost use Rattle.receipts.specs.Logs.{GrowsTo};
-ghost use Rattle.lookup_calls.specs.Histories.{last_image};
-ghost use Rattle.lookup_calls.specs.Readers.{IsReadStatus};
-ghost use Rattle.lookup_calls.specs.Rows.{answer_rows, answer_words};
 
 use crate::kept::Kept;
 use crate::reader::ImageReader;

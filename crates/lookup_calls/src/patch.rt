@@ -2,8 +2,7 @@
 
 ghost use Rattle.std.specs.Prelude.{◌≡◌, [], ◌∷◌, None, IsOkUnless, OnErr, OnOk};
 ghost use Rattle.c_interface.specs.Rows.{row_fault};
-ghost use Rattle.lookup_calls.specs.Images.{new_rows, patched_table};
-ghost use Rattle.lookup_calls.specs.Tables.{plain_rows};
+ghost use Rattle.lookup_calls.specs.{Images.new_rows, Images.patched_table, Tables.plain_rows};
 
 use crate::kept::Kept;
 use c_interface::{CallFault, Row};

@@ -2,13 +2,8 @@
 
 ghost use Rattle.std.specs.Prelude.{◌≡◌, ◌⊎◌, ◌∷◌, [], IfErr, IfOk, IfSome, None, OnErr, OnOk, Some, length};
 ghost use Rattle.c_interface.specs.Faults.{fault_number};
-ghost use Rattle.lookup_calls.specs.Faults.{IsPatchFault};
+ghost use Rattle.lookup_calls.specs.{Faults.IsPatchFault, Histories.changed, Histories.last_image, Prefixes.first_block_fault, Readers.IsOpenStatus, Rows.first_row_fault, Tables.plain_rows, Tables.worded_rows};
 ghost use Rattle.receipts.specs.Logs.{with_element};
-ghost use Rattle.lookup_calls.specs.Histories.{changed, last_image};
-ghost use Rattle.lookup_calls.specs.Prefixes.{first_block_fault};
-ghost use Rattle.lookup_calls.specs.Readers.{IsOpenStatus};
-ghost use Rattle.lookup_calls.specs.Rows.{first_row_fault};
-ghost use Rattle.lookup_calls.specs.Tables.{plain_rows, worded_rows};
 
 use crate::change::Change;
 use crate::kept::Kept;

@@ -3,9 +3,7 @@
 ghost use Rattle.std.specs.Prelude.{◌≡◌, ◌+◌, ◌<◌, ◌≤◌, All, IfErr, IfNone, IfSome, IsTrue, OnOk, false, length};
 ghost use Rattle.std.specs.Arc.{arc_value};
 ghost use Rattle.receipts.specs.Logs.{GrowsTo};
-ghost use Rattle.lookup_calls.specs.Histories.{last_image};
-ghost use Rattle.lookup_calls.specs.Readers.{IsUnlearned};
-ghost use Rattle.lookup_calls.specs.Rows.{answer_rows, answer_words};
+ghost use Rattle.lookup_calls.specs.{Histories.last_image, Readers.IsUnlearned, Rows.answer_rows, Rows.answer_words};
 
 use crate::board::{Board, Page};
 use crate::past::Past;

@@ -4,9 +4,8 @@ ghost use Rattle.std.specs.Prelude.{◌≡◌, ◌≤◌, None, Some, IfOk, IfEr
 ghost use Rattle.std.specs.Option.{option_map};
 ghost use Rattle.array_bitmap.specs.Words.{len_of};
 ghost use Rattle.c_interface.specs.Rows.{answer_row, row_entry};
-ghost use Rattle.lookup_calls.specs.Images.{new_rows};
+ghost use Rattle.lookup_calls.specs.{Images.new_rows, Tables.plain_rows, Tables.worded_rows};
 ghost use Rattle.lookup_calls.specs.Rows.{answer_rows, entry_answer, first_row_fault, image_rows, word_row, words_fault};
-ghost use Rattle.lookup_calls.specs.Tables.{plain_rows, worded_rows};
 ghost use Rattle.network_model.specs.Publication.{image_answer};
 
 use crate::kept::Kept;

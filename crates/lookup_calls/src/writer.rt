@@ -1,9 +1,8 @@
 //! The writer of an image that others read meanwhile.
 
 ghost use Rattle.std.specs.Prelude.{◌≡◌, ◌⊎◌, ◌<◌, ◌≤◌, ◌∷◌, [], All, IfErr, IfOk, IfSome, IsOkUnless, MatchResult, OnErr, OnOk, Some, length};
-ghost use Rattle.lookup_calls.specs.Faults.{IsPatchFault};
+ghost use Rattle.lookup_calls.specs.{Faults.IsPatchFault, Histories.with_missed, Histories.last_image};
 ghost use Rattle.receipts.specs.Logs.{head_of, with_element};
-ghost use Rattle.lookup_calls.specs.Histories.{with_missed, last_image};
 
 use crate::board::{Board, clear_side, fill_side, make_places};
 use crate::change::Change;

@@ -39,12 +39,9 @@
 ghost use Rattle.std.specs.Prelude.{◌≡◌, ◌≢◌, None, Some, OnOk, OnErr, IfOk, IfErr, IfSome, IfNone, length};
 ghost use Rattle.std.specs.Option.{option_map};
 ghost use Rattle.lookup_ffi.specs.Handles.{handle_image};
-ghost use Rattle.lookup_calls.specs.Images.{new_image, patched_table};
+ghost use Rattle.lookup_calls.specs.{Images.new_image, Images.patched_table, Faults.IsApplyStatus, Faults.IsGiveStatus, Faults.IsLookupStatus, Rows.answer_rows, Rows.first_row_fault, Tables.plain_rows};
 ghost use Rattle.c_interface.specs.Faults.{fault_number, IsStatusBy};
-ghost use Rattle.lookup_calls.specs.Faults.{IsApplyStatus, IsGiveStatus, IsLookupStatus};
-ghost use Rattle.lookup_calls.specs.Rows.{answer_rows, first_row_fault};
 ghost use Rattle.lookup_calls.specs.Prefixes.{cursor_fault, cursor_prefix, first_block_fault, listed_row, rows_status, withdrawn, IsFilledIn, IsRemoveStatus};
-ghost use Rattle.lookup_calls.specs.Tables.{plain_rows};
 
 use c_interface::{CallFault, Row, status};
 use lookup_calls::{

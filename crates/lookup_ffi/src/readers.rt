@@ -3,11 +3,8 @@
 ghost use Rattle.std.specs.Prelude.{◌≡◌, ◌≢◌, ◌∷◌, [], IfErr, IfSome, IsSome, None, OnErr, OnOk, Some, is_some, length};
 ghost use Rattle.c_interface.specs.Faults.{first_of, fault_number};
 ghost use Rattle.receipts.specs.Logs.{GrowsTo, with_element};
-ghost use Rattle.lookup_calls.specs.Histories.{changed, last_image};
-ghost use Rattle.lookup_calls.specs.Prefixes.{first_block_fault};
+ghost use Rattle.lookup_calls.specs.{Histories.changed, Histories.last_image, Prefixes.first_block_fault, Rows.answer_rows, Rows.first_row_fault, Tables.plain_rows};
 ghost use Rattle.lookup_calls.specs.Readers.{IsCountStatus, IsLearnStatus, IsOpenStatus, IsPublishStatus, IsReadStatus, IsSeatStatus};
-ghost use Rattle.lookup_calls.specs.Rows.{answer_rows, first_row_fault};
-ghost use Rattle.lookup_calls.specs.Tables.{plain_rows};
 ghost use Rattle.lookup_ffi.specs.Handles.{handle_image, handle_reader, handle_writer};
 
 use crate::handle::ImageHandle;

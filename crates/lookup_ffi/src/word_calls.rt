@@ -6,14 +6,9 @@
 ghost use Rattle.std.specs.Prelude.{◌≡◌, ◌≢◌, None, Some, OnOk, OnErr, IfOk, IfErr, IfSome, is_some, length};
 ghost use Rattle.std.specs.Option.{option_map};
 ghost use Rattle.c_interface.specs.Faults.{IsStatusBy, first_of, fault_number};
-ghost use Rattle.lookup_calls.specs.Faults.{IsApplyStatus, IsLookupStatus};
+ghost use Rattle.lookup_calls.specs.{Faults.IsApplyStatus, Faults.IsLookupStatus, Histories.changed, Histories.last_image, Images.new_image, Images.patched_table, Readers.IsPublishStatus, Readers.IsReadStatus, Rows.answer_words, Rows.count_fault, Rows.words_fault, Tables.worded_rows};
 ghost use Rattle.receipts.specs.Logs.{GrowsTo, with_element};
-ghost use Rattle.lookup_calls.specs.Histories.{changed, last_image};
-ghost use Rattle.lookup_calls.specs.Images.{new_image, patched_table};
 ghost use Rattle.lookup_calls.specs.Prefixes.{cursor_fault, cursor_prefix, first_block_fault, listed_row, listed_word, rows_status, IsFilledIn};
-ghost use Rattle.lookup_calls.specs.Readers.{IsPublishStatus, IsReadStatus};
-ghost use Rattle.lookup_calls.specs.Rows.{answer_words, count_fault, words_fault};
-ghost use Rattle.lookup_calls.specs.Tables.{worded_rows};
 ghost use Rattle.lookup_ffi.specs.Handles.{handle_image, handle_reader, handle_writer};
 
 use crate::handle::ImageHandle;

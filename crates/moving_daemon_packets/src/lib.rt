@@ -21,10 +21,8 @@
 //! (`daemons_come_to_rest`), and between two happenings a packet meets no router twice.
 #![tactic(auto)]
 
-ghost use Rattle.daemon_laws.specs.Happenings.{HoldsAlways};
-ghost use Rattle.daemon_laws.specs.Packets.{session_leads, unmarked_leads};
-ghost use Rattle.moving_daemon_packets.specs.Flights.{HopsAtOnce, UnmarkedHopsAtOnce};
-ghost use Rattle.moving_daemon_packets.specs.Hops.{HopsEnd};
+ghost use Rattle.daemon_laws.specs.{Happenings.HoldsAlways, Packets.session_leads, Packets.unmarked_leads};
+ghost use Rattle.moving_daemon_packets.specs.{Flights.HopsAtOnce, Flights.UnmarkedHopsAtOnce, Hops.HopsEnd};
 ghost use Rattle.moving_daemon_packets.specs.Moving.{HoldsAtEveryMoment, ComesBackForBetterAtDaemons, ComesBackOncePublishedAtDaemons, ComesBackSeldomAtDaemons, CalmStaysNearAtDaemons, SomeComesBack};
 
 /// Whatever happens, and in which order, also while ports get other neighbours: a packet that stays near comes back

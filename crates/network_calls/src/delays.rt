@@ -2,8 +2,7 @@
 
 ghost use Rattle.std.specs.Prelude.{◌≡◌, None, Some, false, map, IfErr, IfOk};
 ghost use Rattle.coming_to_rest.specs.Worlds.{is_own};
-ghost use Rattle.network_calls.specs.Steps.{step_of};
-ghost use Rattle.network_calls.specs.Delays.{change_fault, delays_of, parts_of_event};
+ghost use Rattle.network_calls.specs.{Steps.step_of, Delays.change_fault, Delays.delays_of, Delays.parts_of_event};
 
 use crate::step::StepParts;
 use c_interface::CallFault;

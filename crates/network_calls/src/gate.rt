@@ -1,8 +1,7 @@
 //! What a router holds back, as C is shown it.
 
 ghost use Rattle.std.specs.Prelude.{◌≡◌, ◌<◌, None, length, slice_get};
-ghost use Rattle.single_router.specs.States.{flag};
-ghost use Rattle.single_router.specs.Frames.{frame_of};
+ghost use Rattle.single_router.specs.{States.flag, Frames.frame_of};
 ghost use Rattle.network_calls.specs.Shown.{front_shown, gate_at, gate_shown, notice_shown, AreNoticesShown, AreShownOver};
 
 use network_model::Notice;

@@ -2,8 +2,7 @@
 
 ghost use Rattle.std.specs.Prelude.{◌≡◌, None, Some, map, IfErr, IfOk, OnOk};
 ghost use Rattle.std.specs.List.{range_with_len};
-ghost use Rattle.network_calls.specs.Calls.{machine_refusal, shown_machine};
-ghost use Rattle.network_calls.specs.Shown.{machine_heard, neighbour_shown, successor_shown};
+ghost use Rattle.network_calls.specs.{Calls.machine_refusal, Calls.shown_machine, Shown.machine_heard, Shown.neighbour_shown, Shown.successor_shown};
 
 use dual_machine::Machine;
 use network_model::{Prefix, Refusal};

@@ -2,9 +2,8 @@
 
 ghost use Rattle.std.specs.Prelude.{◌≡◌, None, true, length, map, IfErr, IfOk, OnOk};
 ghost use Rattle.network_model.specs.Network.{widest_limits, AreWithin};
-ghost use Rattle.network_calls.specs.Delays.{delays_of, is_counted, IsTimedFault};
+ghost use Rattle.network_calls.specs.{Delays.delays_of, Delays.is_counted, Delays.IsTimedFault, Running.opening_steps, Running.IsTimedOpening};
 ghost use Rattle.network_calls.specs.Parts.{limits_of, list_fault, network_failure, parts_network, IsFaultWithin, IsOpeningFault};
-ghost use Rattle.network_calls.specs.Running.{opening_steps, IsTimedOpening};
 
 use crate::delays::{DelayParts, read_delays};
 use crate::failure::Failure;

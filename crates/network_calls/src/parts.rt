@@ -1,8 +1,7 @@
 //! What a network is made of, as C has it.
 
 ghost use Rattle.std.specs.Prelude.{◌≡◌, None, Some, IfOk, IfErr, OnOk, IsOkUnless, map};
-ghost use Rattle.single_router.specs.Openings.{first_fault_in};
-ghost use Rattle.single_router.specs.Inputs.{cost_fault};
+ghost use Rattle.single_router.specs.{Openings.first_fault_in, Inputs.cost_fault};
 ghost use Rattle.network_calls.specs.Parts.{attachment_parts_fault, attachment_of_parts, first_place, limits_of, link_fault, link_spec, place_of};
 
 use c_interface::{CallFault, read_prefix};

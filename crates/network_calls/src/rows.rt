@@ -4,8 +4,7 @@ ghost use Rattle.std.specs.Prelude.{◌≡◌, None, Some, IfErr, IfOk, IfSome, 
 ghost use Rattle.network_model.specs.World.{Router};
 ghost use Rattle.network_calls.specs.Calls.{image_answer_rows, lookup_fault, router_fault, IsAnswered, AreRowsListed};
 ghost use Rattle.network_calls.specs.declared.failure.Failure.TheVariants.{Refused};
-ghost use Rattle.single_router.specs.Publishing.{IsWrittenOver};
-ghost use Rattle.single_router.specs.States.{flag};
+ghost use Rattle.single_router.specs.{Publishing.IsWrittenOver, States.flag};
 
 use crate::failure::Failure;
 use c_interface::{CallFault, Row};

@@ -5,13 +5,9 @@ ghost use Rattle.coming_to_rest.specs.Worlds.{is_own};
 ghost use Rattle.timed_simulation.specs.Timed.{with_timed_change};
 ghost use Rattle.timed_reports.specs.Recordings.{timed_in, with_timed, without_first, GoesOn};
 ghost use Rattle.network_calls.specs.Calls.{running_fault, IsDoneOrFails, IsRun, IsSettling, StepNeedsMemory};
-ghost use Rattle.network_calls.specs.Delays.{parts_of_event};
-ghost use Rattle.network_calls.specs.Failures.{failure_number, IsStatusByFailure};
-ghost use Rattle.network_calls.specs.Headline.{HasHeadline};
+ghost use Rattle.network_calls.specs.{Delays.parts_of_event, Failures.failure_number, Failures.IsStatusByFailure, Headline.HasHeadline, Steps.step_of, declared.failure.Failure.TheVariants.HasClock, declared.failure.Failure.TheVariants.NoClock};
 ghost use Rattle.network_calls.specs.Running.{clocked_in, network_in, opening_steps, reported_in, with_recording, with_step_done, GoesBySteps, GoesInTime, IsTimedOpening};
-ghost use Rattle.network_calls.specs.Steps.{step_of};
 ghost use Rattle.network_calls.specs.Times.{clock_failure, first_change, IsRunToRest, IsRunUntil};
-ghost use Rattle.network_calls.specs.declared.failure.Failure.TheVariants.{HasClock, NoClock};
 
 use crate::delays::EventParts;
 use crate::failure::{Failure, status};

@@ -1,9 +1,8 @@
 //! Spells, as C reads them.
 
 ghost use Rattle.std.specs.Prelude.{◌≡◌, None, drop, false, is_some, true, IfSome};
-ghost use Rattle.network_calls.specs.Shown.{AreShownOver};
+ghost use Rattle.network_calls.specs.{Shown.AreShownOver, Spells.ended_shown, Spells.going_on, Spells.going_shown};
 ghost use Rattle.single_router.specs.States.{flag};
-ghost use Rattle.network_calls.specs.Spells.{ended_shown, going_on, going_shown};
 
 use timed_reports::{Spell, Watched};
 

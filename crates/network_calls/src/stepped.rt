@@ -5,8 +5,7 @@ ghost use Rattle.network_model.specs.Step as steps;
 ghost use Rattle.world.specs.Steps.{IsDoneOr};
 ghost use Rattle.simulation.specs.Simulation.{after_step, simulation_refusal};
 ghost use Rattle.network_calls.specs.Calls.{running_fault, IsDoneOrFails, IsRanTo, StepNeedsMemory, StopsBy};
-ghost use Rattle.network_calls.specs.Steps.{step_of};
-ghost use Rattle.network_calls.specs.declared.running.Going.TheVariants.{BySteps};
+ghost use Rattle.network_calls.specs.{Steps.step_of, declared.running.Going.TheVariants.BySteps};
 
 use crate::failure::Failure;
 use crate::step::StepParts;

@@ -2,12 +2,9 @@
 
 ghost use Rattle.std.specs.Prelude.{◌≡◌, ◌≢◌, false};
 ghost use Rattle.coming_to_rest.specs.Worlds.{is_own};
-ghost use Rattle.timed_simulation.specs.Runs.{IsAtRest};
-ghost use Rattle.timed_simulation.specs.Timed.{with_timed_change};
+ghost use Rattle.timed_simulation.specs.{Runs.IsAtRest, Timed.with_timed_change};
 ghost use Rattle.timed_reports.specs.Recordings.{timed_in, with_timed, without_first};
-ghost use Rattle.network_calls.specs.Delays.{parts_of_event};
-ghost use Rattle.network_calls.specs.Failures.{IsStatusByFailure};
-ghost use Rattle.network_calls.specs.Times.{first_change, moment_failure, IsFlagOf};
+ghost use Rattle.network_calls.specs.{Delays.parts_of_event, Failures.IsStatusByFailure, Times.first_change, Times.moment_failure, Times.IsFlagOf};
 
 use crate::delays::EventParts;
 use crate::failure::Failure;

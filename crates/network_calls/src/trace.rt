@@ -2,8 +2,7 @@
 
 ghost use Rattle.std.specs.Prelude.{◌≡◌, None, Some, IfErr, IfOk, OnErr, OnOk};
 ghost use Rattle.network_model.specs.World.{Router};
-ghost use Rattle.network_calls.specs.Calls.{ending_number, router_fault, IsFollowed};
-ghost use Rattle.network_calls.specs.declared.failure.Failure.TheVariants.{Refused};
+ghost use Rattle.network_calls.specs.{Calls.ending_number, Calls.router_fault, Calls.IsFollowed, declared.failure.Failure.TheVariants.Refused};
 
 use network_model::{Ending, Refusal};
 use simulation::Simulation;

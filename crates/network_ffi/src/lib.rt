@@ -55,10 +55,8 @@ ghost use Rattle.single_router.specs.States.{flag};
 ghost use Rattle.network_ffi.specs.Handles.{handle_going, handle_network};
 ghost use Rattle.network_calls.specs.Failures.{failure_number, status_by_failure, IsStatusByFailure, IsStatusOnlyByFailure};
 ghost use Rattle.network_model.specs.Network.{program_limits, widest_limits, AreWithin};
-ghost use Rattle.network_calls.specs.Headline.{HasHeadline};
+ghost use Rattle.network_calls.specs.{Headline.HasHeadline, Running.opening_steps, Running.with_step_done, Running.GoesBySteps, Steps.parts_of_step, Steps.step_of};
 ghost use Rattle.network_calls.specs.Parts.{limits_of, list_fault, network_failure, parts_network, IsFaultWithin, IsNotOpened};
-ghost use Rattle.network_calls.specs.Running.{opening_steps, with_step_done, GoesBySteps};
-ghost use Rattle.network_calls.specs.Steps.{parts_of_step, step_of};
 ghost use Rattle.network_calls.specs.Calls.{at_all, at_router, counts_of, lookup_fault, step_fault, HeldNeedsMemory, IsAnswered, IsFollowed, AreRowsListed, IsRun, IsSettling};
 
 use c_interface::{CallFault, Row};

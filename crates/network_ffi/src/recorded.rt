@@ -1,10 +1,7 @@
 //! The calls of a network that keeps a record: what of the record C is shown.
 
 ghost use Rattle.std.specs.Prelude.{◌≡◌, ◌≢◌, drop, IfNone, IfSome};
-ghost use Rattle.network_calls.specs.Calls.{at_record};
-ghost use Rattle.network_calls.specs.Failures.{failure_number, status_by_failure};
-ghost use Rattle.network_calls.specs.Shown.{AreShownOver};
-ghost use Rattle.network_calls.specs.Spells.{ended_shown, going_on, going_shown};
+ghost use Rattle.network_calls.specs.{Calls.at_record, Failures.failure_number, Failures.status_by_failure, Shown.AreShownOver, Spells.ended_shown, Spells.going_on, Spells.going_shown};
 ghost use Rattle.network_ffi.specs.Handles.{handle_going, handle_report};
 ghost use Rattle.single_router.specs.States.{flag};
 

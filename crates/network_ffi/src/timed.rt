@@ -3,17 +3,11 @@
 ghost use Rattle.std.specs.Prelude.{◌≡◌, ◌≢◌, None, true, nat_lt, map, IfNone, IfSome, MatchOption, is_some, option_map};
 ghost use Rattle.c_interface.specs.Faults.{fault_number};
 ghost use Rattle.network_model.specs.Network.{widest_limits, AreWithin};
-ghost use Rattle.timed_simulation.specs.Events.{next_event};
-ghost use Rattle.timed_simulation.specs.Runs.{IsAtRest};
-ghost use Rattle.timed_simulation.specs.Timed.{with_timed_change};
+ghost use Rattle.timed_simulation.specs.{Events.next_event, Runs.IsAtRest, Timed.with_timed_change};
 ghost use Rattle.timed_reports.specs.Recordings.{timed_in, with_timed, without_first, GoesOn};
-ghost use Rattle.network_calls.specs.Calls.{at_clock};
+ghost use Rattle.network_calls.specs.{Calls.at_clock, Failures.failure_number, Failures.status_by_failure, Failures.IsStatusByFailure, Headline.HasHeadline, Running.with_recording, Running.GoesInTime, Running.IsTimedOpening, Steps.step_of};
 ghost use Rattle.network_calls.specs.Delays.{delays_of, is_counted, parts_of_event, IsTimedFault};
-ghost use Rattle.network_calls.specs.Failures.{failure_number, status_by_failure, IsStatusByFailure};
-ghost use Rattle.network_calls.specs.Headline.{HasHeadline};
 ghost use Rattle.network_calls.specs.Parts.{limits_of, list_fault, network_failure, parts_network, IsNotOpened};
-ghost use Rattle.network_calls.specs.Running.{with_recording, GoesInTime, IsTimedOpening};
-ghost use Rattle.network_calls.specs.Steps.{step_of};
 ghost use Rattle.network_calls.specs.Times.{first_change, given_failure, IsFlagOf, IsRunToRest, IsRunUntil};
 ghost use Rattle.network_ffi.specs.Handles.{handle_going, handle_network, handle_timed};
 

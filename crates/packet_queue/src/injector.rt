@@ -2,8 +2,7 @@
 
 ghost use Rattle.std.specs.Prelude.{◌≡◌, ◌<◌, ◌≤◌, ◌==◌, ◌++◌, ◌∷◌, [], ℕ, replicate, sum_by, MatchBool, MatchResult};
 ghost use Rattle.packet_queue.specs.declared.message.Taken.TheVariants as T;
-ghost use Rattle.crossbeam_channel.specs.Claims.{view, IsSeatAt};
-ghost use Rattle.crossbeam_channel.specs.Ends.{sends_on};
+ghost use Rattle.crossbeam_channel.specs.{Claims.view, Claims.IsSeatAt, Ends.sends_on};
 ghost use Rattle.packet_queue.specs.Hands.{one_job};
 
 use crate::message::Taken;

@@ -2,9 +2,7 @@
 
 ghost use Rattle.std.specs.Prelude.{◌≡◌, List, length};
 ghost use Rattle.publication.specs.declared.job.Job.{Job};
-ghost use Rattle.packet_queue.specs.declared.message.Taken.{Taken};
-ghost use Rattle.packet_queue.specs.Jobs.{jobs_of};
-ghost use Rattle.packet_queue.specs.Ends.{AreAllEnds, AreJobsLeft, AreMessagesLeft};
+ghost use Rattle.packet_queue.specs.{declared.message.Taken.Taken, Jobs.jobs_of, Ends.AreAllEnds, Ends.AreJobsLeft, Ends.AreMessagesLeft};
 
 use crate::injector::Injector;
 use crate::rule::{Cut, Total};

@@ -1,8 +1,7 @@
 //! An end of a queue that takes.
 
 ghost use Rattle.std.specs.Prelude.{◌≡◌, ◌<◌, ◌^◌, ◌++◌, ◌∷◌, [], sum_by, MatchOption};
-ghost use Rattle.crossbeam_channel.specs.Claims.{view, IsSeatAt};
-ghost use Rattle.crossbeam_channel.specs.Ends.{receives_on};
+ghost use Rattle.crossbeam_channel.specs.{Claims.view, Claims.IsSeatAt, Ends.receives_on};
 ghost use Rattle.packet_queue.specs.Hands.{hand, one_job};
 
 use crate::message::Taken;

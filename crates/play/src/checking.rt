@@ -1,8 +1,7 @@
 //! Says what a scenario holds.
 
 ghost use Rattle.std.specs.Prelude.{◌≡◌, IfOk, IfErr};
-ghost use Rattle.plans.specs.Faults.{OfBytes};
-ghost use Rattle.plans.specs.Scenarios.{StopsReading};
+ghost use Rattle.plans.specs.{Faults.OfBytes, Scenarios.StopsReading};
 ghost use Rattle.play.specs.Ends.{IsChecked};
 
 use plans::{Fault, Outcome, Plan, read_plan, read_text};

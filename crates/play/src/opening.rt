@@ -1,8 +1,7 @@
 //! Opens a network, has a script or a shell done on it, and closes it.
 
 ghost use Rattle.std.specs.Prelude.{◌≡◌, ◌⊎◌, Ok, Err, IfErr, OnOk, is_some, vec_len};
-ghost use Rattle.fabric.specs.Fabric.{opening_fabric};
-ghost use Rattle.fabric.specs.Writers.{opening_tables};
+ghost use Rattle.fabric.specs.{Fabric.opening_fabric, Writers.opening_tables};
 ghost use Rattle.plans.specs.Faults.{IsWantOfMemory};
 ghost use Rattle.interpreter.specs.Nets.{counted_meaning, kept_meaning, opening_counted};
 ghost use Rattle.play.specs.Works.{Comes, IsOfNothing, IsOfWorkers, IsWithoutAnswers, Stops, StopsWork, Works, none_kept};

@@ -4,9 +4,8 @@ ghost use Rattle.std.specs.Prelude.{◌≡◌, ◌++◌, false, Some, IfOk, IfEr
 ghost use Rattle.fabric.specs.Fabric.{opening_fabric};
 ghost use Rattle.plans.specs.Faults.{OfBytes};
 ghost use Rattle.interpreter.specs.Nets.{counted_meaning, kept_meaning, opening_counted};
-ghost use Rattle.play.specs.Ends.{KeepsJournal};
+ghost use Rattle.play.specs.{Ends.KeepsJournal, Outcomes.Ends, Outcomes.ProgramOutcome, Outcomes.StopsWords};
 ghost use Rattle.play.specs.Works.{Comes, IsOfNothing, IsOfWorkers, IsWorked, Stops, StopsOn, StopsWork, Works, none_kept};
-ghost use Rattle.play.specs.Outcomes.{Ends, ProgramOutcome, StopsWords};
 
 use crate::checking::check;
 use crate::keeping::{JournalText, Keeper};

@@ -1,11 +1,9 @@
 //! Replays a journal over the network of its scenario.
 
 ghost use Rattle.std.specs.Prelude.{◌≡◌, ◌⊎◌, ◌≤◌, ◌<◌, IfOk, IfErr, OnOk, OnErr, MatchOption, length, take};
-ghost use Rattle.network_model.specs.Journal.{most_steps};
-ghost use Rattle.network_model.specs.Run.{Runs};
+ghost use Rattle.network_model.specs.{Journal.most_steps, Run.Runs, Step.Lawful};
 ghost use Rattle.world.specs.Steps.{CanBeRefused, StopsAt};
 ghost use Rattle.plans.specs.Faults.{IsWantOfMemory, OfBytes};
-ghost use Rattle.network_model.specs.Step.{Lawful};
 ghost use Rattle.interpreter.specs.Nets.{counted_after};
 ghost use Rattle.play.specs.Replays.{Replays, StepsReplay, StopsReplay, replay_refusal};
 

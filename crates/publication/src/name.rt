@@ -1,8 +1,7 @@
 //! Which fabric a writer is of, and what it is made of before that has a name.
 
 ghost use Rattle.std.specs.Prelude.{◌≡◌, ◌<◌, length, IfOk, vec_len};
-ghost use Rattle.publication.specs.Lists.{no_patches};
-ghost use Rattle.publication.specs.Names.{book_of};
+ghost use Rattle.publication.specs.{Lists.no_patches, Names.book_of};
 
 use crate::book::Head;
 use crate::known::Bundle;

@@ -4,8 +4,7 @@ ghost use Rattle.std.specs.Prelude.{◌≡◌, ◌⊎◌, ◌+◌, ◌++◌, ◌
 ghost use Rattle.std.specs.Vec.{vec_capacity};
 ghost use Rattle.image_patch.specs.Patches.{patched};
 ghost use Rattle.publication.specs.Lists.{Covers, generation_of, image_of, is_named, new_writing, no_patches, opening_of, patch_of, patched_prefixes, with_publication};
-ghost use Rattle.publication.specs.Names.{book_of};
-ghost use Rattle.publication.specs.declared.writer.OpenFault.TheVariants.{NoMemory as OutOfMemory, NoReaderPlace as NoPlace};
+ghost use Rattle.publication.specs.{Names.book_of, declared.writer.OpenFault.TheVariants.NoMemory as OutOfMemory, declared.writer.OpenFault.TheVariants.NoReaderPlace as NoPlace};
 
 use crate::edition::Edition;
 use crate::known::Known;

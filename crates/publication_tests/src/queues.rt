@@ -1,8 +1,7 @@
 //! Queues in one thread, and through worker threads.
 
 ghost use Rattle.std.specs.Prelude.{◌≡◌, ◌+◌, ◌++◌, ◌∷◌, [], ℕ, List, length, All, sum_by, IfOk, MatchOption, vec_len};
-ghost use Rattle.publication.specs.declared.job.Job.{Job};
-ghost use Rattle.publication.specs.Lists.{opening_of};
+ghost use Rattle.publication.specs.{declared.job.Job.Job, Lists.opening_of};
 ghost use Rattle.packet_queue.specs.Ends.{puts_into, takes_from, put_by, taken_by, parts_of, AreAllEnds, IsSameInjector};
 ghost use Rattle.packet_queue.specs.Jobs.{jobs_of};
 

@@ -35,8 +35,7 @@
 #![tactic(auto)]
 
 ghost use Rattle.no_packet_loops.specs.Packets.{HoldsInEveryWorld};
-ghost use Rattle.quiet_routes.specs.Routes.{QuietRoutes, SomeQuietRuns};
-ghost use Rattle.quiet_routes.specs.Settled.{SettledIsQuiet};
+ghost use Rattle.quiet_routes.specs.{Routes.QuietRoutes, Routes.SomeQuietRuns, Settled.SettledIsQuiet};
 
 /// Where a walk of up links leads from a router to one that is attached to the prefix, its row for the
 /// prefix is Local (at an attached router) or begins a chain of Via rows over up links in their

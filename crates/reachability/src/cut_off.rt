@@ -2,8 +2,7 @@
 
 ghost use Rattle.std.specs.Prelude.{ℕ, ◌≡◌, ◌<◌, ◌↔◌, true, false, length, IfOk};
 ghost use Rattle.quiet_routes.specs.Routes.{HasBestRow};
-ghost use Rattle.reachability.specs.Ways.{IsCutOff, IsJoined};
-ghost use Rattle.reachability.specs.Marks.{is_marked, size};
+ghost use Rattle.reachability.specs.{Ways.IsCutOff, Ways.IsJoined, Marks.is_marked, Marks.size};
 
 use crate::links::mark_reached;
 use crate::marks::is_in;

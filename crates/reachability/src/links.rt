@@ -2,8 +2,7 @@
 
 ghost use Rattle.std.specs.Prelude.{ℕ, ◌≡◌, ◌<◌, ◌↔◌, true, false, is_some, length, None, IfSome};
 ghost use Rattle.network_model.specs.World.{attachment_at};
-ghost use Rattle.reachability.specs.Ways.{IsJoined, Reaches};
-ghost use Rattle.reachability.specs.Marks.{is_in, unmarked};
+ghost use Rattle.reachability.specs.{Ways.IsJoined, Ways.Reaches, Marks.is_in, Marks.unmarked};
 ghost use Rattle.reachability.specs.Rounds.{AddsNone, IsAddedBy, IsClosed, KeepsReach};
 
 use crate::marks::{is_in, mark};

@@ -1,9 +1,7 @@
 //! From which routers the published rows lead to a prefix.
 
 ghost use Rattle.std.specs.Prelude.{ℕ, ◌≡◌, ◌<◌, ◌↔◌, ◌&&◌, true, false, not, length};
-ghost use Rattle.reachability.specs.Ways.{HasWay, IsJoined};
-ghost use Rattle.reachability.specs.Marks.{is_in, unmarked};
-ghost use Rattle.reachability.specs.Rounds.{AllRouted, OnlyRouted, leads_home};
+ghost use Rattle.reachability.specs.{Ways.HasWay, Ways.IsJoined, Marks.is_in, Marks.unmarked, Rounds.AllRouted, Rounds.OnlyRouted, Rounds.leads_home};
 
 use crate::marks::{clear, is_in, mark};
 use network_model::{Entry, Prefix, SmallAllocator};

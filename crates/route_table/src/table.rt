@@ -3,11 +3,8 @@
 ghost use Rattle.std.specs.Prelude.{◌≡◌, ◌+◌, ◌<◌, ◌≤◌, ◌↔◌, [], length, nat_lt, IsTrue, IsSome, IsNone, IsOk, IfOk, OnOk, OnErr};
 ghost use Rattle.std.specs.FinMap.{find as row_of, put, is_sorted};
 ghost use Rattle.ipv4_prefix.specs.Prefix.{prefix_cmp};
-ghost use Rattle.network_model.specs.Step.{changed_rows};
-ghost use Rattle.network_model.specs.Publication.{with_rows};
-ghost use Rattle.route_table.specs.Parts.{with_some_published, without_rows};
-ghost use Rattle.route_table.specs.PrefixMap.{map_rows, map_capacity};
-ghost use Rattle.route_table.specs.Rows.{with_change, with_in_force};
+ghost use Rattle.network_model.specs.{Step.changed_rows, Publication.with_rows};
+ghost use Rattle.route_table.specs.{Parts.with_some_published, Parts.without_rows, PrefixMap.map_rows, PrefixMap.map_capacity, Rows.with_change, Rows.with_in_force};
 
 use crate::iter::{ChangedRows, ControlRows, PublishedRows};
 use crate::prefix_map::PrefixMap;

@@ -1,17 +1,13 @@
 //! What a router's machines do to its table and its gate.
 
 ghost use Rattle.std.specs.Prelude.{◌^◌, ◌≡◌, ◌≤◌, ◌<◌, ◌+◌, ◌*◌, ◌++◌, map, length, IsSome, All, IfOk, OnOk, OnErr};
-ghost use Rattle.std.specs.List.{flat_map};
-ghost use Rattle.std.specs.FinMap.{find as row_of, put};
+ghost use Rattle.std.specs.{List.flat_map, FinMap.find as row_of, FinMap.put};
 ghost use Rattle.ipv4_prefix.specs.Prefix.{prefix_cmp};
-ghost use Rattle.network_model.specs.Machine.{reaction, port_count};
+ghost use Rattle.network_model.specs.{Machine.reaction, Machine.port_count, Publication.with_rows};
 ghost use Rattle.network_model.specs.Step as step;
-ghost use Rattle.dual_machine.specs.Event.{IsKnown, IsTimely, is_neighbour_up};
-ghost use Rattle.dual_machine.specs.Outbox.{most_sent};
-ghost use Rattle.network_model.specs.Publication.{with_rows};
+ghost use Rattle.dual_machine.specs.{Event.IsKnown, Event.IsTimely, Event.is_neighbour_up, Outbox.most_sent};
 ghost use Rattle.release_gate.specs.GateState.{empty};
-ghost use Rattle.router_core.specs.Room.{kept_room};
-ghost use Rattle.router_core.specs.Parts.{machines_of};
+ghost use Rattle.router_core.specs.{Room.kept_room, Parts.machines_of};
 
 use dual_machine::{Machine, Sends, session_at};
 use network_model::{Event, Held, Message, NoMemory, Outgoing, Port, Prefix, SmallAllocator};

@@ -1,21 +1,14 @@
 //! The router.
 
 ghost use Rattle.std.specs.Prelude.{◌≡◌, ◌+◌, ◌^◌, ◌<◌, ◌≤◌, ◌↔◌, map, length, true, Some, None, IsTrue, IfOk, OnOk, OnErr, OnSome, IfNone, slice_get, slice_set, is_none, option_map};
-ghost use Rattle.std.specs.List.{list_all};
-ghost use Rattle.std.specs.FinMap.{find as row_of, put, is_sorted};
-ghost use Rattle.std.specs.Option.{option_copied};
+ghost use Rattle.std.specs.{List.list_all, FinMap.find as row_of, FinMap.put, FinMap.is_sorted, Option.option_copied};
 ghost use Rattle.ipv4_prefix.specs.Prefix.{prefix_cmp};
-ghost use Rattle.network_model.specs.Machine.{opening_machine};
-ghost use Rattle.network_model.specs.Publication.{with_rows};
+ghost use Rattle.network_model.specs.{Machine.opening_machine, Publication.with_rows, Network.most_ports};
 ghost use Rattle.network_model.specs.World as world;
 ghost use Rattle.network_model.specs.Step as step;
-ghost use Rattle.network_model.specs.Network.{most_ports};
 ghost use Rattle.dual_machine.specs.Event.{port_of, IsKnown, IsTimely};
 ghost use Rattle.route_table.specs.Place.{IsPlace, without};
-ghost use Rattle.router_core.specs.Alone.{router_publishing_some, may_forget, router_forgetting};
-ghost use Rattle.router_core.specs.Parts.{ups_after, port_ups, IsRouter};
-ghost use Rattle.router_core.specs.Room.{ItemNeedsMemory, MeetingNeedsMemory, NoticeNeedsMemory};
-ghost use Rattle.router_core.specs.Router.{CanTake, is_port_up};
+ghost use Rattle.router_core.specs.{Alone.router_publishing_some, Alone.may_forget, Alone.router_forgetting, Parts.ups_after, Parts.port_ups, Parts.IsRouter, Room.ItemNeedsMemory, Room.MeetingNeedsMemory, Room.NoticeNeedsMemory, Router.CanTake, Router.is_port_up};
 
 use crate::effects::{Effects, meet_all};
 use crate::knowledge::knows_nothing;

@@ -33,14 +33,10 @@
 
 ghost use Rattle.std.specs.Prelude.{◌≡◌, ◌≢◌, None, Some, OnOk, OnErr, IfErr, IfOk, IfSome, length, option_map};
 ghost use Rattle.network_model.specs.Step as step;
-ghost use Rattle.c_interface.specs.Faults.{fault_number, status_by, IsStatusBy};
-ghost use Rattle.c_interface.specs.Rows.{as_prefix};
-ghost use Rattle.single_router.specs.Frames.{frame_of};
+ghost use Rattle.c_interface.specs.{Faults.fault_number, Faults.status_by, Faults.IsStatusBy, Rows.as_prefix};
+ghost use Rattle.single_router.specs.{Frames.frame_of, Bounded.bounded_make_fault, Bounded.bounded_router, Bounded.with_router, Publishing.publish_fault, Publishing.router_given, Publishing.room_fault, States.router_counts, States.flag, States.shown_state};
 ghost use Rattle.single_router.specs.Inputs as inputs;
 ghost use Rattle.router_core.specs.Alone.{router_forgetting};
-ghost use Rattle.single_router.specs.Bounded.{bounded_make_fault, bounded_router, with_router};
-ghost use Rattle.single_router.specs.Publishing.{publish_fault, router_given, room_fault};
-ghost use Rattle.single_router.specs.States.{router_counts, flag, shown_state};
 ghost use Rattle.router_ffi.specs.Handles.{handle_router};
 ghost use Rattle.router_ffi.specs.Calls.{IsStatusOnlyBy, ReadNeedsMemory, held_fault, tell_fault, told, release_fault, state_fault, forget_call_fault, IsTold, IsPublished, AreChosenListed};
 

@@ -3,8 +3,7 @@
 ghost use Rattle.std.specs.Prelude.{◌≡◌, IfOk, OnErr, OnOk, Some, false, vec_len};
 ghost use Rattle.network_model.specs.Step as steps;
 ghost use Rattle.network_model.specs.World as model;
-ghost use Rattle.world.specs.Headline.{IsReached};
-ghost use Rattle.world.specs.Steps.{HasRoomForSteps};
+ghost use Rattle.world.specs.{Headline.IsReached, Steps.HasRoomForSteps};
 ghost use Rattle.run_states.specs.Books.{matches_prefix};
 ghost use Rattle.run_states.specs.Marks.{AreCut, LinkMarked, MarksTouched, RouterMarked, StepMarked, cuts, message_prefix, touched_link, may_touch};
 ghost use Rattle.run_states.specs.Recorders.{AreLinksCurrent, ArePrefixesOf, AreRoutersCurrent, RecorderFollows, IsBlank, IsCurrent, IsRecorderOf, LinksFollow, RoutersFollow, ShowSame, ShowsLinks, ShowsRouters, ShowsWorld};

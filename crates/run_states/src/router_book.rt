@@ -3,8 +3,7 @@
 ghost use Rattle.std.specs.Prelude.{◌≡◌, ◌++◌, ◌∷◌, [], ◌⊎◌, ℕ, All, IfOk, OnOk, Some, false, true, length, slice_get};
 ghost use Rattle.ipv4_prefix.specs.Prefix.{Prefix};
 ghost use Rattle.network_model.specs.World as model;
-ghost use Rattle.run_states.specs.declared.shown.MachineShown.{MachineShown};
-ghost use Rattle.run_states.specs.Shown.{ShowsMachine};
+ghost use Rattle.run_states.specs.{declared.shown.MachineShown.MachineShown, Shown.ShowsMachine};
 ghost use Rattle.run_states.specs.Books.{HasPlaces, IsBlankRouter, MachinesMarked, RouterFollows, ShowsMachines, ShowsRouter, ShowsUnmarked, matches_prefix, machines_after};
 
 use crate::shown::{MachineShown, machine_shown, router_news};

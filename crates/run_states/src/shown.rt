@@ -5,8 +5,7 @@ ghost use Rattle.std.specs.FinMap.{find as row_of};
 ghost use Rattle.std.specs.FinSet as set;
 ghost use Rattle.ipv4_prefix.specs.Prefix.{prefix_cmp};
 ghost use Rattle.network_model.specs.Network.{most_ports};
-ghost use Rattle.run_states.specs.Books.{shown_after};
-ghost use Rattle.run_states.specs.Shown.{AreSame, Awaits, ShowsMachine};
+ghost use Rattle.run_states.specs.{Books.shown_after, Shown.AreSame, Shown.Awaits, Shown.ShowsMachine};
 
 use diffusing_replies::PortSet;
 use dual_machine::{Machine, Mode};

@@ -1,20 +1,15 @@
 //! The states of a run.
 
 ghost use Rattle.std.specs.Prelude.{◌≡◌, ◌+◌, ◌<◌, ◌≤◌, IfOk, Some, [], ◌∷◌, List, MatchOption, OnOk, false, length, map, option_map, string_bytes, take};
-ghost use Rattle.std.specs.Io.KnownBytes.{Appends};
-ghost use Rattle.std.specs.List.{range_with_len};
+ghost use Rattle.std.specs.{Io.KnownBytes.Appends, List.range_with_len};
 ghost use Rattle.ipv4_prefix.specs.Texts.{prefix_text};
-ghost use Rattle.network_model.specs.Network.{most_routers};
-ghost use Rattle.network_model.specs.Run.{Runs};
-ghost use Rattle.network_model.specs.Step.{refusal};
+ghost use Rattle.network_model.specs.{Network.most_routers, Run.Runs, Step.refusal};
 ghost use Rattle.network_model.specs.World as model;
 ghost use Rattle.world.specs.Steps.{StopsAt};
-ghost use Rattle.serde_json.specs.View.{view, members_view};
-ghost use Rattle.serde_json.specs.Written.{has_float};
+ghost use Rattle.serde_json.specs.{View.view, View.members_view, Written.has_float};
 ghost use Rattle.script.specs.Directories.{name_text};
 ghost use Rattle.journal.specs.Steps.{step_text};
-ghost use Rattle.texts.specs.Lines.{lines_text};
-ghost use Rattle.texts.specs.Words.{Text};
+ghost use Rattle.texts.specs.{Lines.lines_text, Words.Text};
 ghost use Rattle.run_states.specs.declared.recorder.Changes.{Changes as ChangesTold};
 ghost use Rattle.run_states.specs.Recorders.{RecorderFollows, IsCurrent, IsRecorderOf, ShowsWorld};
 ghost use Rattle.run_states.specs.Told.{IsStatesText, Tell, is_told as told_of, moment_told, numbers_from, stride as stride_of};

@@ -2,8 +2,7 @@
 //! opening lists them.
 
 ghost use Rattle.std.specs.Prelude.{◌≡◌, ◌++◌, IfOk, OnOk, map, position};
-ghost use Rattle.serde_json.specs.Data.{put as with_member};
-ghost use Rattle.serde_json.specs.View.{view, members_view};
+ghost use Rattle.serde_json.specs.{Data.put as with_member, View.view, View.members_view};
 ghost use Rattle.ipv4_prefix.specs.Prefix.{prefix_eq};
 ghost use Rattle.run_states.specs.Values.{link_data, router_data, machine_data, queue_data, item_data, entry_data, distance_data, ports_data, port_data, items_data, list, listed, links_data, routers_data, machines_data, queue_listed, queues_data, number_of_end, number_of_prefix, put_if as if_put, put_list as with_list};
 

@@ -1,8 +1,7 @@
 //! The four lists of lines of a scenario.
 
 ghost use Rattle.std.specs.Prelude.{◌≡◌, ◌≢◌, IfOk, Some, None, map, string_bytes, option_and_then};
-ghost use Rattle.toml.specs.Parse.{parse_document};
-ghost use Rattle.toml.specs.View.{table_view, items_view};
+ghost use Rattle.toml.specs.{Parse.parse_document, View.table_view, View.items_view};
 ghost use Rattle.scenario.specs.Scenario.{lists_in, texts_of, texts_at, HasNoLists};
 ghost use Rattle.scenario.specs.Seen.{lists_in_lines};
 

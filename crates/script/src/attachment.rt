@@ -1,8 +1,7 @@
 //! The lines of prefixes, and of the routers that are attached to them.
 
 ghost use Rattle.std.specs.Prelude.{◌≡◌, ℕ, ◌<◌, ◌^◌, [], ◌⊎◌, IfOk, IfErr, OnOk};
-ghost use Rattle.script.specs.Attachments.{AreWords, IsAttachment, IsAttachmentFault};
-ghost use Rattle.script.specs.Reading.{StopsHere, ReadsFirst, IsWhole};
+ghost use Rattle.script.specs.{Attachments.AreWords, Attachments.IsAttachment, Attachments.IsAttachmentFault, Reading.StopsHere, Reading.ReadsFirst, Reading.IsWhole};
 ghost use Rattle.texts.specs.Words.{Text, texts};
 
 use crate::fault::LineFault;

@@ -1,8 +1,7 @@
 //! The lines of links.
 
 ghost use Rattle.std.specs.Prelude.{◌≡◌, [], ◌⊎◌, IfOk, IfErr, OnOk};
-ghost use Rattle.script.specs.Links.{IsLink, IsLinkFault};
-ghost use Rattle.script.specs.Reading.{StopsHere, ReadsFirst, IsWhole};
+ghost use Rattle.script.specs.{Links.IsLink, Links.IsLinkFault, Reading.StopsHere, Reading.ReadsFirst, Reading.IsWhole};
 ghost use Rattle.texts.specs.Words.{texts};
 
 use crate::fault::LineFault;

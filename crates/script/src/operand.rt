@@ -4,8 +4,7 @@ ghost use Rattle.std.specs.Prelude.{◌≡◌, ℕ, ◌∷◌, IfOk, IfErr, None
 ghost use Rattle.std.specs.List.{list_any};
 ghost use Rattle.ipv4_prefix.specs.Prefix.{prefix_eq};
 ghost use Rattle.texts.specs.Words.{Text, words_of};
-ghost use Rattle.script.specs.Routers.{IsName, router_number};
-ghost use Rattle.script.specs.Commands.{NamesText, NamesPrefix, NamesNoPrefix};
+ghost use Rattle.script.specs.{Routers.IsName, Routers.router_number, Commands.NamesText, Commands.NamesPrefix, Commands.NamesNoPrefix};
 
 use crate::fault::LineFault;
 use crate::names::Names;

@@ -1,9 +1,8 @@
 //! Reads the four lists of a scenario.
 
 ghost use Rattle.std.specs.Prelude.{◌≡◌, IfOk, IfErr, OnOk, ◌⊎◌, None, Some};
-ghost use Rattle.script.specs.Reading.{AreParts, ReadingOutcome, no_parts};
+ghost use Rattle.script.specs.{Reading.AreParts, Reading.ReadingOutcome, Reading.no_parts, Seen.script_parts};
 ghost use Rattle.texts.specs.Lists.{lists_of};
-ghost use Rattle.script.specs.Seen.{script_parts};
 
 use crate::attachment::read_attachments;
 use crate::command::{Command, read_commands};

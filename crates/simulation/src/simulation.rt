@@ -2,10 +2,8 @@
 
 ghost use Rattle.std.specs.Prelude.{ℕ, Err, IsTrue, ◌≡◌, ◌≤◌, ◌<◌, ◌↔◌, ◌⊎◌, None, Some, true, take, length, slice_get, map, option_map, IfOk, IfSome, IsOk, IsSome, OnOk, OnErr, MatchOption};
 ghost use Rattle.network_model.specs.Step as steps;
-ghost use Rattle.network_model.specs.Run.{Runs};
+ghost use Rattle.network_model.specs.{Run.Runs, Forwarding.is_quiet, Forwarding.onward, Publication.image_answer};
 ghost use Rattle.network_model.specs.Turns as turns;
-ghost use Rattle.network_model.specs.Forwarding.{is_quiet, onward};
-ghost use Rattle.network_model.specs.Publication.{image_answer};
 ghost use Rattle.world.specs.Steps.{DeliversWithRoom, DiscardsStale, IsDoneOr, StopsAt};
 ghost use Rattle.simulation.specs.Simulation.{after_step, after_steps, answer_at, opening_simulation, simulation_refusal, ForwardsAsPublished, IsSimulation};
 ghost use Rattle.simulation.specs.Headline.{ConvergesLeftAlone, HasBestRows, LeadsAtLeastCost, NeverMeetsTwice};

@@ -2,15 +2,13 @@
 
 ghost use Rattle.std.specs.Prelude.{◌≡◌, ◌≤◌, None, Some, IfOk, IfErr, OnOk, OnErr, length, option_map, slice_get, take, is_some, true, IsTrue};
 ghost use Rattle.network_model.specs.Step as step;
-ghost use Rattle.single_router.specs.Frames.{frame_of};
+ghost use Rattle.single_router.specs.{Frames.frame_of, States.router_counts, States.shown_state};
 ghost use Rattle.dual_machine.specs.State.{awaits_at};
 ghost use Rattle.network_model.specs.World.{machine_of};
-ghost use Rattle.router_core.specs.Alone.{router_forgetting, router_publishing_some};
-ghost use Rattle.router_core.specs.Room.{MeetingNeedsMemory, NoticeNeedsMemory};
+ghost use Rattle.router_core.specs.{Alone.router_forgetting, Alone.router_publishing_some, Room.MeetingNeedsMemory, Room.NoticeNeedsMemory};
 ghost use Rattle.single_router.specs.Bounded.{bounded_fault, bounded_make_fault, bounded_router, crowd_fault, with_router};
 ghost use Rattle.single_router.specs.Inputs.{told_fault, router_after, port_fault, down_fault, kind_fault, owes_at, attachment_of, IsRefusedBy, IsRefusedOnlyBy, InputNeedsMemory};
 ghost use Rattle.single_router.specs.Publishing.{publish_fault, has_more, rows_given, router_given, forget_fault, room_fault, IsWrittenOver};
-ghost use Rattle.single_router.specs.States.{router_counts, shown_state};
 
 use crate::frame::Frame;
 use crate::input::Input;

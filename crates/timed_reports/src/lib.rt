@@ -44,8 +44,7 @@
 ghost use Rattle.std.specs.Prelude.{ℕ};
 ghost use Rattle.ipv4_prefix.specs.Prefix.{Prefix};
 ghost use Rattle.reachability.specs.Ways.{IsCutOff};
-ghost use Rattle.timed_simulation.specs.Timed.{world_of};
-ghost use Rattle.timed_simulation.specs.Runs.{IsAtRest};
+ghost use Rattle.timed_simulation.specs.{Timed.world_of, Runs.IsAtRest};
 ghost use Rattle.timed_reports.specs.Going.{IsComputing};
 
 mod looks;

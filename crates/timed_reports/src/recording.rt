@@ -2,8 +2,7 @@
 
 ghost use Rattle.std.specs.Prelude.{◌≡◌, ◌<◌, ◌≤◌, ◌⊎◌, None, Some, false, length, slice_get, IfOk, IfSome, MatchOption, OnErr, OnOk};
 ghost use Rattle.coming_to_rest.specs.Worlds.{is_own};
-ghost use Rattle.timed_simulation.specs.Timed.{opening_timed, with_timed_change};
-ghost use Rattle.timed_simulation.specs.Due.{IsDoneUntil, NothingIsLate};
+ghost use Rattle.timed_simulation.specs.{Timed.opening_timed, Timed.with_timed_change, Due.IsDoneUntil, Due.NothingIsLate};
 ghost use Rattle.timed_simulation.specs.Runs.{IsAtRest, IsGivenOr, IsStoppedAt, IsStoppedShort, IsTimedRun};
 ghost use Rattle.timed_reports.specs.Recordings.{report_in, timed_in, with_timed, without_first, GoesOn, IsOpened};
 

@@ -4,11 +4,9 @@ ghost use Rattle.std.specs.Prelude.{Err, [], ◌≡◌, ◌+◌, ◌<◌, ◌≤
 ghost use Rattle.std.specs.Vec.{vec_capacity, vec_len};
 ghost use Rattle.coming_to_rest.specs.Worlds.{is_own};
 ghost use Rattle.timed_simulation.specs.Timed.{after_event, opening_timed, with_timed_change, world_of};
-ghost use Rattle.timed_simulation.specs.Events.{next_event};
-ghost use Rattle.timed_simulation.specs.Due.{IsDoneUntil, NothingIsLate};
+ghost use Rattle.timed_simulation.specs.{Events.next_event, Due.IsDoneUntil, Due.NothingIsLate};
 ghost use Rattle.timed_simulation.specs.Runs.{IsAtRest, IsGivenOr, IsNext, IsStoppedAt, IsStoppedShort, IsTimed};
-ghost use Rattle.timed_reports.specs.Looks.{HasMarks, IsToldPrefix, MarksMoved};
-ghost use Rattle.timed_reports.specs.Records.{moves_ways};
+ghost use Rattle.timed_reports.specs.{Looks.HasMarks, Looks.IsToldPrefix, Looks.MarksMoved, Records.moves_ways};
 ghost use Rattle.timed_reports.specs.Reports.{IsReport, IsReportOf, IsReportRun, RecordsEvent};
 
 use crate::looks::{look_for_computations, look_for_outages, mark_moved, told_prefix};

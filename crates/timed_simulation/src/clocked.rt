@@ -7,8 +7,7 @@ ghost use Rattle.simulation.specs.Headline as headline;
 ghost use Rattle.simulation.specs.Simulation as simulations;
 ghost use Rattle.timed_simulation.specs.Timed.{after_event, opening_timed, with_timed_change, world_of};
 ghost use Rattle.timed_simulation.specs.Events.{arrival_event, change_event, event_now, home_event, next_event, own_event, publication_event, publication_moment, router_event, waiting_event};
-ghost use Rattle.timed_simulation.specs.Next.{next_moment};
-ghost use Rattle.timed_simulation.specs.Due.{NothingIsDue, NothingIsLate, NothingIsLeftOut};
+ghost use Rattle.timed_simulation.specs.{Next.next_moment, Due.NothingIsDue, Due.NothingIsLate, Due.NothingIsLeftOut};
 ghost use Rattle.timed_simulation.specs.Runs.{IsAtRest, IsGivenOr, IsNext, IsStoppedFor, IsTimed};
 
 use crate::events::{

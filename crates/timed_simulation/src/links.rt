@@ -1,8 +1,7 @@
 //! When the items on links arrive.
 
 ghost use Rattle.std.specs.Prelude.{◌≡◌, ◌+◌, ◌<◌, ◌≤◌, filter, length, map, slice_get, true, IfOk, IfSome, OnOk};
-ghost use Rattle.std.specs.Option.{option_map_or};
-ghost use Rattle.std.specs.VecDeque.{deque_capacity, deque_len};
+ghost use Rattle.std.specs.{Option.option_map_or, VecDeque.deque_capacity, VecDeque.deque_len};
 ghost use Rattle.network_model.specs.Step as step;
 ghost use Rattle.course.specs.Links.{HasLinksOfPorts};
 ghost use Rattle.timed_simulation.specs.Links.{direction_of, later, link_of, links_after, motion_of, link_moved, opening_direction, opening_directions, towards, with_put, with_taken, without_messages, HasLinkRoom, HasLinkRoomFor};

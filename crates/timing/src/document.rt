@@ -1,8 +1,7 @@
 //! The document of times: three lists of lines, and two delays.
 
 ghost use Rattle.std.specs.Prelude.{◌≡◌, ◌≢◌, ◌≤◌, IfOk, IfErr, Some, None, Err, map, string_bytes, option_and_then};
-ghost use Rattle.toml.specs.Parse.{parse_document};
-ghost use Rattle.toml.specs.View.{table_view};
+ghost use Rattle.toml.specs.{Parse.parse_document, View.table_view};
 ghost use Rattle.timing.specs.Document.{delay_at, known_keys, list_at, lists_in_document, natural, present, times_in, HasNoTimes};
 
 use scenario::{Fault, lines_at};

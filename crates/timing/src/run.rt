@@ -2,9 +2,7 @@
 
 ghost use Rattle.std.specs.Prelude.{◌≡◌, ◌≢◌, ◌<◌, ◌-◌, ◌^◌, All, IfErr, IfOk, None, OnOk, Some, [], false, length, slice_get, true};
 ghost use Rattle.coming_to_rest.specs.Worlds.{is_own};
-ghost use Rattle.timed_simulation.specs.Due.{IsDue};
-ghost use Rattle.timed_simulation.specs.Events.{next_event};
-ghost use Rattle.timed_simulation.specs.Runs.{IsAtRest};
+ghost use Rattle.timed_simulation.specs.{Due.IsDue, Events.next_event, Runs.IsAtRest};
 ghost use Rattle.timed_reports.specs.Recordings.{timed_in};
 ghost use Rattle.timing.specs.Runs.{ComesNext, IsBegun, IsOfEvents, IsReady, Leads, LeadsAlone, with_changes};
 

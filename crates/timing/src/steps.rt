@@ -2,9 +2,7 @@
 
 ghost use Rattle.std.specs.Prelude.{◌≡◌, ◌++◌, ◌∷◌, [], All, IfOk, OnOk, Some, false, length};
 ghost use Rattle.coming_to_rest.specs.Worlds.{is_own};
-ghost use Rattle.timed_simulation.specs.Due.{IsDue, NothingIsDue};
-ghost use Rattle.timed_simulation.specs.Events.{next_event};
-ghost use Rattle.timed_simulation.specs.Runs.{steps_of};
+ghost use Rattle.timed_simulation.specs.{Due.IsDue, Due.NothingIsDue, Events.next_event, Runs.steps_of};
 ghost use Rattle.timed_reports.specs.Recordings.{timed_in};
 ghost use Rattle.timing.specs.Runs.{ComesNext};
 ghost use Rattle.timing.specs.Steps.{Came, IsDoneAt, RunsInSteps, done_of, event_moments};

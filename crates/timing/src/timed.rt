@@ -3,8 +3,7 @@
 ghost use Rattle.std.specs.Prelude.{◌≡◌, All, IfErr, IfOk, OnOk, false, length};
 ghost use Rattle.coming_to_rest.specs.Worlds.{is_own};
 ghost use Rattle.plans.specs.Faults.{OfBytes};
-ghost use Rattle.timing.specs.Ends.{IsTimedToEnd, RunsTimes, StopsTime};
-ghost use Rattle.timing.specs.Runs.{IsOfEvents};
+ghost use Rattle.timing.specs.{Ends.IsTimedToEnd, Ends.RunsTimes, Ends.StopsTime, Runs.IsOfEvents};
 
 use crate::printing::print_changes;
 use crate::run::{give, run_changes};

@@ -1,8 +1,7 @@
 //! Why a packet is not traced.
 
 ghost use Rattle.std.specs.Prelude.{◌≡◌, ◌⊎◌};
-ghost use Rattle.tracer.specs.Faults.{trace_refusal};
-ghost use Rattle.tracer.specs.declared.fault.TraceFault.TheVariants.{NoMemory as OutOfMemory};
+ghost use Rattle.tracer.specs.{Faults.trace_refusal, declared.fault.TraceFault.TheVariants.NoMemory as OutOfMemory};
 
 use faults::FaultKind;
 use network_model::Refusal;

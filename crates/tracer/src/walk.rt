@@ -3,10 +3,8 @@
 ghost use Rattle.std.specs.Prelude.{◌≡◌, ◌≢◌, ◌≤◌, ◌<◌, ◌⊎◌, false, length, vec_len, Err, IfOk, IfErr};
 ghost use Rattle.ipv4_prefix.specs.Prefix.{Prefix};
 ghost use Rattle.network_model.specs.Forwarding as model;
-ghost use Rattle.fabric.specs.Fabric.{ForwardsAsPublished};
-ghost use Rattle.fabric.specs.Headline.{IsImageWalk, IsImageWay, none_published};
-ghost use Rattle.all_packets.specs.Packets.{IsWay};
-ghost use Rattle.all_packets.specs.Through.{ThroughEnds, through as trace_through};
+ghost use Rattle.fabric.specs.{Fabric.ForwardsAsPublished, Headline.IsImageWalk, Headline.IsImageWay, Headline.none_published};
+ghost use Rattle.all_packets.specs.{Packets.IsWay, Through.ThroughEnds, Through.through as trace_through};
 ghost use Rattle.loop_freedom.specs.Network.{meets_twice};
 ghost use Rattle.no_packet_loops.specs.Packets.{TracesEnd};
 ghost use Rattle.tracer.specs.Following.{FollowsEnd, followed_way, kept_prefix};

@@ -1,8 +1,7 @@
 //! The rows of one publication, in the form in which a router forwards by them.
 
 ghost use Rattle.std.specs.Prelude.{◌≡◌, ◌+◌, ◌<◌, ◌≤◌, ◌^◌, IfSome, All, None, false, length, map};
-ghost use Rattle.ipv4_prefix.specs.LongestMatch.{IsLongestMatch};
-ghost use Rattle.ipv4_prefix.specs.Prefix.{covers};
+ghost use Rattle.ipv4_prefix.specs.{LongestMatch.IsLongestMatch, Prefix.covers};
 ghost use Rattle.network_model.specs.Publication.{image_answer};
 
 use crate::lanes::Lane;

@@ -2,9 +2,8 @@
 
 ghost use Rattle.std.specs.Prelude.{◌≡◌, ◌+◌, ◌*◌, ◌^◌, ◌<◌, ◌≤◌, true};
 ghost use Rattle.ipv4_prefix.specs.LongestMatch.{longest_match};
-ghost use Rattle.tree_bitmap.specs.Tree.{IsTreeLaidOut, rows, tree_rows};
+ghost use Rattle.tree_bitmap.specs.{Tree.IsTreeLaidOut, Tree.rows, Tree.tree_rows, Lane.IsReadTo, Lane.root_lane, Lane.longer_hit};
 ghost use Rattle.bitmaps.specs.Greatest.{GreatestBelow};
-ghost use Rattle.tree_bitmap.specs.Lane.{IsReadTo, root_lane, longer_hit};
 
 use crate::node::{Node, covers, highest, is_set, length_of, nibble, rank};
 use crate::tree::{Tree, Visits, path_of};

@@ -1,11 +1,8 @@
 //! A pool of workers.
 
 ghost use Rattle.std.specs.Prelude.{◌≡◌, ◌+◌, ◌≤◌, ◌⊎◌, ◌++◌, ◌∷◌, [], Err, true, All, count_by, map, IfErr, IfOk, MatchResult, vec_len};
-ghost use Rattle.std.specs.List.{list_any};
-ghost use Rattle.std.specs.List.Sorted.{IsStrictlyIncreasing};
-ghost use Rattle.std.specs.Vec.{vec_capacity};
-ghost use Rattle.network_model.specs.declared.step.Refusal.TheVariants.{NoMemory as OutOfMemory, NoImage as WithoutImage};
-ghost use Rattle.network_model.specs.Network.{most_workers};
+ghost use Rattle.std.specs.{List.list_any, List.Sorted.IsStrictlyIncreasing, Vec.vec_capacity};
+ghost use Rattle.network_model.specs.{declared.step.Refusal.TheVariants.NoMemory as OutOfMemory, declared.step.Refusal.TheVariants.NoImage as WithoutImage, Network.most_workers};
 ghost use Rattle.forwarder.specs.Gathering.{is_reply_to, job_number};
 ghost use Rattle.worker_pool.specs.declared.fault.PoolFault.TheVariants.{Closed as IsClosed};
 ghost use Rattle.worker_pool.specs.Faults.{IsBeginFault, IsInjectFault, IsWorkFault, IsDrainFault};

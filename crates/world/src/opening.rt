@@ -1,8 +1,7 @@
 //! The parts of a network that opens.
 
 ghost use Rattle.std.specs.Prelude.{◌≡◌, ◌<◌, ◌++◌, ◌∷◌, [], true, cond, if◌then◌else◌, map, length, IfOk, OnOk, All};
-ghost use Rattle.std.specs.List.{range_with_len};
-ghost use Rattle.std.specs.BTreeSet.{contains};
+ghost use Rattle.std.specs.{List.range_with_len, BTreeSet.contains};
 ghost use Rattle.ipv4_prefix.specs.Prefix.{Prefix, prefix_cmp, prefix_eq};
 ghost use Rattle.network_model.specs.World as model;
 ghost use Rattle.world.specs.Parts.{attachments_of};

@@ -2,8 +2,7 @@
 
 ghost use Rattle.std.specs.Prelude.{◌≡◌, option_and_then};
 ghost use Rattle.network_model.specs.Step as steps;
-ghost use Rattle.world.specs.Rest.{link_number};
-ghost use Rattle.world.specs.Touched.{LeavesOthers, touched_by};
+ghost use Rattle.world.specs.{Rest.link_number, Touched.LeavesOthers, Touched.touched_by};
 
 use crate::world::World;
 use network_model::{SmallAllocator, Step};

@@ -6,8 +6,7 @@ ghost use Rattle.network_model.specs.World as model;
 ghost use Rattle.network_model.specs.Step as steps;
 ghost use Rattle.network_model.specs.Turns as turns;
 ghost use Rattle.world.specs.Steps.{DeliversWithRoom, DiscardsStale, IsDoneOr, HasRoomForSteps};
-ghost use Rattle.world.specs.Rest.{has_notice, is_busy, is_restless};
-ghost use Rattle.world.specs.Touched.{touched_by, unrest_at};
+ghost use Rattle.world.specs.{Rest.has_notice, Rest.is_busy, Rest.is_restless, Touched.touched_by, Touched.unrest_at};
 
 use crate::network::Network;
 use crate::touched::Touched;

@@ -4,15 +4,10 @@ ghost use Rattle.std.specs.Prelude.{ℕ, ◌≡◌, ◌<◌, ◌≤◌, ◌↔�
 ghost use Rattle.std.specs.List.{position_from};
 ghost use Rattle.network_model.specs.World as model;
 ghost use Rattle.network_model.specs.Step as steps;
-ghost use Rattle.network_model.specs.Step.{refusal};
-ghost use Rattle.network_model.specs.Run.{Runs};
+ghost use Rattle.network_model.specs.{Step.refusal, Run.Runs, declared.item.Held.Held, declared.route.Entry.Entry as Entries, Forwarding.entry_leads};
 ghost use Rattle.network_model.specs.Turns as turns;
-ghost use Rattle.network_model.specs.declared.item.Held.{Held};
-ghost use Rattle.network_model.specs.declared.route.Entry.{Entry as Entries};
-ghost use Rattle.network_model.specs.Forwarding.{entry_leads};
 ghost use Rattle.world.specs.Steps.{DeliversWithRoom, DeliveryNeedsMemory, DiscardsStale, IsDoneOr, HasRoomForSteps, IsPort, is_stale, port_refusal, prefix_refusal, StopsAt};
-ghost use Rattle.world.specs.Headline.{IsReached, HasWorldHeadline};
-ghost use Rattle.world.specs.Waiting.{is_waiting, waiting_port};
+ghost use Rattle.world.specs.{Headline.IsReached, Headline.HasWorldHeadline, Waiting.is_waiting, Waiting.waiting_port};
 
 use crate::attachments::Attachments;
 use crate::copying::{copy_attachments, copy_places, copy_routers};
