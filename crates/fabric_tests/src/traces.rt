@@ -75,8 +75,8 @@ fn ends<B: FabricName, H: Wait + Abort>(rt: &H, alloc: Global, fabric: &mut Fabr
     goes(rt, alloc, fabric, ADDR, A, Ending::Delivered);
     goes(rt, alloc, fabric, LONGER, B, Ending::Delivered);
     goes(rt, alloc, fabric, ADDR, C, Ending::NoRoute);
-    let unknown = trace(fabric, alloc, 3, ADDR);
-    equal(rt, unknown, Err(TraceFault::UnknownRouter));
+    let unknown = trace(fabric, alloc, 3, ADDR).err();
+    equal(rt, unknown, Some(TraceFault::UnknownRouter));
 }
 
 #[test]

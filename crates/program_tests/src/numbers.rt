@@ -31,7 +31,7 @@ fn is_line(
             format,
             listed: false,
         };
-        is_written(rt, alloc, &Told(printer, *line), wanted);
+        is_written(rt, alloc, &Told(printer, line), wanted);
     }
 }
 
