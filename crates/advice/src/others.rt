@@ -4,7 +4,7 @@ use crate::fault::{explain_line, list_of};
 use crate::position::File;
 use faults::FaultKind;
 use network_model::Step;
-use scenario::Lines;
+use plans::Lines;
 use script::{Key, LineFault, Located, Place, Script, read_command, read_script};
 use std::alloc::Global;
 use std::io::{self, Write};

@@ -1,3 +1,4 @@
+pub mod Documents
 mod Whole
 pub mod Planned
 pub mod Stops

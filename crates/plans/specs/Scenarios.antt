@@ -3,12 +3,11 @@ use Rattle.std.specs.Prelude.{◌≡◌, ◌≤◌, Bool, true, false, if◌then
 use Rattle.std.specs.Option.{option_map_or}
 use Rattle.toml.specs.Parse.{parse_document}
 use Rattle.faults.specs.declared.kind.FaultKind.{FaultKind}
-use Rattle.scenario.specs.Scenario.{lists_in, HasNoLists}
 use Rattle.texts.specs.{Words.Text, Lists.Lists}
 use Rattle.script.specs.{Routers.no_router, Reading.Parts, Reading.AreParts, Reading.ReadingOutcome, Directories.directory_of, declared.fault.LineFault.LineFault as TextFault, declared.fault.LineFault.TheVariants.BadName, declared.place.Located.Located}
 use Rattle.network_model.specs.{declared.network.NetworkFault.NetworkFault, World.Network, Network.network_fault, Network.program_limits}
 use Rattle.world.specs.Parts.{network_of_parts}
-use Rattle.plans.specs.{declared.fault.Fault.Fault, declared.plan.Plan.Plan}
+use Rattle.plans.specs.{declared.fault.Fault.Fault, declared.plan.Plan.Plan, Document.lists_in, Document.HasNoLists}
 use Rattle.plans.specs.Faults.{unplaced, line_fault, opening_fault, most_bytes, IsUnread, IsWantOfMemory}
 
 -- ---- what was read

@@ -3,9 +3,10 @@
 ghost use Rattle.std.specs.Prelude.{◌≡◌};
 ghost use Rattle.faults.specs.declared.kind.FaultKind.TheVariants.{NoMemory as OutOfMemory};
 ghost use Rattle.network_model.specs.Journal.{most_steps};
-ghost use Rattle.scenario.specs.Kinds.{document_kind};
+ghost use Rattle.plans.specs.Document.{document_kind};
 ghost use Rattle.plans.specs.Faults.{journal_fault, line_fault, opening_fault, refused_fault, status_of, unplaced};
 
+use crate::document::DocumentFault;
 use crate::place::Where;
 use faults::FaultKind;
 use journal::JournalFault;
@@ -83,10 +84,10 @@ impl From<Refusal> for Fault {
     }
 }
 
-impl From<scenario::Fault> for Fault {
+impl From<DocumentFault> for Fault {
     ghost from_gives = { λ fault e. e ≡ unplaced (document_kind fault) };
 
-    fn from(fault: scenario::Fault) -> Fault {
+    fn from(fault: DocumentFault) -> Fault {
         Fault::from(FaultKind::from(fault))
     }
 }

@@ -6,8 +6,8 @@ ghost use Rattle.script.specs.Seen.{script_parts};
 ghost use Rattle.plans.specs.Faults.{IsWantOfMemory};
 ghost use Rattle.plans.specs.Scenarios.{IsScenario, IsPlanOf, IsScenarioFault, first_fault, network_read, is_name_fault as is_of_name};
 
+use crate::document::read_scenario;
 use crate::fault::Fault;
-use scenario::read_scenario;
 use script::{Command, Directory, Located, Reading, Script, read_script};
 use std::alloc::Global;
 use world::Network;

@@ -4,7 +4,7 @@ use Rattle.std.specs.{Int.w64, Int.FitsUnsignedBits, Option.option_map_or, Resul
 use lib.Signed.{mag}
 use Rattle.toml.specs.Data.{Data, integer, as_integer, Members}
 use Rattle.texts.specs.Words.{Text}
-use Rattle.scenario.specs.Scenario.{array_texts, key_count}
+use Rattle.plans.specs.Document.{array_texts, key_count}
 use Rattle.timing.specs.Document.{delay_at, delay_of, natural, known_keys, list_at, times_in}
 
 pub read_all : (doc : Option Members) (t : Members) (l r c : List Text) (link router : ℕ) → doc ≡ Some t → key_count t ≡ known_keys t

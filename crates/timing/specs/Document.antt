@@ -3,7 +3,7 @@ use Rattle.std.specs.Prelude.{◌≡◌, ℕ, ◌+◌, ◌==◌, if◌then◌els
 use Rattle.std.specs.Option.{option_map_or}
 use Rattle.toml.specs.Data.{Data, integer, Members, get_member}
 use Rattle.texts.specs.Words.{Text}
-use Rattle.scenario.specs.Scenario.{array_texts, key_count}
+use Rattle.plans.specs.Document.{array_texts, key_count}
 use Rattle.timing.specs.declared.document.Document.{Document}
 
 -- three lists of lines, and the delays of links and of routers that are not listed

@@ -5,9 +5,8 @@ use Rattle.toml.specs.Parse.{parse_document}
 use Rattle.faults.specs.declared.kind.FaultKind.{FaultKind}
 use Rattle.network_model.specs.World.{Network}
 use Rattle.texts.specs.Words.{Text}
-use Rattle.scenario.specs.{declared.fault.Fault.Fault as DocumentFault, Kinds.document_kind}
 use Rattle.script.specs.{declared.fault.LineFault.LineFault, Kinds.line_kind}
-use Rattle.plans.specs.{declared.fault.Fault.Fault, declared.place.Where.Where, declared.place.TimesKey.TimesKey, Faults.IsUnread, Faults.unplaced}
+use Rattle.plans.specs.{declared.document.DocumentFault.DocumentFault, declared.fault.Fault.Fault, declared.place.Where.Where, declared.place.TimesKey.TimesKey, Document.document_kind, Faults.IsUnread, Faults.unplaced}
 use Rattle.timed_simulation.specs.declared.links.LinkDelays.{LinkDelays}
 use Rattle.timing.specs.declared.given.Given.{Given}
 use Rattle.timing.specs.{declared.times.Times.Times, Document.HasNoTimes, Document.TimesLists, Document.times_in, Given.with_given, Lines.SaysChange, Lines.SaysLink, Lines.SaysRouter}

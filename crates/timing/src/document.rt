@@ -4,7 +4,7 @@ ghost use Rattle.std.specs.Prelude.{◌≡◌, ◌≢◌, ◌≤◌, IfOk, IfErr
 ghost use Rattle.toml.specs.{Parse.parse_document, View.table_view};
 ghost use Rattle.timing.specs.Document.{delay_at, known_keys, list_at, lists_in_document, natural, present, times_in, HasNoTimes};
 
-use scenario::{Fault, lines_at};
+use plans::{DocumentFault, lines_at};
 use std::alloc::Global;
 use toml::Table;
 
@@ -25,24 +25,24 @@ pub struct Document {
 
 /// The document of a text. Each of its five keys may be left out: then a list is empty, and a delay 0. A text
 /// that is no TOML document is a `BadToml`, a document with other keys or values a `BadKey`.
-pub fn read_document(alloc: Global, text: &str) -> Result<Document, Fault>
+pub fn read_document(alloc: Global, text: &str) -> Result<Document, DocumentFault>
     ensures ok { IfOk result (λ d. option_and_then times_in (parse_document text.now)
         ≡ Some (lists_in_document d)) }
-    ensures bad_key { result ≡ Err Fault.BadKey → HasNoTimes (parse_document text.now) }
-    ensures bad_toml { result ≡ Err Fault.BadToml → parse_document text.now ≡ None }
+    ensures bad_key { result ≡ Err DocumentFault.BadKey → HasNoTimes (parse_document text.now) }
+    ensures bad_toml { result ≡ Err DocumentFault.BadToml → parse_document text.now ≡ None }
 {
     let table = match toml::table_from_str(alloc, text) {
         Ok(table) => table,
         Err(error) => {
             return Err(if error.is_memory() {
-                Fault::NoMemory
+                DocumentFault::NoMemory
             } else {
-                Fault::BadToml
+                DocumentFault::BadToml
             });
         }
     };
     if table.len() != known_keys(&table) {
-        return Err(Fault::BadKey);
+        return Err(DocumentFault::BadKey);
     }
     let links = lines_or_none(alloc, &table, "links")?;
     let routers = lines_or_none(alloc, &table, "routers")?;
@@ -81,11 +81,11 @@ fn count_key(table: &Table, key: &str) -> usize
 }
 
 // The strings of the array at a key; none where the key is not there.
-fn lines_or_none(alloc: Global, table: &Table, key: &str) -> Result<Vec<String>, Fault>
+fn lines_or_none(alloc: Global, table: &Table, key: &str) -> Result<Vec<String>, DocumentFault>
     ensures ok { IfOk result (λ v. list_at key.now (table_view table.now)
         ≡ Some (map string_bytes v.items)) }
-    ensures bad_key { result ≡ Err Fault.BadKey → list_at key.now (table_view table.now) ≡ None }
-    ensures no_toml { result ≢ Err Fault.BadToml }
+    ensures bad_key { result ≡ Err DocumentFault.BadKey → list_at key.now (table_view table.now) ≡ None }
+    ensures no_toml { result ≢ Err DocumentFault.BadToml }
 {
     if count_key(table, key) == 0 {
         return Ok(Vec::new(alloc));
@@ -94,20 +94,20 @@ fn lines_or_none(alloc: Global, table: &Table, key: &str) -> Result<Vec<String>,
 }
 
 // The number at a key, which is 0 or more; 0 where the key is not there.
-fn delay_or_none(table: &Table, key: &str) -> Result<u64, Fault>
+fn delay_or_none(table: &Table, key: &str) -> Result<u64, DocumentFault>
     ensures ok { IfOk result (λ n. delay_at key.now (table_view table.now) ≡ Some n) }
-    ensures bad_key { IfErr result (λ e. (e ≡ Fault.BadKey)
+    ensures bad_key { IfErr result (λ e. (e ≡ DocumentFault.BadKey)
         × (delay_at key.now (table_view table.now) ≡ None)) }
 {
     let Some(value) = table.get(key) else {
         return Ok(0);
     };
     let Some(number) = value.as_integer() else {
-        return Err(Fault::BadKey);
+        return Err(DocumentFault::BadKey);
     };
     match natural(number) {
         Some(delay) => Ok(delay),
-        None => Err(Fault::BadKey),
+        None => Err(DocumentFault::BadKey),
     }
 }
 

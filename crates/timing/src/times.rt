@@ -10,7 +10,7 @@ use crate::document::{Document, read_document};
 use crate::given::values;
 use crate::line_reading::{read_changes, read_links, read_routers};
 use faults::FaultKind;
-use plans::{Fault, TimesKey, Where, read_text};
+use plans::{DocumentFault, Fault, TimesKey, Where, read_text};
 use script::Names;
 use std::alloc::Global;
 use std::io::Read;
@@ -102,11 +102,11 @@ pub fn read_times(
 }
 
 // Why a text is no document of times.
-fn document_fault(fault: scenario::Fault) -> Fault
+fn document_fault(fault: DocumentFault) -> Fault
     ensures { IsFaultOf fault result }
 {
     match fault {
-        scenario::Fault::NoMemory => Fault::from(fault),
+        DocumentFault::NoMemory => Fault::from(fault),
         _ => of_times(FaultKind::from(fault)),
     }
 }

@@ -5,8 +5,8 @@
 use command_line::{Format, Words};
 use harness::example::{Verdict, judge};
 use harness::{play_in_memory, run_in_memory};
+use plans::read_scenario;
 use play::Host;
-use scenario::read_scenario;
 use std::alloc::{AllocError, Global};
 use std::fs;
 use std::io::{self, Write};

@@ -1,4 +1,4 @@
-use Rattle.scenario.specs.Seen.{lists_in_lines}
+use Rattle.plans.specs.Document.{lists_in_lines}
 use Rattle.script.specs.Seen.{script_parts}
 use Rattle.plans.specs.Scenarios.{IsRead}
 use Rattle.plans.proofs.Stops.{stops_reading}

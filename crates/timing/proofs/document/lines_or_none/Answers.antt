@@ -1,7 +1,7 @@
 use Rattle.std.proofs.Common.{◌≡◌, ◌∙◌, Some, ap, map, string_bytes, sym}
 use Rattle.std.proofs.lemmas.Result.{IfOk-weaker}
 use Rattle.toml.specs.{Data.get_member, View.table_view}
-use Rattle.scenario.specs.Scenario.{texts_at}
+use Rattle.plans.specs.Document.{texts_at}
 use Rattle.timing.specs.Document.{list_at}
 use Rattle.timing.proofs.Documents.{list_absent, list_there}
 use Rattle.timing.proofs.document.lines_or_none.Goals as goal

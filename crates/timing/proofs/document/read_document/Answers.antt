@@ -1,7 +1,7 @@
 use Rattle.std.proofs.Common.{◌≡◌, arith}
 use Rattle.toml.specs.View.{table_view}
-use Rattle.scenario.proofs.Texts.{key_count-entries}
-use Rattle.scenario.specs.Scenario.{key_count}
+use Rattle.plans.proofs.Documents.{key_count-entries}
+use Rattle.plans.specs.Document.{key_count}
 use Rattle.timing.specs.Document.{known_keys}
 use Rattle.timing.proofs.Documents.{read_all, other_count}
 use Rattle.timing.proofs.document.read_document.Goals as goal

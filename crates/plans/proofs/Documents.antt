@@ -1,8 +1,17 @@
--- What a document's table says of the four lists.
-use Rattle.std.proofs.Common.{◌≡◌, List, Option, Some, None, option_and_then, refl, sym, ap, ◌∙◌, codes, ne_eqb}
-use Rattle.toml.specs.Data.{Data, array, as_array, Items, Members, get_member}
+-- What a document's table says of the four lists, and the texts of an array as far as they are read.
+use Rattle.std.proofs.Common.{◌≡◌, List, [], ◌∷◌, ◌++◌, length, Option, Some, None, option_map, option_and_then, refl, sym, ap, ◌∙◌, codes, ne_eqb, arith}
+use Rattle.toml.specs.{Data.Data, Data.array, Data.as_array, Data.Items, Data.Members, Data.get_member, View.members_view}
+use Rattle.toml.proofs.Views.{Entry}
 use Rattle.texts.specs.Words.{Text}
-use Rattle.scenario.specs.Scenario.{texts_of, array_texts, texts_at, key_count, lists_in}
+use Rattle.plans.specs.Document.{texts_of, array_texts, texts_at, key_count, lists_in}
+
+-- the texts so far, before the texts of the rest
+abbrev pub after : List Text → Option (List Text) → Option (List Text)
+after done rest = option_map (λ ts. done ++ ts) rest
+
+pub key_count-entries : (es : List Entry) → key_count (members_view es) ≡ length es
+key_count-entries [] = refl
+key_count-entries (e ∷ es) = rw (key_count-entries es) (omega arith)
 
 of_array : (d : Data) (ds : Items) → Some ds ≡ as_array d → array_texts d ≡ texts_of ds
 of_array (array es) ds e = ap texts_of (ap (λ o. elim o [ Some v ↦ v | None ↦ ds ]) (sym e))

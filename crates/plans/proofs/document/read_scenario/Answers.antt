@@ -1,8 +1,8 @@
 use Rattle.std.proofs.Common.{◌≡◌, arith}
 use Rattle.toml.specs.View.{table_view}
-use Rattle.scenario.proofs.{Texts.key_count-entries, Document.read_all, Document.other_count}
-use Rattle.scenario.specs.Scenario.{key_count}
-use Rattle.scenario.proofs.lines.read_scenario.Goals as goal
+use Rattle.plans.proofs.Documents.{key_count-entries, read_all, other_count}
+use Rattle.plans.specs.Document.{key_count}
+use Rattle.plans.proofs.document.read_scenario.Goals as goal
 
 pub returns-then-len-ne4-clause-bad_key : goal.returns-then-len-ne4-clause-bad_key
 returns-then-len-ne4-clause-bad_key c _ =

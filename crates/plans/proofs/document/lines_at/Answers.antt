@@ -1,9 +1,9 @@
 use Rattle.std.proofs.Common.{◌≡◌, sym, ap, ◌∙◌}
 use Rattle.toml.specs.View.{table_view, items_view, view}
 use Rattle.toml.proofs.Views.{table_get}
-use Rattle.scenario.specs.Scenario.{texts_of, texts_at}
-use Rattle.scenario.proofs.Document.{at_array, at_other, at_nothing}
-use Rattle.scenario.proofs.lines.lines_at.Goals as goal
+use Rattle.plans.specs.Document.{texts_of, texts_at}
+use Rattle.plans.proofs.Documents.{at_array, at_other, at_nothing}
+use Rattle.plans.proofs.document.lines_at.Goals as goal
 
 -- the key has an array
 at_strings : (c : goal.After-strings) → texts_at c.args.key.now (table_view c.args.table.now) ≡ texts_of (items_view c.deref.result.now)

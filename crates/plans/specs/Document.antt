@@ -1,7 +1,9 @@
 -- What a document says as a scenario.
 use Rattle.std.specs.Prelude.{◌≡◌, ℕ, ◌+◌, ◌==◌, if◌then◌else◌, List, [], ◌∷◌, Option, Some, None, codes, option_map, option_and_then}
 use Rattle.toml.specs.Data.{Data, string, array, Items, no_items, item, Members, no_members, member, get_member}
-use Rattle.texts.specs.{Words.Text, Lists.Lists}
+use Rattle.texts.specs.{Words.Text, Lists.Lists, Lists.lists_of}
+use Rattle.faults.specs.declared.kind.FaultKind.{FaultKind}
+use Rattle.plans.specs.declared.document.{Lines.Lines, DocumentFault.DocumentFault}
 
 -- a string's text, put before other texts
 abbrev pub text_before : Data → Option (List Text) → Option (List Text)
@@ -42,3 +44,13 @@ lists_in t =
 -- a document that has no such lists
 abbrev pub HasNoLists : Option Members → Type 0
 HasNoLists document = (t : Members) × (document ≡ Some t) × (lists_in t ≡ None)
+
+-- the lists that the lines of a scenario are
+abbrev pub lists_in_lines : Lines → Lists
+lists_in_lines l = lists_of l.routers.items l.links.items l.prefixes.items l.script.items
+
+-- as which fault a fault of the document is told
+abbrev pub document_kind : DocumentFault → FaultKind
+document_kind DocumentFault.BadToml = FaultKind.BadToml
+document_kind DocumentFault.BadKey = FaultKind.BadKey
+document_kind DocumentFault.NoMemory = FaultKind.NoMemory
