@@ -17,10 +17,9 @@
 //! ```
 //!
 //! - [`explain`] finds the line in the file (`src/position.rt`), and reads it again to see what is wrong
-//!   (`src/command.rt`, `src/line.rt`). For example, a word is too many, a name is not known, or no link
-//!   joins two routers. If a text is not a TOML document, it says at which place, if keys are missing or
-//!   unknown, it names them, and if the text is not UTF-8, it tells the first byte that is not
-//!   (`src/document.rt`).
+//!   (`src/command.rt`, `src/line.rt`). For example, a word is too many, a name is not known, or no link joins two
+//!   routers. If a text is not a TOML document, it says at which place, if keys are missing or unknown, it names
+//!   them, and if the text is not UTF-8, it tells the first byte that is not (`src/document.rt`).
 //! - If the scenario was only to be checked, other faults are told, too, 20 in all (`src/others.rt`): those that
 //!   need no guess.
 //! - Of a journal the line at fault is shown, and of a document of times the string.

@@ -16,9 +16,8 @@ macro_rules! command_with {
     };
 }
 
-/// The program's exit status after this error: 0 if you asked for help, 2 if memory was refused,
-/// else 1. `Error::print` writes help to the standard output and all else to the standard
-/// error.
+/// The program's exit status after this error: 0 if you asked for help, 2 if memory was refused, else 1.
+/// `Error::print` writes help to the standard output and all else to the standard error.
 pub fn exit_status(error: &Error) -> u8
     ensures help { (kind_of error.now ≡ ErrorKind.DisplayHelp)
         ⊎ (kind_of error.now ≡ ErrorKind.DisplayVersion)

@@ -23,8 +23,7 @@
 //! }
 //! ```
 //!
-//! [`Words`] are what `dualnet` is asked for, [`ViewWords`] what `dualnet-view` is. A [`Format`] is `text` or
-//! `json`.
+//! [`Words`] are what `dualnet` is asked for, [`ViewWords`] what `dualnet-view` is. A [`Format`] is `text` or `json`.
 //!
 //! What always holds: the words that are given are those of the matches that `clap`'s definition has for this
 //! line (`IsAsked` in `specs/Asked.antt`). If that definition finds no fault and a command, the words are

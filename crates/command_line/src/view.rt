@@ -56,9 +56,8 @@ const OUTPUT: Argument = argument!(Output "output" "PATH"
 
 const JSON: Argument = argument!(Flag "json" "" "Write a line of JSON for each state, and no page");
 
-/// What the words ask for. The first word is the program's name. If you ask for help, it comes as an
-/// error too, and `exit_status` knows it by its kind. A file whose name begins with a hyphen stands
-/// after `--`.
+/// What the words ask for. The first word is the program's name. If you ask for help, it comes as an error too, and
+/// `exit_status` knows it by its kind. A file whose name begins with a hyphen stands after `--`.
 pub fn read_view_words<'a>(alloc: Global, words: &'a [&'a str]) -> Result<ViewWords<'a>, Error>
     ensures asked { IfOk result (IsView (matches_of view_program (word_texts words.entry.now))) }
     ensures one { IfOk result NamesOneRun }

@@ -15,17 +15,15 @@ use std::alloc::Global;
 /// What the command line asks for.
 #[derive(Clone, Copy, Debug)]
 pub enum Words<'a> {
-    /// Read the scenario in the file, and say what it holds. Here and below, `explain` asks for more
-    /// about a fault.
+    /// Read the scenario in the file, and say what it holds. Here and below, `explain` asks for more about a fault.
     Check {
         file: &'a str,
         explain: bool,
     },
-    /// Run the script of the scenario in the file, by so many control threads and forwarding
-    /// workers, 1 to 16 of each. Then write the journal to the path, if there is one. Here and in a
-    /// shell, `no_journal` asks to count the steps and to keep none of them: then there is no path,
-    /// and there are one thread and one worker. Here and in a replay, lines are printed in the
-    /// format, and `progress` asks how much is done.
+    /// Run the script of the scenario in the file, by so many control threads and forwarding workers, 1 to 16 of
+    /// each. Then write the journal to the path, if there is one. Here and in a shell, `no_journal` asks to count the
+    /// steps and to keep none of them: then there is no path, and there are one thread and one worker. Here and in a
+    /// replay, lines are printed in the format, and `progress` asks how much is done.
     Run {
         file: &'a str,
         threads: u8,
@@ -68,9 +66,8 @@ pub enum Words<'a> {
     },
 }
 
-/// What the words ask for. The first word is the program's name. If you ask for help, it comes as an
-/// error too, and `exit_status` knows it by its kind. A file whose name begins with a hyphen stands
-/// after `--`.
+/// What the words ask for. The first word is the program's name. If you ask for help, it comes as an error too, and
+/// `exit_status` knows it by its kind. A file whose name begins with a hyphen stands after `--`.
 pub fn read_words<'a>(alloc: Global, words: &'a [&'a str]) -> Result<Words<'a>, Error>
     ensures asked { IfOk result (IsAsked (subcommand_of program (word_texts words.entry.now))) }
     ensures taken { IfOk result (λ _. fault_of program (word_texts words.entry.now) ≡ []) }

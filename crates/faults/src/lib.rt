@@ -1,8 +1,7 @@
 //! The faults that the program and its libraries tell, each with its number and its name, in one table.
 //!
-//! Programs tell faults apart by their numbers, people by their names, and both have to be the same wherever
-//! a fault comes from. So an error that the program prints says which [`FaultKind`] it is, and is displayed
-//! as that:
+//! Programs tell faults apart by their numbers, people by their names, and both have to be the same wherever a fault
+//! comes from. So an error that the program prints says which [`FaultKind`] it is, and is displayed as that:
 //!
 //! ```text
 //! #[derive(.., Error)]
@@ -24,9 +23,8 @@
 //!
 //! A few letters are too short if you meet a fault for the first time, so `advice` has a page of each kind.
 //!
-//! What always holds: no two kinds have one number, and `FaultKind::of` finds the kind of each (`only` of it).
-//! The number, the name and the text of a kind are those of one table (`kind_number`, `name_of` in
-//! `specs/Numbers.antt`).
+//! What always holds: no two kinds have one number, and `FaultKind::of` finds the kind of each (`only` of it). The
+//! number, the name and the text of a kind are those of one table (`kind_number`, `name_of` in `specs/Numbers.antt`).
 //!
 //! What is tricky: nearly all crates stand on this one, so a new number has them proved anew.
 //!

@@ -7,8 +7,7 @@ use faults::FaultKind;
 use std::alloc::AllocFailed;
 use thiserror::Error;
 
-/// Why the text of a journal cannot be read. Its text is its number and name, and the line if it has
-/// one.
+/// Why the text of a journal cannot be read. Its text is its number and name, and the line if it has one.
 #[derive(Clone, Copy, Debug, Drop, Error)]
 #[error("{}", FaultKind::from(*self))]
 pub enum JournalFault {

@@ -1,9 +1,8 @@
 //! The text of a journal: written, read, and compared with a network's state.
 //!
-//! A run has to be repeatable, also by others and later. The script alone does not say what was done,
-//! because `settle` may leave the order to threads. So a run writes down each step that it did, in the words
-//! of a script, and behind them a report of what they made. A *replay* does the steps again, and compares
-//! the reports.
+//! A run has to be repeatable, also by others and later. The script alone does not say what was done, because
+//! `settle` may leave the order to threads. So a run writes down each step that it did, in the words of a script, and
+//! behind them a report of what they made. A *replay* does the steps again, and compares the reports.
 //!
 //! ```text
 //! dualnet journal 2                    the heading, with the version

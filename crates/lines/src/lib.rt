@@ -31,8 +31,7 @@
 //! - [`LinkState`], [`RouterState`] and [`MachineState`] are plain records of what each is at, and `run_states`
 //!   compares them from step to step.
 //!
-//! - The first key of an object is `kind`, by which a reader knows the other keys, which come in one
-//!   order.
+//! - The first key of an object is `kind`, by which a reader knows the other keys, which come in one order.
 //! - A distance is null if no way is known (`distance_json`), and a row's prefix and entry are null if none
 //!   was found.
 //! - What `--explain` adds has kinds of its own: `awaits`, `owes`, `attached`, `neighbour`.

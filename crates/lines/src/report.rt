@@ -76,8 +76,7 @@ fn print_links<W: Write>(printer: &Printer<'_>, links: &Links, out: &mut W) -> i
     Ok(())
 }
 
-// Prints each router, up to the 65535th, with its machines. A network of the program has no more than
-// 256.
+// Prints each router, up to the 65535th, with its machines. A network of the program has no more than 256.
 fn print_routers<W: Write>(printer: &Printer<'_>, world: &World, out: &mut W) -> io::Result<()>
     ensures { OnOk result (Prints (W.contents out.old) (W.contents out.new)) }
 {

@@ -94,8 +94,7 @@ fn strings(alloc: Global, values: &[Value]) -> Result<Vec<String>, DocumentFault
 pub enum DocumentFault {
     /// It is no TOML document.
     BadToml,
-    /// It has not exactly the keys `routers`, `links`, `prefixes` and `script`, each with an array
-    /// of strings.
+    /// It has not exactly the keys `routers`, `links`, `prefixes` and `script`, each with an array of strings.
     BadKey,
     /// A growth was refused.
     NoMemory,

@@ -37,9 +37,8 @@
 //! `interpreter/specs/Commands.antt` says what each command does.
 //!
 //! What is tricky: a write that fails is lost, and changes nothing else, but that a shell ends at an answer which
-//! nobody reads any more. What is printed is not in these
-//! clauses, but for the texts of single lines. With other thresholds, and a gate that threads call, tests start
-//! threads in a small network.
+//! nobody reads any more. What is printed is not in these clauses, but for the texts of single lines. With other
+//! thresholds, and a gate that threads call, tests start threads in a small network.
 //!
 //! Where there was a choice:
 //!
@@ -48,9 +47,8 @@
 //!   at its end is 49 without a place: what the run printed stands, and the status is 2.
 //! - A fault in a shell is told without a place. A shell has one control thread and one worker, and its
 //!   words `help`, `say` and `quit` are 45 in a script, where they would do nothing.
-//! - A journal that is full (19) is followed by a line that says how many steps were done. A replay
-//!   that wants memory prints `step K refused: 20 NoMemory` if a step does, and otherwise `20
-//!   NoMemory`.
+//! - A journal that is full (19) is followed by a line that says how many steps were done. A replay that wants memory
+//!   prints `step K refused: 20 NoMemory` if a step does, and otherwise `20 NoMemory`.
 #![tactic(auto)]
 
 mod checking;

@@ -99,8 +99,7 @@ fn do_journal<W: Write, E: Write>(
     }
 }
 
-// Tells of the step that is refused after so many: its line of the journal, when its refusal comes, and what to
-// do.
+// Tells of the step that is refused after so many: its line of the journal, when its refusal comes, and what to do.
 fn explain_refusal<E: Write>(
     directory: &Directory,
     links: &[LinkSpec],

@@ -21,10 +21,9 @@
 //!
 //! If the moments of the steps are given, each line but the opening's has its own, for example `"moment":120`.
 //!
-//! [`write_states`] does lawful steps from the opening. [`run_from_opening`] says how many steps of a list are lawful.
-//! Before each step it marks what the step may change
-//! (`MarksTouched` in `specs/Marks.antt`). When a state is told, it compares what is marked with the world, and
-//! writes what differs.
+//! [`write_states`] does lawful steps from the opening. [`run_from_opening`] says how many steps of a list are
+//! lawful. Before each step it marks what the step may change (`MarksTouched` in `specs/Marks.antt`). When a state is
+//! told, it compares what is marked with the world, and writes what differs.
 //!
 //! What always holds (`IsCurrent` in `specs/Recorders.antt`): what is not marked is shown as it is. So after
 //! a line all is shown as it is (`ShowsWorld`), and what is written is a text of the states (`IsStatesText`

@@ -56,8 +56,7 @@ impl Recorder {
         })
     }
 
-    /// Does a step of a world to which a run leads, and marks what it may have changed. Refused, the world
-    /// stays.
+    /// Does a step of a world to which a run leads, and marks what it may have changed. Refused, the world stays.
     pub(crate) fn step(&mut self, world: &mut World, step: Step) -> Result<(), Refusal>
         requires reached { (n : model.Network) × IsReached n world.old }
         requires room { HasRoomForSteps 1 world.old }

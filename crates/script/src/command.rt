@@ -88,11 +88,10 @@ pub(crate) fn read_commands(
     Ok(())
 }
 
-/// The command that a line says: a step, `try STEP`, `up A`, `down A`, `settle`, `settle --seed N`,
-/// `count`, `save`, `restore`, `state A PREFIX`, `table A`, `next A`, `queue A B`, `held A`,
-/// `lookup A ADDR`, `inject A ADDR`, `trace A ADDR`, `trace A ADDR --through`, `drain` or `report`. A
-/// `BadCommand` comes before the fault of a cost, a prefix or an address, but a prefix that the
-/// scenario does not have is a `BadCommand` after all others.
+/// The command that a line says: a step, `try STEP`, `up A`, `down A`, `settle`, `settle --seed N`, `count`, `save`,
+/// `restore`, `state A PREFIX`, `table A`, `next A`, `queue A B`, `held A`, `lookup A ADDR`, `inject A ADDR`, `trace
+/// A ADDR`, `trace A ADDR --through`, `drain` or `report`. A `BadCommand` comes before the fault of a cost, a prefix
+/// or an address, but a prefix that the scenario does not have is a `BadCommand` after all others.
 pub fn read_command(
     names: &Names,
     links: &[LinkSpec],

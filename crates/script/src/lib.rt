@@ -1,9 +1,8 @@
 //! What the lines of a scenario say: names, links, prefixes and commands; and the names of routers.
 //!
 //! People call routers by names, and the network by numbers. Each command, fault and printed row has to be
-//! translated, and a wrong number would be a wrong router. So a name becomes a number once, when a line is
-//! read ([`Names`]), and a number a name once, when a line is written ([`Directory`]). What is written is in
-//! `lines`.
+//! translated, and a wrong number would be a wrong router. So a name becomes a number once, when a line is read
+//! ([`Names`]), and a number a name once, when a line is written ([`Directory`]). What is written is in `lines`.
 //!
 //! ```text
 //!   "a b 5 5"           ->  LinkSpec { a: 0, b: 1, from_a: 5, from_b: 5 }

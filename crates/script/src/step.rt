@@ -21,10 +21,9 @@ struct Way {
     link: u16,
 }
 
-/// The step that a line of a script or of a journal says: `up A B`, `down A B`, `cost A B C`,
-/// `deliver A B`, `publish A`, `release A`, `attach A PREFIX COST` or `detach A PREFIX`. A `BadCommand`
-/// comes before the fault of a prefix, and that before a `BadCost`, but a prefix that the network does
-/// not have is a `BadCommand` after all others.
+/// The step that a line of a script or of a journal says: `up A B`, `down A B`, `cost A B C`, `deliver A B`, `publish
+/// A`, `release A`, `attach A PREFIX COST` or `detach A PREFIX`. A `BadCommand` comes before the fault of a prefix,
+/// and that before a `BadCost`, but a prefix that the network does not have is a `BadCommand` after all others.
 pub fn parse_step(
     names: &Names,
     links: &[LinkSpec],

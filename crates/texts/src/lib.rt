@@ -18,13 +18,11 @@
 //! read_number("080")             // None, and so are "+80" and "4294967296"
 //! ```
 //!
-//! What always holds: each function is exact. It answers `Some` for each text of its form, and for no other
-//! (`some` and `none`, `read` and `every`). What it gives are parts of the text that it was given, so it
-//! takes no memory.
+//! What always holds: each function is exact. It answers `Some` for each text of its form, and for no other (`some`
+//! and `none`, `read` and `every`). What it gives are parts of the text that it was given, so it takes no memory.
 //!
-//! What is tricky: an empty word is a word here. If a form wants none, its reader has to test that (`script`
-//! does). And the `parse` of the kit reads a plus sign and leading zeros, so `read_number` looks for these
-//! first.
+//! What is tricky: an empty word is a word here. If a form wants none, its reader has to test that (`script` does).
+//! And the `parse` of the kit reads a plus sign and leading zeros, so `read_number` looks for these first.
 #![tactic(auto)]
 
 mod lines;

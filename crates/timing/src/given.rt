@@ -14,8 +14,7 @@ pub struct Given<T> {
     pub value: T,
 }
 
-/// So many values: those that are given, the last of a number where it is given twice, and this one for the
-/// others.
+/// So many values: those that are given, the last of a number where it is given twice, and this one for the others.
 pub fn values<T: Copy + Drop>(
     alloc: Global,
     count: usize,

@@ -1,5 +1,4 @@
-//! Runs a network in simulated time, as a scenario and a document of times say, and tells what comes of each
-//! change.
+//! Runs a network in simulated time, as a scenario and a document of times say, and tells what comes of each change.
 //!
 //! A scenario says what a network is, and its script in which order steps are done. Nothing there says how
 //! long a message is on its way. So whoever wants to know when the network is at rest again gives a second

@@ -34,9 +34,8 @@
 //! The texts are read as they stand, because no other tool makes them or packs them.
 //!
 //! What always holds (`IsShown` in `specs/Shown.antt`): status 0 is answered only if the bytes are those of a
-//! scenario, and all steps are lawful. Then their states were written, and lines have the state after each
-//! step. If a step is refused, the states before it are written, a line on `err` tells of it, and the status
-//! is 2.
+//! scenario, and all steps are lawful. Then their states were written, and lines have the state after each step. If a
+//! step is refused, the states before it are written, a line on `err` tells of it, and the status is 2.
 //!
 //! What is tricky: a page has at most 20,000,000 bytes of states. If the states after all steps are more, it
 //! has those after every second step, or every fourth, and so on. So the states are written into a list that
@@ -51,9 +50,8 @@
 //!
 //! - A page has the whole states, and not only those of one prefix, so that you choose the prefix as you
 //!   read. No position of a router is written: the page lays the network out, the same way each time.
-//! - A try for a page ends when it has written 20 MB, so all tries together take about twice as long as
-//!   all states as lines. To write them side by side in one pass took longer: 18.5 seconds in place of
-//!   10.4 for 265,866 steps.
+//! - A try for a page ends when it has written 20 MB, so all tries together take about twice as long as all states as
+//!   lines. To write them side by side in one pass took longer: 18.5 seconds in place of 10.4 for 265,866 steps.
 #![tactic(auto)]
 
 mod code;
