@@ -18,7 +18,8 @@ use std::alloc::Global;
 use std::io::{self, Write};
 use world::{World, notices_at};
 
-/// Prints what a router has to do next, in a network of these links. Refused with `UnknownRouter`. A write that fails is lost.
+/// Prints what a router has to do next, in a network of these links. Refused with `UnknownRouter`. A write that fails
+/// is lost.
 pub fn show_next<W: Write>(
     world: &World,
     links: &[LinkSpec],

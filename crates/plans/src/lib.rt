@@ -41,9 +41,9 @@
 //! (`status_of` in `specs/Faults.antt`).
 //!
 //! What is tricky: a text that is no TOML document is `40 BadToml`, whatever keys it has, and a document with a fifth
-//! key, or a number in a list, is `41 BadKey`. The network's faults come before those of lines, although lines are read first. The
-//! network is made of what was read before the first faulty line. Only a name that is no router's name comes
-//! first.
+//! key, or a number in a list, is `41 BadKey`. The network's faults come before those of lines, although lines are
+//! read first. The network is made of what was read before the first faulty line. Only a name that is no router's
+//! name comes first.
 //!
 //! A document of times is read by `timing`. Where it is at fault is a [`Where`] too, because a scenario and a
 //! document can have faults of one kind, and advice has to know which of them to show.

@@ -27,8 +27,8 @@
 //!
 //! A network is opened as a fabric, whose steps are kept, or, with `--no-journal`, as a simulation, which counts them
 //! alone. On either the commands of the script are done, or those of the lines of a shell (`src/shell.rt`).
-//! `src/opening.rt` opens the network, and closes it whatever comes of them. The commands themselves are in `interpreter`.
-//! The steps of a journal (`src/replay.rt`) are a simulation's, too.
+//! `src/opening.rt` opens the network, and closes it whatever comes of them. The commands themselves are in
+//! `interpreter`. The steps of a journal (`src/replay.rt`) are a simulation's, too.
 //!
 //! What always holds: each command of the command line comes to an end that its definition names, with the
 //! status of that end. Or it stops for a fault that holds of what was read, with the status of that fault

@@ -40,10 +40,10 @@ pub struct Streams<'a, W, E> {
 }
 
 /// Does what the words ask for, and answers the exit status. Only a replay, a shell and a run in simulated time
-/// read `journal`: the shell reads its commands there, and the run its document of times. A fault is a line on `err`, and where the program stops for it,
-/// it is in `told`. A write to `out` or `err` that fails is lost, and changes nothing else, but that a shell
-/// ends at an answer which nobody reads. Where a run or a shell ends with status 0, its journal's text is added to
-/// `kept`, if it is wanted. If the program stops for a fault, nothing is added.
+/// read `journal`: the shell reads its commands there, and the run its document of times. A fault is a line on `err`,
+/// and where the program stops for it, it is in `told`. A write to `out` or `err` that fails is lost, and changes
+/// nothing else, but that a shell ends at an answer which nobody reads. Where a run or a shell ends with status 0,
+/// its journal's text is added to `kept`, if it is wanted. If the program stops for a fault, nothing is added.
 pub fn play<H: Host, G: TurnGate + Sync, R: Read + Drop, J: Read + Drop, W: Write, E: Write>(
     by: &Platform<'_, H, G>,
     words: &Words<'_>,

@@ -30,7 +30,8 @@
 //! those that the document says (`IsTimes` in `specs/Times.antt`), and at the end the network is at rest
 //! (`IsTimedToEnd` in `specs/Ends.antt`).
 //!
-//! What is tricky: no clause says that a document which is right is read, nor how a line is printed. Cases do.
+//! What is tricky: the text of each line is proved (`lines`), but no clause says that a document which is right is
+//! read, nor that each change is told. Cases do.
 #![tactic(auto)]
 
 mod document;
