@@ -126,7 +126,7 @@ impl Both {
         let mut cursor = Prefix::covering(0, 0);
         for _ in &self.rows {
             let row = self.image.first_row_from(cursor);
-            equal(rt, row, self.first_from(cursor));
+            assert_eq!(rt; row, self.first_from(cursor));
             cursor = row.and_then(|row| next_prefix(row.0)).unwrap_or(cursor);
         }
         equal(rt, self.image.row_count(), self.rows.len());
