@@ -32,12 +32,12 @@ pub struct Hands {
 /// Opens a plan's network as a fabric, does its script, or the lines that are typed, and has kept what is to be kept
 /// of its steps.
 pub fn with_fabric<H, G, J, W, E, K, V>(
-    by: &Platform<'_, H, G>,
+    by: &Platform<'_, '_, H, G>,
     plan: Plan,
     hands: Hands,
     style: PrintStyle,
     typed: Option<J>,
-    streams: &mut Streams<'_, W, E>,
+    streams: &mut Streams<'_, '_, W, E>,
     keeper: &mut K,
     kept: &mut V,
 ) -> Result<(), Fault>
@@ -62,13 +62,13 @@ where
 
 // The same, where the network is opened under a name.
 fn with_named<B, H, G, J, W, E, K, V>(
-    by: &Platform<'_, H, G>,
+    by: &Platform<'_, '_, H, G>,
     plan: Plan,
     unnamed: Vec<Unnamed>,
     hands: Hands,
     style: PrintStyle,
     typed: Option<J>,
-    streams: &mut Streams<'_, W, E>,
+    streams: &mut Streams<'_, '_, W, E>,
     keeper: &mut K,
     kept: &mut V,
 ) -> Result<(), Fault>
@@ -127,7 +127,7 @@ fn finish_kept<B, H, G, J, W, E>(
     mut net: Kept<B, H>,
     typed: Option<J>,
     commands: &[Command],
-    streams: &mut Streams<'_, W, E>,
+    streams: &mut Streams<'_, '_, W, E>,
 ) -> (Fabric<B>, Result<(), Fault>)
 where
     B: FabricName + Send + Sync + 'static,
@@ -170,11 +170,11 @@ fn keep<B: FabricName, K: Keeper, V: Write>(
 /// Opens a plan's network as a simulation, and does its script, or the lines that are typed. Nothing is kept of its
 /// steps. No thread is started, and the gate is not called.
 pub fn with_simulation<H: Host, G: TurnGate + Sync, J: Read + Drop, W: Write, E: Write>(
-    by: &Platform<'_, H, G>,
+    by: &Platform<'_, '_, H, G>,
     plan: Plan,
     style: PrintStyle,
     typed: Option<J>,
-    streams: &mut Streams<'_, W, E>,
+    streams: &mut Streams<'_, '_, W, E>,
 ) -> Result<(), Fault>
     ensures ok { OnOk result (Works opening_counted (Comes counted_meaning (is_some typed)) none_kept plan) }
     ensures fault { IfErr result (StopsWork opening_counted IsOfNothing
@@ -202,7 +202,7 @@ fn do_all<B, H, N, G, J, W, E>(
     net: &mut N,
     typed: Option<J>,
     commands: &[Command],
-    streams: &mut Streams<'_, W, E>,
+    streams: &mut Streams<'_, '_, W, E>,
 ) -> Result<(), Fault>
 where
     B: FabricName + Send + Sync + 'static,

@@ -22,21 +22,21 @@ use timing::time;
 
 /// By what the program works.
 #[derive(Drop)]
-pub struct Platform<'a, H, G> {
+pub struct Platform<'r, 'g, H, G> {
     /// The handle of its machine.
-    pub rt: &'a H,
+    pub rt: &'r H,
     pub alloc: Global,
     /// With how many rows to publish threads are started.
     pub thresholds: Thresholds,
     /// What these threads call.
-    pub gate: &'a G,
+    pub gate: &'g G,
 }
 
 /// Where the program prints, and where it tells of faults. What cannot be written is lost.
 #[derive(Drop)]
-pub struct Streams<'a, W, E> {
-    pub out: &'a mut W,
-    pub err: &'a mut E,
+pub struct Streams<'o, 'e, W, E> {
+    pub out: &'o mut W,
+    pub err: &'e mut E,
 }
 
 /// Does what the words ask for, and answers the exit status. Only a replay, a shell and a run in simulated time
@@ -45,11 +45,11 @@ pub struct Streams<'a, W, E> {
 /// nothing else, but that a shell ends at an answer which nobody reads. Where a run or a shell ends with status 0,
 /// its journal's text is added to `kept`, if it is wanted. If the program stops for a fault, nothing is added.
 pub fn play<H: Host, G: TurnGate + Sync, R: Read + Drop, J: Read + Drop, W: Write, E: Write>(
-    by: &Platform<'_, H, G>,
+    by: &Platform<'_, '_, H, G>,
     words: &Words<'_>,
     scenario: R,
     journal: J,
-    streams: &mut Streams<'_, W, E>,
+    streams: &mut Streams<'_, '_, W, E>,
     wanted: bool,
     kept: &mut Vec<u8>,
     told: &mut Option<Fault>,
@@ -70,11 +70,11 @@ pub fn play<H: Host, G: TurnGate + Sync, R: Read + Drop, J: Read + Drop, W: Writ
 
 // Does what the words ask for.
 fn do_words<H: Host, G: TurnGate + Sync, R: Read + Drop, J: Read + Drop, W: Write, E: Write>(
-    by: &Platform<'_, H, G>,
+    by: &Platform<'_, '_, H, G>,
     words: &Words<'_>,
     scenario: R,
     journal: J,
-    streams: &mut Streams<'_, W, E>,
+    streams: &mut Streams<'_, '_, W, E>,
     wanted: bool,
     kept: &mut Vec<u8>,
 ) -> Result<Outcome, Fault>
@@ -156,13 +156,13 @@ fn do_words<H: Host, G: TurnGate + Sync, R: Read + Drop, J: Read + Drop, W: Writ
 // Does the script of a scenario, or the lines that are typed, on a network whose steps are kept, and adds the text of
 // its journal, if it is wanted.
 fn keep<H: Host, G: TurnGate + Sync, R: Read + Drop, J: Read + Drop, W: Write, E: Write>(
-    by: &Platform<'_, H, G>,
+    by: &Platform<'_, '_, H, G>,
     scenario: R,
     hands: Hands,
     wanted: bool,
     style: PrintStyle,
     typed: Option<J>,
-    streams: &mut Streams<'_, W, E>,
+    streams: &mut Streams<'_, '_, W, E>,
     kept: &mut Vec<u8>,
 ) -> Result<Outcome, Fault>
     ensures ok { IfOk result (λ end. (end ≡ Outcome.Done) × OfBytes (R.remaining scenario)
@@ -197,11 +197,11 @@ fn add(kept: &mut Vec<u8>, mut made: Vec<u8>) -> Result<(), NoMemory>
 
 // The same on a network whose steps are counted. Nothing is kept.
 fn count<H: Host, G: TurnGate + Sync, R: Read + Drop, J: Read + Drop, W: Write, E: Write>(
-    by: &Platform<'_, H, G>,
+    by: &Platform<'_, '_, H, G>,
     scenario: R,
     style: PrintStyle,
     typed: Option<J>,
-    streams: &mut Streams<'_, W, E>,
+    streams: &mut Streams<'_, '_, W, E>,
 ) -> Result<Outcome, Fault>
     ensures ok { IfOk result (λ end. (end ≡ Outcome.Done) × OfBytes (R.remaining scenario)
         (IsWorked opening_counted (Comes counted_meaning (is_some typed)) none_kept)) }

@@ -33,7 +33,7 @@ pub fn replay<R: Read + Drop, J: Read + Drop, W: Write, E: Write>(
     scenario: R,
     journal: J,
     style: PrintStyle,
-    streams: &mut Streams<'_, W, E>,
+    streams: &mut Streams<'_, '_, W, E>,
 ) -> Result<Outcome, Fault>
     ensures ok { IfOk result (λ end. OfBytes (R.remaining scenario) (λ bytes.
         OfBytes (J.remaining journal) (λ lines. Replays bytes lines end))) }
@@ -66,7 +66,7 @@ fn do_journal<W: Write, E: Write>(
     interpreter: &Interpreter<'_, NoGate>,
     live: &mut Counted,
     journal: &Journal<'_>,
-    streams: &mut Streams<'_, W, E>,
+    streams: &mut Streams<'_, '_, W, E>,
 ) -> Result<Outcome, Fault>
     requires { (live.old).simulation.steps ≡ 0 }
     ensures ok { IfOk result (StepsReplay journal.now.version journal.now.steps.items
@@ -169,7 +169,7 @@ fn compare<W: Write, E: Write>(
     interpreter: &Interpreter<'_, NoGate>,
     world: &World,
     journal: &Journal<'_>,
-    streams: &mut Streams<'_, W, E>,
+    streams: &mut Streams<'_, '_, W, E>,
 ) -> Result<Outcome, Fault>
     ensures end { IfOk result (λ end. (end ≡ Outcome.Done) ⊎ (end ≡ Outcome.Differs)) }
     ensures fault { IfErr result IsWantOfMemory }

@@ -21,7 +21,7 @@ pub fn do_lines<B, H, N, G, J, W, E>(
     interpreter: &Interpreter<'_, G>,
     net: &mut N,
     input: J,
-    streams: &mut Streams<'_, W, E>,
+    streams: &mut Streams<'_, '_, W, E>,
 ) -> Result<(), Fault>
 where
     B: FabricName + Send + Sync + 'static,
@@ -61,7 +61,7 @@ fn do_line<B, H, N, G, W, E>(
     net: &mut N,
     number: usize,
     line: &[u8],
-    streams: &mut Streams<'_, W, E>,
+    streams: &mut Streams<'_, '_, W, E>,
 ) -> bool
 where
     B: FabricName + Send + Sync + 'static,
@@ -210,7 +210,7 @@ fn print_fault<G, W: Write, E: Write>(
     interpreter: &Interpreter<'_, G>,
     typed: &Typed<'_>,
     kind: FaultKind,
-    streams: &mut Streams<'_, W, E>,
+    streams: &mut Streams<'_, '_, W, E>,
 ) {
     let _ = streams.out.flush();
     let _ = refuse(Fault::from(kind), streams.err);
