@@ -3,37 +3,16 @@
 use crate::written::is_written;
 use command_line::Format;
 use lines::{
-    Answer, Asked, Line, LinkLine, LinkState, MachineLine, MachineState, Printer, RouterLine,
-    RouterState, Told,
+    Answer, Asked, LinkLine, LinkState, MachineLine, MachineState, Printer, RouterLine, RouterState,
+    Told,
 };
 use metric::{Cost, Distance};
 use network_model::{Entry, Prefix};
 use play::read_plan;
-use script::Directory;
-use std::alloc::Global;
 use std::process::Abort;
 
 // Routers a and b, with a link.
 const PAIR: &str = "routers = [\"a\", \"b\"]\nlinks = [\"a b 1 1\"]\nprefixes = []\nscript = []\n";
-
-// A line is written so for people, and so as an object of JSON.
-fn is_line(
-    rt: &impl Abort,
-    alloc: Global,
-    directory: &Directory,
-    line: &Line<'_>,
-    text: &str,
-    object: &str,
-) {
-    for (format, wanted) in [(Format::Text, text), (Format::Json, object)] {
-        let printer = Printer {
-            directory,
-            format,
-            listed: false,
-        };
-        is_written(rt, alloc, &Told(printer, line), wanted);
-    }
-}
 
 const ROUTER: RouterLine = RouterLine {
     router: 1,
@@ -95,49 +74,78 @@ fn numbers_that_no_run_reaches(rt: HostRuntime) {
     let alloc = rt.alloc();
     let plan = read_plan(alloc, PAIR).ok().expect(&rt, "a plan");
     let directory = &plan.directory;
+    let people = Printer {
+        directory,
+        format: Format::Text,
+        listed: false,
+    };
+    let json = Printer {
+        format: Format::Json,
+        ..people
+    };
     let prefix = Prefix::covering(0x0a00_0000, 8);
-    is_line(
+    is_written(
         &rt,
         alloc,
-        directory,
-        &Line::Link(link(&rt)),
+        &Told(people, link(&rt)),
         "link b a down 65535 1 65535 queued 0 70000",
+    );
+    is_written(
+        &rt,
+        alloc,
+        &Told(json, link(&rt)),
         "{\"kind\":\"link\",\"a\":\"b\",\"b\":\"a\",\"up\":false,\"session\":65535,\
         \"costs\":[1,65535],\"queued\":[0,70000]}",
     );
-    is_line(
+    is_written(
         &rt,
         alloc,
-        directory,
-        &Line::Router(ROUTER),
+        &Told(people, ROUTER),
         "b gen 18446744073709551615 held 3 ripe 2 attach 70000",
+    );
+    is_written(
+        &rt,
+        alloc,
+        &Told(json, ROUTER),
         "{\"kind\":\"router\",\"router\":\"b\",\"generation\":18446744073709551615,\
         \"held\":3,\"ripe\":2,\"notices\":70000}",
     );
-    is_line(
+    is_written(
         &rt,
         alloc,
-        directory,
-        &Line::Machine(machine(prefix)),
+        &Told(people, machine(prefix)),
         "b 10.0.0.0/8 active 3 RD 4294967294 FD inf unreachable",
+    );
+    is_written(
+        &rt,
+        alloc,
+        &Told(json, machine(prefix)),
         "{\"kind\":\"machine\",\"router\":\"b\",\"prefix\":\"10.0.0.0/8\",\"active\":3,\
         \"rd\":4294967294,\"fd\":null,\"entry\":\"unreachable\"}",
     );
-    is_line(
+    is_written(
         &rt,
         alloc,
-        directory,
-        &Line::Asked(row(prefix)),
+        &Told(people, row(prefix)),
         "b 10.0.0.0/8 via a 65535",
+    );
+    is_written(
+        &rt,
+        alloc,
+        &Told(json, row(prefix)),
         "{\"kind\":\"row\",\"router\":\"b\",\"prefix\":\"10.0.0.0/8\",\"entry\":\"via\",\
         \"neighbour\":\"a\",\"session\":65535}",
     );
-    is_line(
+    is_written(
         &rt,
         alloc,
-        directory,
-        &Line::Asked(Asked::Packet(u64::MAX, ANSWER)),
+        &Told(people, Asked::Packet(u64::MAX, ANSWER)),
         "packet 18446744073709551615 a 255.255.255.255: none",
+    );
+    is_written(
+        &rt,
+        alloc,
+        &Told(json, Asked::Packet(u64::MAX, ANSWER)),
         "{\"kind\":\"packet\",\"job\":18446744073709551615,\"router\":\"a\",\
         \"address\":\"255.255.255.255\",\"prefix\":null,\"entry\":null}",
     );
