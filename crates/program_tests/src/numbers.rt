@@ -3,8 +3,8 @@
 use crate::written::is_written;
 use command_line::Format;
 use lines::{
-    Answer, Asked, LinkLine, LinkState, MachineLine, MachineState, Printer, RouterLine, RouterState,
-    Told,
+    Answer, Asked, LinkLine, LinkState, MachineLine, MachineState, Printer, RouterLine,
+    RouterState, Told,
 };
 use metric::{Cost, Distance};
 use network_model::{Entry, Prefix};
