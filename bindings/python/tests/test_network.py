@@ -6,8 +6,11 @@ import itertools
 import math
 import pickle
 import random
+import signal
+import time
 import unittest
 from ipaddress import IPv4Network
+from unittest import mock
 
 import tuhvondi
 from tuhvondi import End, Kind, Network, Step, StepKind, graphs
@@ -177,6 +180,59 @@ class Steps(unittest.TestCase):
         self.assertEqual({row.kind for row in network.table("b")}, {Kind.VIA})
 
 
+class Parts(unittest.TestCase):
+    """Long calls are done part by part."""
+
+    def test_parts_take_about_as_long_as_they_are_to(self):
+        clock, parts = [0.0], []
+        network = Network("a", [])
+
+        def call(wanted, done):
+            parts.append(wanted)
+            clock[0] += wanted * (0.001 if len(parts) < 4 else 1e-5)
+            done.value = wanted
+
+        with mock.patch.object(time, "perf_counter", lambda: clock[0]):
+            network._in_parts(2000, call, lambda counts: None)
+        # A quarter of a second at first; then events take a hundredth of the time.
+        self.assertEqual(parts, [256, 50, 50, 50, 200, 800, 594])
+
+    def test_a_settling_is_the_same_each_time_and_tells_how_far_it_is(self):
+        routers = range(40)
+        links = [(near, (near + gap) % 40, 1) for gap in (1, 3) for near in routers]
+        for seed in (0, 9):
+            network, told = Network(routers, links), []
+            other, whole = network.copy(), Network(routers, links)
+            counts = network.settle(seed, progress=told.append)
+            self.assertGreater(counts.steps, 4096)
+            self.assertEqual([each.steps for each in told], [*range(4096, counts.steps, 4096), counts.steps])
+            self.assertEqual(told[-1], counts)
+            self.assertEqual(other.settle(seed), counts)
+            self.assertEqual(whole.settle(seed, most=4096), told[0])
+
+    def test_an_interrupt_is_heard(self):
+        """It comes after a tenth of a second of the processor's time, and then it takes no more than another."""
+        def interrupt(*_):
+            raise KeyboardInterrupt
+
+        routers = range(1000)
+        links = [(near, (near + gap) % 1000, 1) for gap in (1, 7) for near in routers]
+        attachments = tuhvondi.default_attachments(routers[:20])
+        before = signal.signal(signal.SIGPROF, interrupt)
+        try:
+            for network in (Network(routers, links, attachments), tuhvondi.TimedNetwork(routers, links, attachments)):
+                run = network.settle if isinstance(network, Network) else network.run_to_rest
+                began = time.process_time()
+                signal.setitimer(signal.ITIMER_PROF, 0.1)
+                with self.assertRaises(KeyboardInterrupt):
+                    run()
+                self.assertLess(time.process_time() - began, 0.3)
+                self.assertGreater(network.counts.steps, 0)
+        finally:
+            signal.setitimer(signal.ITIMER_PROF, 0)
+            signal.signal(signal.SIGPROF, before)
+
+
 class Copies(unittest.TestCase):
     def assert_same(self, one, other):
         self.assertEqual(one.counts, other.counts)
@@ -246,8 +302,13 @@ class Graphs(unittest.TestCase):
         def twice(_near, _far, data):
             return data["delay"] * 2
 
-        for given, cost in (("weight", 3), ("delay", 7), ("none", 1), (9, 9), (twice, 14)):
+        for given, cost in (("weight", 3), ("delay", 7), (9, 9), (twice, 14)):
             self.assertEqual(Network.from_networkx(graph, cost=given).link("a", "b").cost, cost)
+        plain = graphs.Graph({"a": {}, "b": {}}, [("a", "b", {})], False)
+        self.assertEqual(Network.from_networkx(plain).link("a", "b").cost, 1)
+        for made in (graph, plain):
+            with self.assertRaisesRegex(ValueError, "no edge has the attribute 'wieght'"):
+                Network.from_networkx(made, cost="wieght")
         for wrong in (0, 65536, 1.5, "x", None, math.nan, math.inf):
             with self.assertRaises(tuhvondi.BadCost):
                 Network.from_networkx(graphs.Graph(graph.nodes, [("a", "b", {"weight": wrong})], False))
@@ -320,6 +381,26 @@ class Refusals(unittest.TestCase):
                 call()
             self.assertEqual((caught.exception.number, caught.exception.name), (status, expected.__name__))
         self.assertEqual(network.counts, before)
+
+    def test_what_is_no_whole_number(self):
+        network = Network("ab", [("a", "b", 1)])
+        timed = tuhvondi.TimedNetwork("ab", [("a", "b", 1)])
+        for call in (lambda: network.settle(most=1.5), lambda: network.settle(seed="x"), lambda: network.settle(most=-1),
+                     lambda: timed.run_to_rest(most=2.5), lambda: timed.run_until(1e6),
+                     lambda: timed.at(1e7, Step(StepKind.LINK_DOWN, "a", "b"))):
+            with self.assertRaisesRegex(ValueError, "whole number|outside"):
+                call()
+        self.assertEqual((network.counts.steps, timed.counts.steps), (1, 0))
+
+    def test_a_prefix_that_the_network_does_not_have(self):
+        other = "11.0.0.0/8"
+        for network in (Network("ab", [("a", "b", 1)]), tuhvondi.TimedNetwork("ab", [("a", "b", 1)])):
+            for call in (lambda: network.state("a", other), lambda: network.distance("a", other),
+                         lambda: network.distances(other)):
+                with self.assertRaisesRegex(tuhvondi.UnknownPrefix, other):
+                    call()
+        with self.assertRaises(tuhvondi.UnknownPrefix):
+            network.at(5, Step(StepKind.ATTACH, "a", prefix=other, cost=1))
 
     def test_a_link_comes_up_as_often_as_it_can(self):
         network = Network("ab", [("a", "b", 1)], {"a": NET}, up=False)

@@ -118,8 +118,7 @@ class Program(unittest.TestCase):
         self.assertEqual([row["cut"] for row in rows], ["0", "0", "0", "6"])
 
     def test_standard_output(self):
-        done = self.run_it("study", self.graph, "--fail", "each-router", "--prefixes", 1, "--cost", "none",
-                           "--seed", 5)
+        done = self.run_it("study", self.graph, "--fail", "each-router", "--prefixes", 1, "--seed", 5)
         self.assertEqual(done.returncode, 0, done.stderr)
         self.assertEqual(len(done.stdout.splitlines()), 5)
 
@@ -133,6 +132,8 @@ class Program(unittest.TestCase):
                 done = self.run_it(*words)
                 self.assertEqual(done.returncode, status, done.stderr)
                 self.assertNotIn("Traceback", done.stderr)
+        done = self.run_it("study", self.graph, "--cost", "wieght")
+        self.assertEqual((done.returncode, done.stderr), (1, "study: no edge has the attribute 'wieght': they have weight\n"))
         self.graph.write_text(GRAPH.format("0.5"), encoding="utf-8")
         done = self.run_it("study", self.graph)
         self.assertEqual(done.returncode, 1)

@@ -193,10 +193,13 @@ class Graphs(unittest.TestCase):
             self.assertEqual(network.now, expected)
 
     def test_an_edge_without_a_delay(self):
-        file = io.StringIO(self.TEXT.format("undirected", ""))
-        network = TimedNetwork.from_graphml(file, {"a": NET}, delay="latency", publication=PUBLICATIONS)
+        text = self.TEXT.format("undirected", "")
+        network = TimedNetwork.from_graphml(
+            io.StringIO(text.replace('"delay"', '"length"')), {"a": NET}, publication=PUBLICATIONS)
         network.run_to_rest()
         self.assertEqual(network.now, 3030)
+        with self.assertRaisesRegex(ValueError, "no edge has the attribute 'dealy': they have delay"):
+            TimedNetwork.from_graphml(io.StringIO(text), delay="dealy")
 
 
 class Distances(unittest.TestCase):

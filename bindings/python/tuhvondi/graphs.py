@@ -8,8 +8,9 @@ from typing import Any, Callable, Dict, Hashable, Iterator, List, Mapping, Tuple
 from .status import BadCost, BadLink
 
 CostGiven = Union[str, int, Callable[[Hashable, Hashable, Mapping[str, Any]], int]]
-# The delay of an edge that has no such attribute, in microseconds.
-_DELAY = 1000
+# The attributes that count if none is named, and what counts of an edge that has none: a cost, and a delay in
+# microseconds.
+_COST, _DELAY = ("weight", 1), ("delay", 1000)
 
 
 class Graph:
@@ -47,11 +48,18 @@ def _whole(value: Any, where: str, name: str = "cost", fault: Type[ValueError] =
     return int(number)
 
 
-def _value_of(given: CostGiven, near: Hashable, far: Hashable, data: Mapping[str, Any], other: int) -> Any:
-    """What is given of an edge: by the name of its attribute, by a number for all, or by a function."""
-    if callable(given):
-        return given(near, far, data)
-    return data.get(given, other) if isinstance(given, str) else given
+def _edges_of(graph: Any, given: CostGiven, default: Tuple[str, int]) -> "Iterator[tuple[Hashable, Hashable, Any]]":
+    """What is given of each edge: by the name of its attribute, by a number for all, or by a function. A name that
+    somebody has given is not misspelt: some edge has it."""
+    edges = list(graph.edges(data=True))
+    if isinstance(given, str) and given != default[0] and edges and not any(given in data for _, _, data in edges):
+        there = sorted({str(key) for _, _, data in edges for key in data})
+        raise ValueError(f"no edge has the attribute {given!r}: they have {', '.join(there) or 'none'}")
+    for near, far, data in edges:
+        if callable(given):
+            yield near, far, given(near, far, data)
+        else:
+            yield near, far, data.get(given, default[1]) if isinstance(given, str) else given
 
 
 def links_of(graph: Any, cost: CostGiven = "weight") -> "list[tuple[Hashable, Hashable, int, int]]":
@@ -60,15 +68,17 @@ def links_of(graph: Any, cost: CostGiven = "weight") -> "list[tuple[Hashable, Ha
     >>> graph = Graph({"a": {}, "b": {}}, [("a", "b", {"weight": "5"}), ("b", "a", {})], directed=True)
     >>> links_of(graph)
     [('a', 'b', 5, 1)]
+
+    Raises BadLink, BadCost, and ValueError if no edge has the attribute.
     """
     costs: "dict[tuple[Hashable, Hashable], int]" = {}
-    for near, far, data in graph.edges(data=True):
+    for near, far, found in _edges_of(graph, cost, _COST):
         where = f"the edge of {near!r} and {far!r}"
         if near == far:
             raise BadLink(f"{where} is a loop")
         if (near, far) in costs or (not graph.is_directed() and (far, near) in costs):
             raise BadLink(f"{where} has another beside it: make a Graph or a DiGraph of it first")
-        costs[near, far] = _whole(_value_of(cost, near, far, data, 1), where)
+        costs[near, far] = _whole(found, where)
     links: "dict[tuple[Hashable, Hashable], tuple[int, int]]" = {}
     for (near, far), to in costs.items():
         if not graph.is_directed():
@@ -88,11 +98,10 @@ def delays_of(graph: Any, delay: CostGiven = "delay") -> "dict[tuple[Hashable, H
     >>> delays_of(graph)
     {('a', 'b'): 70, ('b', 'a'): 70}
 
-    Raises ValueError if a delay is no whole number.
+    Raises ValueError if a delay is no whole number, or if no edge has the attribute.
     """
     delays: "dict[tuple[Hashable, Hashable], int]" = {}
-    for near, far, data in graph.edges(data=True):
-        found = _value_of(delay, near, far, data, _DELAY)
+    for near, far, found in _edges_of(graph, delay, _DELAY):
         delays[near, far] = _whole(found, f"the edge of {near!r} and {far!r}", "delay", ValueError)
         if not graph.is_directed():
             delays[far, near] = delays[near, far]

@@ -5,6 +5,7 @@ from __future__ import annotations
 import ctypes
 import enum
 import math
+import time
 from ctypes import byref, c_size_t, c_uint8
 from ipaddress import IPv4Address, IPv4Network
 from typing import (Any, Callable, Hashable, Iterable, List, Mapping, NamedTuple, Optional, Sequence,
@@ -26,8 +27,13 @@ LinkGiven = Union[Tuple[Name, Name, int], Tuple[Name, Name, int, int]]
 
 # The widest limits that the library has: of routers, links, links of a router, prefixes and attachments.
 _WIDEST = (65536, 65536, 32, 4294967295, 4294967295)
-# How many steps a call does at most, so that an interrupt from the keyboard is heard.
-_AT_ONCE = 1 << 20
+# Calls end after a while, so that an interrupt from the keyboard is heard and progress is told: with how many steps they
+# begin, how many seconds each is to take, and how many times as many steps as the one before it may do.
+_BEGIN, _SECONDS, _MORE = 256, 0.05, 4
+# A settling does as many steps at a time as there are routers, and at least so many.
+_SETTLES = 4096
+# The largest number that can be given.
+_MOST = 2 ** 64 - 1
 # What stands in the list of what was done: a step, or so many steps of a settling.
 _STEP, _SETTLING = 0, 1
 _RECORD = 24
@@ -330,6 +336,7 @@ class Whole(Owner):
         self._pairs = [(a, b) for a, b, _, _ in given]
         owners = self._owners(default_attachments(self._names) if attachments is None else attachments)
         self._prefixes = sorted({(addr, length) for addr, length, _, _ in owners})
+        self._known = frozenset(self._prefixes)
         self._open(given, owners)
         self._hops = (ctypes.c_uint16 * max(1, len(self._names)))()
 
@@ -482,6 +489,13 @@ class Whole(Owner):
             raise UnknownRouter(repr(router))
         return number
 
+    def _prefix(self, prefix: Prefix) -> "tuple[int, int]":
+        """A prefix of the network. Of another one `inf` would say that routers are cut off from it."""
+        parts = prefix_parts(prefix)
+        if parts not in self._known:
+            raise UnknownPrefix(f"{prefix} is none of the network's")
+        return parts
+
     def _link(self, near: int, far: int) -> int:
         number = self._links.get((near, far))
         if number is None:
@@ -503,21 +517,24 @@ class Whole(Owner):
                 return found[:written.value]
             room *= 4
 
-    def _in_parts(self, most: Optional[int], call: Callable[[int, c_size_t], None]) -> Counts:
+    def _in_parts(self, most: Optional[int], call: Callable[[int, c_size_t], None], told: Callable[[Counts], Any],
+                  each: int = 0) -> Counts:
         """Does at most so many steps, or all, some at a time, and answers how many steps and messages these were.
-        `call` does at most the number that it is given, and writes how many it has done. It raises a refusal."""
+        `call` does at most the number that it is given, and writes how many it has done. It raises a refusal. `told` is
+        told after each part. A part has `each` steps, or else as many as take about `_SECONDS`."""
         before = self.counts
-        left = math.inf if most is None else most
-        if left < 0:
-            raise ValueError(f"there are no {most} steps")
-        done = c_size_t()
+        left = math.inf if most is None else number_of("number `most`", most, _MOST)
+        done, part = c_size_t(), each or _BEGIN
         while left > 0:
-            wanted = int(min(left, _AT_ONCE))
-            done.value = 0
+            wanted = int(min(left, part))
+            done.value, began = 0, time.perf_counter()
             call(wanted, done)
+            took = time.perf_counter() - began
+            told(self.counts.since(before))
             if done.value < wanted:
                 break
             left -= wanted
+            part = each or max(1, int(wanted * min(_MORE, _SECONDS / max(took, 1e-9))))
         return self.counts.since(before)
 
     def _parts_of(self, step: Step) -> "tuple[_library.StepParts, str]":
@@ -526,7 +543,7 @@ class Whole(Owner):
         if kind in (StepKind.ATTACH, StepKind.DETACH):
             if step.prefix is None:
                 raise UnknownPrefix("the step names none")
-            addr, length = prefix_parts(step.prefix)
+            addr, length = self._prefix(step.prefix)
             cost = self._cost(step.cost or 0, f"the attachment of {step.router}") if kind == StepKind.ATTACH else 0
             return _library.StepParts(addr=addr, cost=cost, subject=near, kind=kind, len=length), str(step.prefix)
         if kind in (StepKind.PUBLISH, StepKind.RELEASE):
@@ -649,11 +666,11 @@ class Whole(Owner):
         >>> net.state("c", "10.0.0.0/8") is None
         True
 
-        Raises UnknownRouter.
+        Raises UnknownRouter, UnknownPrefix if it is none of `prefixes`.
         """
         number = self._number(router)
         parts = _library.MachineParts()
-        if not self._machine(number, prefix_parts(prefix), parts):
+        if not self._machine(number, self._prefix(prefix), parts):
             return None
         names = [self._names[far] for far in self._neighbours[number]]
         state = parts.state
@@ -693,10 +710,10 @@ class Whole(Owner):
         >>> net.distance("b", "10.0.0.0/8")
         7
 
-        Raises UnknownRouter.
+        Raises UnknownRouter, UnknownPrefix if it is none of `prefixes`.
         """
         parts = _library.MachineParts()
-        found = self._machine(self._number(router), prefix_parts(prefix), parts)
+        found = self._machine(self._number(router), self._prefix(prefix), parts)
         return distance_of(parts.state.rd) if found else math.inf
 
     def distances(self, prefix: Optional[Prefix] = None) -> "dict[Any, Any]":
@@ -708,6 +725,8 @@ class Whole(Owner):
         {'a': 6, 'b': 1}
         >>> len(net.distances())
         2
+
+        Raises UnknownPrefix if it is none of `prefixes`.
         """
         if prefix is not None:
             return {name: self.distance(name, prefix) for name in self._names}
@@ -897,7 +916,8 @@ class Network(Whole):
 
         `cost` is the cost of an edge, 1 to 65535: the name of its attribute, and 1 if the edge has none; a
         number for all; or a function of the two nodes and the attributes. In a directed graph each edge has
-        an edge back, and each of the two gives the cost from its first node.
+        an edge back, and each of the two gives the cost from its first node. A name that you give has to be
+        that of an attribute of some edge.
 
         >>> import networkx
         >>> net = Network.from_networkx(networkx.cycle_graph(4), {0: "10.0.0.0/8"}, cost=10)
@@ -905,8 +925,8 @@ class Network(Whole):
         >>> net.distances("10.0.0.0/8")
         {0: 1, 1: 11, 2: 21, 3: 11}
 
-        Raises BadLink for loops, for parallel edges, and for an edge without an edge back. Others are as for
-        a Network.
+        Raises BadLink for loops, for parallel edges, and for an edge without an edge back, ValueError if no edge
+        has the attribute. Others are as for a Network.
         """
         return cls(list(graph.nodes), graphs.links_of(graph, cost), attachments, up=up)
 
@@ -1012,7 +1032,7 @@ class Network(Whole):
 
         Raises UnknownRouter, BadCost, UnknownPrefix if it is none of `prefixes`, NoMemory.
         """
-        addr, length = prefix_parts(prefix)
+        addr, length = self._prefix(prefix)
         value = self._cost(cost, f"the attachment of {router}")
         self._step(_library.StepParts(addr=addr, cost=value, subject=self._number(router),
                                       kind=StepKind.ATTACH, len=length), str(prefix))
@@ -1028,34 +1048,38 @@ class Network(Whole):
 
         Raises UnknownRouter, UnknownPrefix, NotAttached, NoMemory.
         """
-        addr, length = prefix_parts(prefix)
+        addr, length = self._prefix(prefix)
         self._step(_library.StepParts(addr=addr, subject=self._number(router), kind=StepKind.DETACH,
                                       len=length), str(prefix))
 
-    def settle(self, seed: int = 0, most: Optional[int] = None) -> Counts:
+    def settle(self, seed: int = 0, most: Optional[int] = None, *,
+               progress: Optional[Callable[[Counts], Any]] = None) -> Counts:
         """Lets routers do what they have to do until nothing is left to do, or at most so many steps. Answers
         how many steps and messages these were.
 
         Routers take turns in the order in which you named them, or in a pseudo-random order that the seed
-        determines, 1 to 2^64 - 1. Each order ends.
+        determines, 1 to 2^64 - 1. Each order ends, and begins anew after 4096 steps, or after as many as there
+        are routers if these are more: then an interrupt from the keyboard is heard, and `progress`, a function of
+        what was done so far, is called. It is so many steps and no time, so that the same seed does the same again.
 
         >>> net = Network("ab", [("a", "b", 5)])
         >>> net.settle(most=3).steps, net.is_settled
         (3, False)
-        >>> net.settle(seed=7).steps > 0, net.is_settled
+        >>> net.settle(seed=7, progress=lambda counts: print(counts.messages, "messages")).steps > 0, net.is_settled
+        4 messages
         (True, True)
 
-        Raises StepsSpent, NoMemory. The steps before stay done.
+        Raises ValueError if the seed or `most` is no whole number, StepsSpent, NoMemory. The steps before stay done.
         """
-        number_of("seed", seed, 2 ** 64 - 1)
+        number = number_of("seed", seed, _MOST)
 
         def settle(wanted: int, done: c_size_t) -> None:
-            status = self._library.network_settle(self._at, seed, wanted, byref(done))
+            status = self._library.network_settle(self._at, number, wanted, byref(done))
             if done.value:
-                self._done += b"".join(it.to_bytes(8, "little") for it in (_SETTLING, seed, done.value))
+                self._done += b"".join(it.to_bytes(8, "little") for it in (_SETTLING, number, done.value))
             self._need(status)
 
-        return self._in_parts(most, settle)
+        return self._in_parts(most, settle, progress or (lambda counts: None), max(_SETTLES, len(self._names)))
 
     def next_step(self, router: Name) -> Optional[Step]:
         """What a router has to do next: a release; if it has none, a publication; else a delivery from its

@@ -6,8 +6,9 @@ import ctypes
 import enum
 import functools
 import math
+import operator
 from ipaddress import IPv4Address, IPv4Network
-from typing import Iterable, NamedTuple, Optional, Union
+from typing import Any, Iterable, NamedTuple, Optional, Union
 
 from . import _library
 from .status import BadCost
@@ -123,11 +124,15 @@ def cost_number(cost: int) -> int:
     return int(cost)
 
 
-def number_of(name: str, value: int, most: int) -> int:
-    """A number from 0 to a maximum, because ctypes would cut a larger one."""
-    if not 0 <= value <= most:
-        raise ValueError(f"the {name} {value} is outside 0 to {most}")
-    return value
+def number_of(name: str, value: Any, most: int) -> int:
+    """A whole number from 0 to a maximum, because ctypes would cut a larger one, and refuse 1e6 in its own words."""
+    try:
+        number = operator.index(value)
+    except TypeError:
+        raise ValueError(f"the {name} is {value!r}, and has to be a whole number, as 1_000_000 and int(1e6) are") from None
+    if not 0 <= number <= most:
+        raise ValueError(f"the {name} {number} is outside 0 to {most}")
+    return number
 
 
 def distance_of(value: int) -> Distance:

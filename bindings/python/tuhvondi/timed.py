@@ -2,7 +2,6 @@
 
 from __future__ import annotations
 
-import operator
 from ctypes import byref, c_size_t, c_uint8, c_uint64
 from ipaddress import IPv4Network
 from typing import Any, Callable, Iterable, List, Mapping, NamedTuple, Optional, Tuple, Union
@@ -15,6 +14,8 @@ from .rows import network_of, number_of
 DelayGiven = Union[int, Mapping[Tuple[Name, Name], int], Callable[[Name, Name], int]]
 # How long a router takes to publish: a number for all, by its name, or a function of it.
 PublicationGiven = Union[int, Mapping[Name, int], Callable[[Name], int]]
+# What is told how far a run is: what was done so far, and the moment of the last event.
+Progress = Callable[[Counts, int], Any]
 
 # The last moment that the clock can show, at which nothing is done any more.
 _LAST = 2 ** 64 - 1
@@ -121,7 +122,7 @@ class TimedNetwork(Whole):
             found = found(a, b)
         elif isinstance(found, Mapping):
             found = found[a, b] if (a, b) in found else found.get((b, a))
-        return self._microseconds(found, f"delay from {a!r} to {b!r}")
+        return number_of(f"delay from {a!r} to {b!r}", found, _LAST)
 
     def _to_publish(self, name: Name) -> int:
         """How long a router takes to publish."""
@@ -130,15 +131,7 @@ class TimedNetwork(Whole):
             found = found(name)
         elif isinstance(found, Mapping):
             found = found.get(name)
-        return self._microseconds(found, f"publication of {name!r}")
-
-    @staticmethod
-    def _microseconds(value: Any, what: str) -> int:
-        try:
-            number = operator.index(value)
-        except TypeError:
-            raise ValueError(f"the {what} is {value!r}, and no whole number of microseconds") from None
-        return number_of(what, number, _LAST)
+        return number_of(f"publication of {name!r}", found, _LAST)
 
     # ---- making a network of a graph
 
@@ -158,7 +151,8 @@ class TimedNetwork(Whole):
         >>> net.now
         200
 
-        Raises ValueError if a delay is no whole number. Others are as for `Network.from_networkx`.
+        Raises ValueError if a delay is no whole number, or if no edge has the attribute that you name. Others are as
+        for `Network.from_networkx`.
         """
         return cls(list(graph.nodes), graphs.links_of(graph, cost), attachments,
                    delay=graphs.delays_of(graph, delay), publication=publication, up=up, record=record)
@@ -196,8 +190,8 @@ class TimedNetwork(Whole):
         NoMemory.
         """
         parts, detail = self._parts_of(step)
-        number_of("moment", moment, _LAST)
-        self._need(self._library.network_at(self._at, moment, byref(parts)), detail)
+        number = number_of("moment", moment, _LAST)
+        self._need(self._library.network_at(self._at, number, byref(parts)), detail)
 
     def withdraw(self) -> Optional[Event]:
         """Takes the first of the changes that are to be done off the list, or answers None. So you go on if a
@@ -218,9 +212,10 @@ class TimedNetwork(Whole):
         self._need(self._library.network_withdraw(self._at, byref(parts)))
         return self._event_of(parts)
 
-    def run_until(self, moment: int, most: Optional[int] = None) -> Counts:
+    def run_until(self, moment: int, most: Optional[int] = None, *, progress: Optional[Progress] = None) -> Counts:
         """Does what is due up to a moment, that included, or at most so many events. Answers how many steps and
-        messages these were. `now` is then the moment of the last of them.
+        messages these were. `now` is then the moment of the last of them. About twenty times a second an interrupt
+        from the keyboard is heard, and `progress`, a function of what was done so far and of `now`, is called.
 
         >>> net = TimedNetwork("ab", [("a", "b", 5)], {"a": "10.0.0.0/8"}, delay=500, publication=100)
         >>> net.run_until(599).steps, net.now   # the link came up, and both routers heard of it
@@ -228,32 +223,35 @@ class TimedNetwork(Whole):
         >>> print(net.next_event)
         600: publish a
 
-        Raises TimeSpent, StepsSpent, NoMemory, and what a change raises that cannot be done. That change stays
-        the next event. The events before stay done.
+        Raises ValueError if the moment or `most` is no whole number, TimeSpent, StepsSpent, NoMemory, and what a
+        change raises that cannot be done. That change stays the next event. The events before stay done.
         """
-        number_of("moment", moment, _LAST)
-        return self._run(most, lambda wanted, done: self._library.network_run_until(self._at, moment, wanted, done))
+        number = number_of("moment", moment, _LAST)
+        return self._run(most, progress,
+                         lambda wanted, done: self._library.network_run_until(self._at, number, wanted, done))
 
-    def run_to_rest(self, most: Optional[int] = None) -> Counts:
+    def run_to_rest(self, most: Optional[int] = None, *, progress: Optional[Progress] = None) -> Counts:
         """Does all that is left to do, as `run_until` does. `now` is then the moment since which the network is
         at rest.
 
         >>> net = TimedNetwork("ab", [("a", "b", 5)], {"a": "10.0.0.0/8"}, delay=500, publication=100)
-        >>> net.run_to_rest().steps, net.now
+        >>> net.run_to_rest(progress=lambda counts, now: print(counts.messages, "messages at", now)).steps, net.now
+        2 messages at 1700
         (9, 1700)
         >>> net.distances("10.0.0.0/8")
         {'a': 1, 'b': 6}
         """
-        return self._run(most, lambda wanted, done: self._library.network_run_to_rest(self._at, wanted, done))
+        return self._run(most, progress,
+                         lambda wanted, done: self._library.network_run_to_rest(self._at, wanted, done))
 
-    def _run(self, most: Optional[int], call: Callable[[int, Any], int]) -> Counts:
+    def _run(self, most: Optional[int], progress: Optional[Progress], call: Callable[[int, Any], int]) -> Counts:
         def run(wanted: int, done: c_size_t) -> None:
             status = call(wanted, byref(done))
             if status:
                 event = self.next_event
                 self._need(status, str(event) if event else "")
 
-        return self._in_parts(most, run)
+        return self._in_parts(most, run, lambda counts: progress(counts, self.now) if progress else None)
 
     # ---- what time it is
 
