@@ -269,13 +269,39 @@ class Copies(unittest.TestCase):
 
     def test_a_copy_of_a_kind_of_its_own(self):
         class Named(Network):
-            label = "none"
+            def __init__(self):
+                super().__init__("ab", [("a", "b", 1)])
+                self.labels = ["first"]
 
-        network = Named("ab", [("a", "b", 1)])
-        network.label = "first"
-        other = network.copy()
+        with mock.patch.object(tuhvondi, "Named", Named, create=True):
+            Named.__module__, Named.__qualname__ = "tuhvondi", "Named"
+            network = Named()
+            makes = (Network.copy, copy.copy, copy.deepcopy, lambda it: pickle.loads(pickle.dumps(it)))
+            others = [make(network) for make in makes]
         network.close()
-        self.assertEqual((type(other), other.label, other.settle().steps > 0), (Named, "first", True))
+        for number, other in enumerate(others):
+            self.assertEqual((type(other), other.labels, other.settle().steps > 0), (Named, ["first"], True))
+            self.assertEqual(other.labels is network.labels, number < 2)
+
+    def test_what_cannot_be_copied_or_pickled(self):
+        timed, image = tuhvondi.TimedNetwork("ab", [("a", "b", 1)]), tuhvondi.Image([tuhvondi.Row.local(NET)])
+        calls = [(pickle.dumps, timed, "TimedNetwork cannot be pickled"), (pickle.dumps, image, "Image cannot be pickled")]
+        calls += [(call, tuhvondi.Router([1]), "Router can be neither copied nor pickled")
+                  for call in (copy.copy, copy.deepcopy, pickle.dumps)]
+        for call, each, text in calls:
+            with self.assertRaisesRegex(TypeError, text):
+                call(each)
+        for make in (copy.copy, copy.deepcopy):
+            one, other = make(timed), make(image)
+            one.run_to_rest()
+            other.apply([])
+            self.assertEqual((one.now > 0, timed.now, other.generation, image.generation), (True, 0, 1, 0))
+
+    def test_a_refusal_from_another_process(self):
+        why = tuhvondi.IsDown("0 and 135")
+        again = pickle.loads(pickle.dumps(why))
+        self.assertEqual((type(again), str(again), again.number), (tuhvondi.IsDown, str(why), 14))
+        self.assertEqual(str(why), "the link is down: 0 and 135")
 
 
 class Graphs(unittest.TestCase):

@@ -4,7 +4,7 @@ from __future__ import annotations
 
 import ctypes
 from ctypes import byref, c_size_t, c_uint64
-from typing import Iterable, Iterator, Optional
+from typing import Any, Iterable, Iterator, Optional
 
 from . import _library
 from .owner import Owner
@@ -232,3 +232,6 @@ class Image(Owner):
         return self._given("image_copy")
 
     __copy__ = copy
+
+    def __deepcopy__(self, _memo: Any) -> Image:
+        return self.copy()

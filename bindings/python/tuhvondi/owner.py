@@ -34,6 +34,12 @@ class Owner:
         """
         getattr(self._library, f"{self._kind}_free")(self._at)
 
+    def __reduce__(self) -> Any:
+        """Without it `copy.copy` would make two names of one network. Classes that can be copied or pickled say how."""
+        what = "cannot be pickled" if hasattr(self, "copy") else "can be neither copied nor pickled"
+        other = ": copy() copies it, and so does a fork" if hasattr(self, "copy") else ""
+        raise TypeError(f"this {type(self).__name__} {what}, because the library holds it{other}")
+
     def __enter__(self) -> Any:
         return self
 

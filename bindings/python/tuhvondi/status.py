@@ -2,7 +2,7 @@
 
 from __future__ import annotations
 
-from typing import Type
+from typing import Any, Type
 
 
 class Refused(Exception):
@@ -25,6 +25,11 @@ class Refused(Exception):
 
     def __init__(self, detail: str = "") -> None:
         super().__init__(f"{self.text}: {detail}" if detail else self.text)
+        self.detail = detail
+
+    def __reduce__(self) -> Any:
+        # Else a pickle, and so another process, would make it of its whole text.
+        return type(self), (self.detail,)
 
     @property
     def name(self) -> str:
