@@ -319,7 +319,7 @@ class Graphs(unittest.TestCase):
                          {frozenset(edge): data["metric"] for *edge, data in graph.edges(data=True)})
         least = dijkstra.networkx.single_source_dijkstra_path_length(back, (0, 0))
         self.assertEqual(network.distances("10.0.0.0/24"), {name: 1 + cost for name, cost in least.items()})
-        again = Network.from_networkx(back, {name: data["prefixes"] for name, data in back.nodes(data=True)})
+        again = Network.from_networkx(back)
         again.settle()
         self.assertEqual(again.distances(), network.distances())
 

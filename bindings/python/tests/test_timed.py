@@ -100,6 +100,52 @@ class Moments(unittest.TestCase):
         self.assertEqual(network.distances(NET), {"a": 1, "b": 10})
 
 
+class Changes(unittest.TestCase):
+    """The words of a `Network`, with a moment."""
+
+    def test_a_router_fails_and_comes_back(self):
+        links = [("a", "b", 1), ("b", "c", 1), ("c", "a", 5)]
+        network = TimedNetwork("abc", links, {"a": NET}, delay=500, publication=100)
+        network.fail("b", "c", at=9_000)
+        network.fail("b", at=10_000)         # the link to c is down by then
+        network.restore("b", at=20_000)
+        network.set_cost("b", "c", 3, 4, at=30_000)
+        network.attach("c", NET, at=40_000)
+        network.detach("a", NET, at=40_000)
+        network.run_until(10_000)
+        self.assertEqual([link.is_up for link in network.links], [False, False, True])
+        network.run_to_rest()
+        self.assertEqual([(link.is_up, link.session) for link in network.links], [(True, 2), (True, 2), (True, 1)])
+        self.assertEqual(network.distances(NET), {"a": 5, "b": 4, "c": 1})
+        network.fail("c")
+        self.assertEqual((network.next_event.moment, network.next_event.step.kind), (network.now, StepKind.LINK_DOWN))
+        network.run_to_rest()
+        self.assertEqual(network.distances(NET)["a"], float("inf"))
+
+    def test_what_is_withdrawn_does_not_count(self):
+        network = two_routers()
+        network.restore("a", "b", at=5)
+        network.fail("a", at=5)
+        network.withdraw()
+        network.fail("a", at=7)
+        self.assertEqual(network.withdraw().step.kind, StepKind.LINK_DOWN)
+        self.assertIsNone(network.withdraw())
+
+    def test_a_moment_without_a_clock_and_one_that_is_past(self):
+        network = tuhvondi.Network("ab", [("a", "b", 5)])
+        for call in (lambda: network.fail("a", at=5), lambda: network.set_cost("a", "b", 5, at=0)):
+            with self.assertRaises(tuhvondi.NoClock):
+                call()
+        timed = two_routers(up=True)
+        timed.run_to_rest()
+        with self.assertRaises(tuhvondi.PastMoment):
+            timed.fail("a", at=46)
+
+    def test_a_delay_of_no_link(self):
+        with self.assertRaises(tuhvondi.UnknownLink):
+            TimedNetwork("abc", [("a", "b", 5)], delay={("a", "b"): 7, ("a", "c"): 5})
+
+
 class Records(unittest.TestCase):
     def test_an_outage(self):
         network = two_routers(record=True)

@@ -1,16 +1,17 @@
-"""Graphs: of networkx, or of a file of GraphML."""
+"""Graphs: of networkx, or of a file of GraphML, and what a network is as a graph."""
 
 from __future__ import annotations
 
 import xml.etree.ElementTree as ElementTree
-from typing import Any, Callable, Dict, Hashable, Iterator, List, Mapping, Tuple, Type, Union
+from typing import Any, Callable, Dict, Hashable, Iterator, List, Mapping, Optional, Set, Tuple, Type, Union
 
+from .files import write_text
 from .status import BadCost, BadLink
 
 CostGiven = Union[str, int, Callable[[Hashable, Hashable, Mapping[str, Any]], int]]
 # The attributes that count if none is named, and what counts of an edge that has none: a cost, and a delay in
-# microseconds.
-_COST, _DELAY = ("weight", 1), ("delay", 1000)
+# microseconds. The same of a node: how long it takes to publish.
+_COST, _DELAY, _PUBLICATION = ("weight", 1), ("delay", 1000), ("publication", 1000)
 
 
 class Graph:
@@ -22,7 +23,7 @@ class Graph:
     (['a', 'b'], [('a', 'b', {'weight': 5})])
     """
 
-    def __init__(self, nodes: Dict[str, Dict[str, Any]], edges: List[Tuple[str, str, Dict[str, Any]]],
+    def __init__(self, nodes: Dict[Any, Dict[str, Any]], edges: List[Tuple[Any, Any, Dict[str, Any]]],
                  directed: bool) -> None:
         self.nodes = nodes
         self._edges = edges
@@ -106,6 +107,83 @@ def delays_of(graph: Any, delay: CostGiven = "delay") -> "dict[tuple[Hashable, H
         if not graph.is_directed():
             delays[far, near] = delays[near, far]
     return delays
+
+
+def publications_of(graph: Any, publication: Any = "publication") -> Any:
+    """How long the nodes of a graph take to publish, in microseconds: by the name of an attribute, 1000 without one, or
+    as it is given.
+
+    >>> publications_of(Graph({"a": {"publication": "70"}, "b": {}}, [], directed=False))
+    {'a': 70, 'b': 1000}
+
+    Raises ValueError if one is no whole number, or if no node has the attribute.
+    """
+    if not isinstance(publication, str):
+        return publication
+    if publication != _PUBLICATION[0] and not any(publication in graph.nodes[node] for node in graph.nodes):
+        raise ValueError(f"no node has the attribute {publication!r}")
+    return {node: _whole(graph.nodes[node].get(publication, _PUBLICATION[1]), f"the node {node!r}", "publication",
+                         ValueError) for node in graph.nodes}
+
+
+def attachments_of(graph: Any) -> "Optional[dict[Any, dict[str, int]]]":
+    """The prefixes of nodes with their costs, as their attribute `prefixes` says, or None if no node has it.
+
+    >>> attachments_of(Graph({"a": {"prefixes": "10.0.0.0/8 1, 10.1.0.0/16 3"}, "b": {}}, [], directed=False))
+    {'a': {'10.0.0.0/8': 1, '10.1.0.0/16': 3}}
+
+    Raises ValueError if one is no list of prefixes, each with a cost, between commas.
+    """
+    found: "dict[Any, dict[str, int]]" = {}
+    texts = {node: graph.nodes[node]["prefixes"] for node in graph.nodes if "prefixes" in graph.nodes[node]}
+    for node, text in texts.items():
+        for pair in filter(None, map(str.split, str(text).split(","))):
+            if len(pair) != 2 or not pair[1].isdecimal():
+                raise ValueError(f"{text!r} of {node!r} is no list of prefixes, each with a cost")
+            found.setdefault(node, {})[pair[0]] = int(pair[1])
+    return found if texts else None
+
+
+def down_of(graph: Any) -> "Set[tuple[Hashable, Hashable]]":
+    """The links that are down, as the attribute `is_up` of their edges says.
+
+    >>> down_of(Graph({"a": {}, "b": {}}, [("a", "b", {"is_up": "False"})], directed=False))
+    {('a', 'b')}
+    """
+    return {(near, far) for near, far, data in graph.edges(data=True)
+            if str(data.get("is_up", True)).lower() in ("false", "0")}
+
+
+def write_graphml(graph: Graph, file: Any) -> None:
+    """Writes a graph as GraphML, whose ids are the nodes' names as texts.
+
+    >>> import sys
+    >>> write_graphml(Graph({1: {}}, [], directed=False), sys.stdout)
+    <graphml xmlns="http://graphml.graphdrawing.org/xmlns"><graph edgedefault="undirected"><node id="1" /></graph></graphml>
+
+    Raises ValueError if two names are the same text.
+    """
+    if len(set(map(str, graph.nodes))) < len(graph.nodes):
+        raise ValueError("two routers would have one name in GraphML")
+    root = ElementTree.Element("graphml", xmlns="http://graphml.graphdrawing.org/xmlns")
+    made = ElementTree.SubElement(root, "graph", edgedefault="directed" if graph.is_directed() else "undirected")
+    keys: Dict[Tuple[str, str], str] = {}
+
+    def put(kind: str, data: Mapping[str, Any], **ends: str) -> None:
+        element = ElementTree.SubElement(made, kind, ends)
+        for name, value in data.items():
+            if (kind, name) not in keys:
+                keys[kind, name] = f"d{len(keys)}"
+                types = {bool: "boolean", int: "long"}
+                root.insert(len(keys) - 1, ElementTree.Element("key", {
+                    "id": keys[kind, name], "for": kind, "attr.name": name, "attr.type": types.get(type(value), "string")}))
+            ElementTree.SubElement(element, "data", key=keys[kind, name]).text = str(value)
+
+    for node, data in graph.nodes.items():
+        put("node", data, id=str(node))
+    for near, far, data in graph.edges(data=True):
+        put("edge", data, source=str(near), target=str(far))
+    write_text(file, ElementTree.tostring(root, encoding="unicode") + "\n")
 
 
 def _local(tag: str) -> str:

@@ -9,14 +9,14 @@ import math
 import time
 from ctypes import byref, c_size_t, c_uint8
 from ipaddress import IPv4Address, IPv4Network
-from typing import (Any, Callable, Hashable, Iterable, List, Mapping, NamedTuple, Optional, Sequence,
+from typing import (Any, Callable, Hashable, Iterable, Iterator, List, Mapping, NamedTuple, Optional, Sequence,
                     Tuple, TypeVar, Union)
 
-from . import _library, graphs
+from . import _library, files, graphs
 from .owner import Owner
 from .rows import (Address, Distance, Kind, Prefix, address_number, cost_number, distance_of, network_of,
                    number_of, prefix_parts)
-from .status import (BY_NETWORK, BadLink, BadRouters, UnknownLink, UnknownPrefix, UnknownRouter,
+from .status import (BY_NETWORK, BadLink, BadRouters, NoClock, UnknownLink, UnknownPrefix, UnknownRouter,
                      refusal)
 
 # A router's name: whatever can be a key of a dict, as nodes of networkx are.
@@ -315,8 +315,11 @@ class Whole(Owner):
 
     _kind = "network"
 
+    # What was done to it, or is given to be done, since its opening.
+    _done: Any
+
     def __init__(self, routers: Iterable[Name], links: Iterable[LinkGiven],
-                 attachments: Optional[Attachments] = None) -> None:
+                 attachments: Optional[Attachments] = None, up: bool = True) -> None:
         super().__init__()
         self._names = tuple(routers)
         self._numbers = {name: number for number, name in enumerate(self._names)}
@@ -340,6 +343,8 @@ class Whole(Owner):
         self._known = frozenset(self._prefixes)
         self._open(given, owners)
         self._hops = (ctypes.c_uint16 * max(1, len(self._names)))()
+        if up:
+            self.restore()
 
     def _ends(self, link: LinkGiven) -> "tuple[int, int, int, int]":
         if not 3 <= len(link) <= 4:
@@ -394,29 +399,159 @@ class Whole(Owner):
         raise NotImplementedError
 
     def to_networkx(self, down: bool = False) -> Any:
-        """A graph of networkx of the network as it is now: a Graph, or a DiGraph if a link has two costs.
+        """A graph of networkx of the network as it is now: a Graph, or a DiGraph if the two directions of a link
+        differ. `from_networkx` makes the network again, in whose links all sessions begin anew.
 
         Edges have `weight`, the cost now, and `session`. With `down` links that are down are there, too, and
-        each edge has `is_up`. Nodes have `prefixes`, a dict of prefixes and costs.
+        each edge has `is_up`. Nodes have `prefixes`, a text such as "10.0.0.0/8 1, 10.1.0.0/16 3". In simulated time
+        edges also have `delay`, and nodes `publication`. So networkx can write it as GraphML, GML and JSON.
 
         >>> net = Network("abc", [("a", "b", 5), ("b", "c", 1)])
         >>> net.fail("b", "c")
         >>> graph = net.to_networkx()
-        >>> list(graph.edges(data="weight")), list(graph.nodes)
-        ([('a', 'b', 5)], ['a', 'b', 'c'])
+        >>> list(graph.edges(data="weight")), list(graph.nodes(data="prefixes"))[0]
+        ([('a', 'b', 5)], ('a', '10.0.0.0/24 1'))
         """
         import networkx  # pylint: disable=import-outside-toplevel
 
+        graph = self._graph(down)
+        made: Any = networkx.DiGraph() if graph.is_directed() else networkx.Graph()
+        made.add_nodes_from(graph.nodes.items())
+        made.add_edges_from(graph.edges(data=True))
+        return made
+
+    def to_graphml(self, file: Any) -> None:
+        """Writes the network as it is now to a path, or to a file that is open for text, as GraphML with all links
+        and the attributes of `to_networkx`. It needs no networkx. `from_graphml` makes the network again, in which
+        names are texts.
+
+        >>> import io
+        >>> net, file = Network("ab", [("a", "b", 5)], {"a": {"10.0.0.0/8": 7}}, up=False), io.StringIO()
+        >>> net.to_graphml(file)
+        >>> again = Network.from_graphml(io.StringIO(file.getvalue()))
+        >>> again.links == net.links, again.attachments("a")
+        (True, {IPv4Network('10.0.0.0/8'): 7})
+
+        Raises ValueError if two names are the same text.
+        """
+        graphs.write_graphml(self._graph(True), file)
+
+    def _graph(self, down: bool) -> graphs.Graph:
         links = [link for link in self.links if down or link.is_up]
-        graph: Any = networkx.DiGraph() if any(it.cost != it.cost_back for it in links) else networkx.Graph()
-        for name in self._names:
-            graph.add_node(name, prefixes=self.attachments(name))
-        for link in links:
-            data = {"session": link.session, **({"is_up": link.is_up} if down else {})}
-            graph.add_edge(link.a, link.b, weight=link.cost, **data)
-            if graph.is_directed():
-                graph.add_edge(link.b, link.a, weight=link.cost_back, **data)
-        return graph
+        sides = [({"weight": link.cost, **self._edge(link.a, link.b)},
+                  {"weight": link.cost_back, **self._edge(link.b, link.a)}) for link in links]
+        directed = any(there != back for there, back in sides)
+        edges = []
+        for link, (there, back) in zip(links, sides):
+            more = {"session": link.session, **({"is_up": link.is_up} if down else {})}
+            edges.append((link.a, link.b, {**there, **more}))
+            if directed:
+                edges.append((link.b, link.a, {**back, **more}))
+        prefixes = {name: ", ".join(f"{prefix} {cost}" for prefix, cost in self.attachments(name).items())
+                    for name in self._names}
+        return graphs.Graph({name: {"prefixes": text, **self._node(name)} for name, text in prefixes.items()},
+                            edges, directed)
+
+    def _edge(self, _near: Name, _far: Name) -> "dict[str, int]":
+        """What an edge has beside its cost."""
+        return {}
+
+    def _node(self, _name: Name) -> "dict[str, int]":
+        """What a node has beside its prefixes."""
+        return {}
+
+    @classmethod
+    def _of_graph(cls: "type[Same]", graph: Any, attachments: Optional[Attachments], cost: graphs.CostGiven, up: bool,
+                  **more: Any) -> Same:
+        """The network of a graph, in which links that are down stay so."""
+        links, down = graphs.links_of(graph, cost), graphs.down_of(graph)
+        given = graphs.attachments_of(graph) if attachments is None else attachments
+        network = cls(list(graph.nodes), links, given, up=up and not down, **more)
+        for near, far, _, _ in links if up and down else ():
+            if not {(near, far), (far, near)} & down:
+                network.restore(near, far)
+        return network
+
+    # ---- documents
+
+    def to_json(self, file: Any) -> None:
+        """Writes what is so now as JSON to a path, or to a file that is open for text: `routers`, `links`, the rows of
+        `distance_rows`, in which null stands for `inf`, and the rows in force of each router, `tables`, as texts.
+
+        >>> import sys
+        >>> Network("a", []).to_json(sys.stdout)   # doctest: +ELLIPSIS
+        {"routers": ["a"], "links": [], "distances": [{"router": "a", ...}], "tables": {"a": ["10.0.0.0/24 local"]}}
+        """
+        files.write_text(file, files.json_text({
+            "routers": self._names, "links": [link._asdict() for link in self.links], "distances": self.distance_rows(),
+            "tables": {name: list(map(str, self.table(name))) for name in self._names}}))
+
+    def to_scenario(self, file: Any) -> "dict[Any, str]":
+        """Writes a scenario of the program `dualnet` to a path, or to a file that is open for text: the network as it
+        was opened, with all that you have done to it since as the script. Answers the names that routers have there,
+        because a scenario has only names of small letters and digits.
+
+        Where the network settled, the script says `settle`, though you may have had it settle in part. In simulated
+        time the script is empty, because `to_times` has the changes.
+
+        >>> import sys
+        >>> net = Network(["A 1", "b"], [("A 1", "b", 5)], {"b": "10.0.0.0/8"})
+        >>> _ = net.settle()
+        >>> net.to_scenario(sys.stdout)
+        routers = [
+            "a1",
+            "b",
+        ]
+        links = [
+            "a1 b 5 5",
+        ]
+        prefixes = [
+            "10.0.0.0/8 b 1",
+        ]
+        script = [
+            "up a1 b",
+            "settle",
+        ]
+        {'A 1': 'a1', 'b': 'b'}
+
+        Raises ValueError if it is more than a scenario can have, for example more than 256 routers.
+        """
+        names = files.short_names(self._names)
+        files.write_text(file, self._scenario(names))
+        return names
+
+    def _scenario(self, names: "dict[Any, str]") -> str:
+        links, owners = self._given
+        script = self._script(names)
+        files.check_limits(routers=len(names), links=len(links), prefixes=len(self._prefixes), attachments=len(owners),
+                           commands=len(script))
+        at = [names[name] for name in self._names]
+        return files.document(
+            routers=at, links=[f"{at[a]} {at[b]} {to} {back}" for a, b, to, back in links],
+            prefixes=[f"{network_of(addr, length)} {at[router]} {cost}" for addr, length, cost, router in owners],
+            script=script)
+
+    def _script(self, _names: "dict[Any, str]") -> List[str]:
+        """The commands of a scenario."""
+        return []
+
+    def view(self, path: Any) -> "dict[Any, str]":
+        """Writes a page of the run to a path: one file, which you open in a browser, and which shows the network after
+        each step or event. It is that of `dualnet-view`, which has to be on PATH or installed beside the package, and
+        of the documents that `to_scenario` and `to_times` write. Answers the names that routers have in it.
+
+        >>> Network("ab", [("a", "b", 5)]).view("run.html")   # doctest: +SKIP
+        {'a': 'a', 'b': 'b'}
+
+        Raises FileNotFoundError if there is no such program, RuntimeError if it fails, and what `to_scenario` raises.
+        """
+        names = files.short_names(self._names)
+        files.page(path, {"": self._scenario(names), **self._documents(names)})
+        return names
+
+    def _documents(self, _names: "dict[Any, str]") -> "dict[str, str]":
+        """What the page needs beside the scenario, by its options."""
+        return {}
 
     # ---- what it is
 
@@ -437,6 +572,108 @@ class Whole(Owner):
         [IPv4Network('10.0.0.0/24'), IPv4Network('10.0.1.0/24')]
         """
         return [network_of(*prefix) for prefix in self._prefixes]
+
+    # ---- how it changes
+
+    def fail(self, router: Name, other: Optional[Name] = None, *, at: Optional[int] = None) -> None:
+        """The link of two routers goes down, and the messages on it are lost. With one router, all its links
+        that are up go down, as if it had stopped.
+
+        In simulated time `at` is the moment at which it happens, or the present one if you give none, and what you
+        give happens as time goes on. Which links are up then, says what you have given up to now.
+
+        >>> net = Network("abc", [("a", "b", 1), ("b", "c", 1)])
+        >>> net.fail("b")
+        >>> [link.is_up for link in net.links]
+        [False, False]
+
+        Raises UnknownRouter, UnknownLink, and IsDown if the link is down; NoClock if `at` is given and there is no
+        clock, PastMoment.
+        """
+        self._put_links(router, other, StepKind.LINK_DOWN, at)
+
+    def restore(self, router: Optional[Name] = None, other: Optional[Name] = None, *, at: Optional[int] = None) -> None:
+        """The link of two routers comes up, in its next session. With one router all its links that are down
+        come up, and with none all of the network. `at` is as for `fail`.
+
+        >>> net = Network("abc", [("a", "b", 1), ("b", "c", 1)], up=False)
+        >>> net.restore("a", "b")
+        >>> net.restore()
+        >>> [link.session for link in net.links]
+        [1, 1]
+
+        Raises UnknownRouter, UnknownLink, AlreadyUp if the link is up, SessionsSpent if it came up 65,535
+        times, NoMemory; NoClock and PastMoment as `fail` does.
+        """
+        self._put_links(router, other, StepKind.LINK_UP, at)
+
+    def _put_links(self, router: Optional[Name], other: Optional[Name], kind: StepKind, at: Optional[int]) -> None:
+        """Has a link go up or down, or all of those of a router or of the network that are not."""
+        if other is not None:
+            self._give([Step(kind, router, other)], at)
+            return
+        pairs: "dict[int, tuple[Name, Name]]" = {}
+        for name in self._names if router is None else (router,):
+            for far in self.neighbours(name):
+                pairs.setdefault(self._link(self._number(name), self._number(far)), (name, far))
+        are_up = self._are_up(at)
+        self._give([Step(kind, *pair) for number, pair in pairs.items()
+                    if are_up(number) == (kind == StepKind.LINK_DOWN)], at)
+
+    def set_cost(self, router: Name, other: Name, cost: int, back: Optional[int] = None, *,
+                 at: Optional[int] = None) -> None:
+        """The cost of a link from a router to the other, 1 to 65535, changes; with `back` that from the
+        other, too. `at` is as for `fail`.
+
+        >>> net = Network("ab", [("a", "b", 5)])
+        >>> net.set_cost("a", "b", 7)
+        >>> net.link("a", "b").cost, net.link("a", "b").cost_back
+        (7, 5)
+
+        Raises UnknownRouter, UnknownLink, BadCost, IsDown if the link is down, NoMemory; NoClock and PastMoment as
+        `fail` does.
+        """
+        steps = [Step(StepKind.SET_COST, router, other, cost=cost)]
+        if back is not None:
+            steps.append(Step(StepKind.SET_COST, other, router, cost=back))
+        self._give(steps, at)
+
+    def attach(self, router: Name, prefix: Prefix, cost: int = 1, *, at: Optional[int] = None) -> None:
+        """A router is attached to a prefix at this cost, 1 to 65535, from now on. `at` is as for `fail`.
+
+        >>> net = Network("ab", [("a", "b", 5)], {"a": "10.0.0.0/8"})
+        >>> net.attach("b", "10.0.0.0/8", cost=3)
+        >>> _ = net.settle()
+        >>> net.distances("10.0.0.0/8")
+        {'a': 1, 'b': 3}
+
+        Raises UnknownRouter, BadCost, UnknownPrefix if it is none of `prefixes`, NoMemory; NoClock and PastMoment as
+        `fail` does.
+        """
+        self._give([Step(StepKind.ATTACH, router, prefix=prefix, cost=cost)], at)
+
+    def detach(self, router: Name, prefix: Prefix, *, at: Optional[int] = None) -> None:
+        """A router is attached to a prefix no more. `at` is as for `fail`.
+
+        >>> net = Network("ab", [("a", "b", 5)], {"a": "10.0.0.0/8"})
+        >>> net.detach("a", "10.0.0.0/8")
+        >>> _ = net.settle()
+        >>> net.distances("10.0.0.0/8")
+        {'a': inf, 'b': inf}
+
+        Raises UnknownRouter, UnknownPrefix, NotAttached, NoMemory; NoClock and PastMoment as `fail` does.
+        """
+        self._give([Step(StepKind.DETACH, router, prefix=prefix)], at)
+
+    def _give(self, steps: Sequence[Step], at: Optional[int]) -> None:
+        """Does these changes, or in simulated time gives them for a moment."""
+        raise NotImplementedError
+
+    def _are_up(self, _at: Optional[int]) -> Callable[[int], bool]:
+        """Tells of a link whether it is up, or in simulated time whether it will be after what was given up to then."""
+        return lambda number: self.link(*(self._names[end] for end in self._pairs[number])).is_up
+
+    # ---- what it is now
 
     @property
     def links(self) -> List[LinkState]:
@@ -850,8 +1087,8 @@ class Whole(Owner):
         Owner.__init__(other)
         self._need(self._library.network_copy(self._at, other._at))
         for name, value in vars(self).items():
-            vars(other).setdefault(name, value[:] if isinstance(value, bytearray) else value)
-        other._hops = type(self._hops)()
+            vars(other).setdefault(name, value)
+        other._hops, other._done = type(self._hops)(), self._done[:]
         return other
 
     __copy__ = copy
@@ -904,11 +1141,9 @@ class Network(Whole):
 
     def __init__(self, routers: Iterable[Name], links: Iterable[LinkGiven],
                  attachments: Optional[Attachments] = None, *, up: bool = True) -> None:
-        super().__init__(routers, links, attachments)
         # The steps that were done, for pickles: a kind of record, and a step, or a seed and a number of steps.
         self._done = bytearray()
-        if up:
-            self.restore()
+        super().__init__(routers, links, attachments, up)
 
     def _new(self, limits: Any, routers: int, links: Any, link_count: int, owners: Any, owner_count: int,
              place: _library.FaultPlaceParts) -> int:
@@ -918,15 +1153,15 @@ class Network(Whole):
     # ---- making a network of a graph
 
     @classmethod
-    def from_networkx(cls, graph: Any, attachments: Optional[Attachments] = None,
-                      cost: Union[str, int, Callable[[Name, Name, Mapping[str, Any]], int]] = "weight", *,
+    def from_networkx(cls, graph: Any, attachments: Optional[Attachments] = None, cost: graphs.CostGiven = "weight", *,
                       up: bool = True) -> Network:
         """The network of a graph of networkx, or of a graph that has its `nodes`, `edges` and `is_directed`.
 
         `cost` is the cost of an edge, 1 to 65535: the name of its attribute, and 1 if the edge has none; a
         number for all; or a function of the two nodes and the attributes. In a directed graph each edge has
         an edge back, and each of the two gives the cost from its first node. A name that you give has to be
-        that of an attribute of some edge.
+        that of an attribute of some edge. If you give no attachments, nodes have those of their attribute `prefixes`,
+        and a prefix each if none has one. An edge whose `is_up` is false is a link that is down.
 
         >>> import networkx
         >>> net = Network.from_networkx(networkx.cycle_graph(4), {0: "10.0.0.0/8"}, cost=10)
@@ -937,11 +1172,10 @@ class Network(Whole):
         Raises BadLink for loops, for parallel edges, and for an edge without an edge back, ValueError if no edge
         has the attribute. Others are as for a Network.
         """
-        return cls(list(graph.nodes), graphs.links_of(graph, cost), attachments, up=up)
+        return cls._of_graph(graph, attachments, cost, up)
 
     @classmethod
-    def from_graphml(cls, path: Any, attachments: Optional[Attachments] = None,
-                     cost: Union[str, int, Callable[[Name, Name, Mapping[str, Any]], int]] = "weight", *,
+    def from_graphml(cls, path: Any, attachments: Optional[Attachments] = None, cost: graphs.CostGiven = "weight", *,
                      up: bool = True) -> Network:
         """The network of a file of GraphML. It needs no networkx. Routers are named by their labels, if each
         node has one of its own, else by their ids. `cost` is as for `from_networkx`.
@@ -954,112 +1188,37 @@ class Network(Whole):
 
         Raises ValueError if the file is no GraphML. Others are as for `from_networkx`.
         """
-        graph = graphs.read_graphml(path)
-        return cls(list(graph.nodes), graphs.links_of(graph, cost), attachments, up=up)
+        return cls.from_networkx(graphs.read_graphml(path), attachments, cost, up=up)
 
-    # ---- how it changes
+    # ---- how it goes on
 
     def _step(self, parts: _library.StepParts, detail: str = "") -> None:
         """Does a step, and keeps it for pickles."""
         self._need(self._library.network_step(self._at, byref(parts)), detail)
         self._done += _STEP.to_bytes(8, "little") + bytes(parts)
 
-    def fail(self, router: Name, other: Optional[Name] = None) -> None:
-        """The link of two routers goes down, and the messages on it are lost. With one router, all its links
-        that are up go down, as if it had stopped.
+    def _give(self, steps: Sequence[Step], at: Optional[int]) -> None:
+        if at is not None:
+            raise NoClock("it is done at once, and not at a moment")
+        for parts in [self._parts_of(step) for step in steps]:
+            self._step(*parts)
 
-        >>> net = Network("abc", [("a", "b", 1), ("b", "c", 1)])
-        >>> net.fail("b")
-        >>> [link.is_up for link in net.links]
-        [False, False]
+    def _script(self, names: "dict[Any, str]") -> List[str]:
+        script: List[str] = []
+        for kind, parts in self._history():
+            if kind == _STEP:
+                step = self._step_of(_library.StepParts.from_buffer_copy(parts))
+                script.append(files.command(step, names))
+                continue
+            seed = int.from_bytes(parts[:8], "little")
+            settle = f"settle --seed {seed}" if 0 < seed < 2 ** 32 else "settle"
+            script += [settle] if script[-1:] != [settle] else []
+        return script
 
-        Raises UnknownRouter, UnknownLink, and IsDown if the link is down.
-        """
-        self._change(router, other, StepKind.LINK_DOWN)
-
-    def restore(self, router: Optional[Name] = None, other: Optional[Name] = None) -> None:
-        """The link of two routers comes up, in its next session. With one router all its links that are down
-        come up, and with none all of the network.
-
-        >>> net = Network("abc", [("a", "b", 1), ("b", "c", 1)], up=False)
-        >>> net.restore("a", "b")
-        >>> net.restore()
-        >>> [link.session for link in net.links]
-        [1, 1]
-
-        Raises UnknownRouter, UnknownLink, AlreadyUp if the link is up, SessionsSpent if it came up 65,535
-        times, NoMemory.
-        """
-        self._change(router, other, StepKind.LINK_UP)
-
-    def _change(self, router: Optional[Name], other: Optional[Name], kind: StepKind) -> None:
-        if other is not None:
-            pairs = [(router, other)]
-        else:
-            near = self._names if router is None else (router,)
-            named = [(name, far) for name in near for far in self.neighbours(name)]
-            changed: "set[int]" = set()
-            pairs = []
-            for each in named:
-                number = self._link(*map(self._number, each))
-                if number not in changed and self.link(*each).is_up == (kind == StepKind.LINK_DOWN):
-                    pairs.append(each)
-                changed.add(number)
-        for each in pairs:
-            number = self._link(*map(self._number, each))
-            self._step(_library.StepParts(subject=number, kind=kind), f"{each[0]!r} and {each[1]!r}")
-
-    def set_cost(self, router: Name, other: Name, cost: int, back: Optional[int] = None) -> None:
-        """The cost of a link from a router to the other, 1 to 65535, changes; with `back` that from the
-        other, too.
-
-        >>> net = Network("ab", [("a", "b", 5)])
-        >>> net.set_cost("a", "b", 7)
-        >>> net.link("a", "b").cost, net.link("a", "b").cost_back
-        (7, 5)
-
-        Raises UnknownRouter, UnknownLink, BadCost, IsDown if the link is down, NoMemory.
-        """
-        ends = [(router, other, self._cost(cost, "a link"))]
-        if back is not None:
-            ends.append((other, router, self._cost(back, "a link")))
-        near, far = self._number(router), self._number(other)
-        self._link(near, far)
-        for name, towards, value in ends:
-            near = self._number(name)
-            port = self._ports[near, self._number(towards)]
-            self._step(_library.StepParts(subject=near, kind=StepKind.SET_COST, port=port, cost=value))
-
-    def attach(self, router: Name, prefix: Prefix, cost: int = 1) -> None:
-        """A router is attached to a prefix at this cost, 1 to 65535, from now on.
-
-        >>> net = Network("ab", [("a", "b", 5)], {"a": "10.0.0.0/8"})
-        >>> net.attach("b", "10.0.0.0/8", cost=3)
-        >>> _ = net.settle()
-        >>> net.distances("10.0.0.0/8")
-        {'a': 1, 'b': 3}
-
-        Raises UnknownRouter, BadCost, UnknownPrefix if it is none of `prefixes`, NoMemory.
-        """
-        addr, length = self._prefix(prefix)
-        value = self._cost(cost, f"the attachment of {router}")
-        self._step(_library.StepParts(addr=addr, cost=value, subject=self._number(router),
-                                      kind=StepKind.ATTACH, len=length), str(prefix))
-
-    def detach(self, router: Name, prefix: Prefix) -> None:
-        """A router is attached to a prefix no more.
-
-        >>> net = Network("ab", [("a", "b", 5)], {"a": "10.0.0.0/8"})
-        >>> net.detach("a", "10.0.0.0/8")
-        >>> _ = net.settle()
-        >>> net.distances("10.0.0.0/8")
-        {'a': inf, 'b': inf}
-
-        Raises UnknownRouter, UnknownPrefix, NotAttached, NoMemory.
-        """
-        addr, length = self._prefix(prefix)
-        self._step(_library.StepParts(addr=addr, subject=self._number(router), kind=StepKind.DETACH,
-                                      len=length), str(prefix))
+    def _history(self) -> "Iterator[tuple[int, bytes]]":
+        """The records of what was done: of which kind, and what it says."""
+        for at in range(0, len(self._done), _RECORD):
+            yield self._done[at], bytes(self._done[at + 8:at + _RECORD])
 
     def settle(self, seed: int = 0, most: Optional[int] = None, *,
                progress: Optional[Callable[[Counts], Any]] = None) -> Counts:

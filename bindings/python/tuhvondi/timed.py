@@ -4,9 +4,9 @@ from __future__ import annotations
 
 from ctypes import byref, c_size_t, c_uint8, c_uint64
 from ipaddress import IPv4Network
-from typing import Any, Callable, Iterable, List, Mapping, NamedTuple, Optional, Tuple, Union
+from typing import Any, Callable, Iterable, List, Mapping, NamedTuple, Optional, Sequence, Tuple, Union
 
-from . import _library, graphs
+from . import _library, files, graphs
 from .network import Attachments, Counts, LinkGiven, Name, Step, StepKind, Whole
 from .rows import network_of, number_of
 
@@ -100,16 +100,19 @@ class TimedNetwork(Whole):
                  attachments: Optional[Attachments] = None, *, delay: DelayGiven = 1000,
                  publication: PublicationGiven = 1000, up: bool = True, record: bool = False) -> None:
         self._delay, self._publication, self._records = delay, publication, record
-        super().__init__(routers, links, attachments)
-        if up:
-            for a, b in self._pairs:
-                self.at(0, Step(StepKind.LINK_UP, self._names[a], self._names[b]))
+        # The changes that were given, with their moments.
+        self._done: List[Tuple[int, Step]] = []
+        super().__init__(routers, links, attachments, up)
 
     def _new(self, limits: Any, routers: int, links: Any, link_count: int, owners: Any, owner_count: int,
              place: _library.FaultPlaceParts) -> int:
+        for pair in self._delay if isinstance(self._delay, Mapping) else ():
+            self._link(*map(self._number, pair))
+        self._delays = {(near, far): self._between(near, far) for a, b in self._pairs for near, far in ((b, a), (a, b))}
+        self._publications = [self._to_publish(name) for name in self._names]
         delays = (_library.DelayParts * max(1, link_count))(
-            *[(self._between(b, a), self._between(a, b)) for a, b in self._pairs])
-        publications = (c_uint64 * max(1, routers))(*[self._to_publish(name) for name in self._names])
+            *[(self._delays[b, a], self._delays[a, b]) for a, b in self._pairs])
+        publications = (c_uint64 * max(1, routers))(*self._publications)
         return self._library.network_with_delays(
             limits, routers, links, link_count, owners, owner_count, delays, link_count, publications, routers,
             bool(self._records), byref(place), self._at)
@@ -138,12 +141,14 @@ class TimedNetwork(Whole):
     @classmethod
     def from_networkx(cls, graph: Any, attachments: Optional[Attachments] = None,
                       cost: graphs.CostGiven = "weight", *, delay: graphs.CostGiven = "delay",
-                      publication: PublicationGiven = 1000, up: bool = True, record: bool = False) -> TimedNetwork:
+                      publication: Union[str, PublicationGiven] = "publication", up: bool = True,
+                      record: bool = False) -> TimedNetwork:
         """The network of a graph of networkx, as `Network.from_networkx`.
 
         `delay` is the delay of an edge, in microseconds: the name of its attribute, and 1000 if the edge has
         none; a number for all; or a function of the two nodes and the attributes. In a directed graph that of
-        each edge counts from its first node.
+        each edge counts from its first node. `publication` may be the name of an attribute of nodes, 1000 if a node
+        has none.
 
         >>> import networkx
         >>> net = TimedNetwork.from_networkx(networkx.path_graph(3), {0: "10.0.0.0/8"}, delay=50, publication=0)
@@ -154,14 +159,16 @@ class TimedNetwork(Whole):
         Raises ValueError if a delay is no whole number, or if no edge has the attribute that you name. Others are as
         for `Network.from_networkx`.
         """
-        return cls(list(graph.nodes), graphs.links_of(graph, cost), attachments,
-                   delay=graphs.delays_of(graph, delay), publication=publication, up=up, record=record)
+        return cls._of_graph(graph, attachments, cost, up, delay=graphs.delays_of(graph, delay),
+                             publication=graphs.publications_of(graph, publication), record=record)
 
     @classmethod
     def from_graphml(cls, path: Any, attachments: Optional[Attachments] = None,
                      cost: graphs.CostGiven = "weight", *, delay: graphs.CostGiven = "delay",
-                     publication: PublicationGiven = 1000, up: bool = True, record: bool = False) -> TimedNetwork:
-        """The network of a file of GraphML, as `Network.from_graphml`. `delay` is as for `from_networkx`.
+                     publication: Union[str, PublicationGiven] = "publication", up: bool = True,
+                     record: bool = False) -> TimedNetwork:
+        """The network of a file of GraphML, as `Network.from_graphml`. `delay` and `publication` are as for
+        `from_networkx`.
 
         >>> import io
         >>> file = io.StringIO('''<graphml><graph edgedefault="undirected">
@@ -192,6 +199,21 @@ class TimedNetwork(Whole):
         parts, detail = self._parts_of(step)
         number = number_of("moment", moment, _LAST)
         self._need(self._library.network_at(self._at, number, byref(parts)), detail)
+        self._done.append((number, self._step_of(parts) or step))
+
+    def _give(self, steps: Sequence[Step], at: Optional[int]) -> None:
+        for step in steps:
+            self._parts_of(step)
+        for step in steps:
+            self.at(self.now if at is None else at, step)
+
+    def _are_up(self, at: Optional[int]) -> Callable[[int], bool]:
+        moment = self.now if at is None else number_of("moment", at, _LAST)
+        ends = {}
+        for when, step in sorted(self._done, key=lambda each: each[0]):
+            if when <= moment and step.kind in (StepKind.LINK_UP, StepKind.LINK_DOWN):
+                ends[self._link(self._number(step.router), self._number(step.neighbour))] = step.kind
+        return lambda number: ends.get(number) == StepKind.LINK_UP
 
     def withdraw(self) -> Optional[Event]:
         """Takes the first of the changes that are to be done off the list, or answers None. So you go on if a
@@ -210,7 +232,10 @@ class TimedNetwork(Whole):
         """
         parts = _library.EventParts()
         self._need(self._library.network_withdraw(self._at, byref(parts)))
-        return self._event_of(parts)
+        event = self._event_of(parts)
+        if event is not None:
+            self._done.remove(event[:2])
+        return event
 
     def run_until(self, moment: int, most: Optional[int] = None, *, progress: Optional[Progress] = None) -> Counts:
         """Does what is due up to a moment, that included, or at most so many events. Answers how many steps and
@@ -252,6 +277,50 @@ class TimedNetwork(Whole):
                 self._need(status, str(event) if event else "")
 
         return self._in_parts(most, run, lambda counts: progress(counts, self.now) if progress else None)
+
+    # ---- documents
+
+    def _edge(self, near: Name, far: Name) -> "dict[str, int]":
+        return {"delay": self._delays[self._number(near), self._number(far)]}
+
+    def _node(self, name: Name) -> "dict[str, int]":
+        return {"publication": self._publications[self._number(name)]}
+
+    def to_times(self, file: Any) -> "dict[Any, str]":
+        """Writes what `dualnet time` reads beside a scenario to a path, or to a file that is open for text: the delays,
+        and all changes that you have given since the opening. With `to_scenario` it does the same run again. Answers
+        the names that routers have there, which are those of `to_scenario`.
+
+        >>> import sys
+        >>> net = TimedNetwork("ab", [("a", "b", 5)], delay={("a", "b"): 500, ("b", "a"): 700}, publication=100)
+        >>> net.fail("a", "b", at=9000)
+        >>> net.to_times(sys.stdout)
+        links = [
+            "a b 500 700",
+        ]
+        routers = [
+            "a 100",
+            "b 100",
+        ]
+        changes = [
+            "0 up a b",
+            "9000 down a b",
+        ]
+        {'a': 'a', 'b': 'b'}
+
+        Raises ValueError if there are more changes than such a document can have, 10,000.
+        """
+        names = files.short_names(self._names)
+        files.write_text(file, self._documents(names)["--times"])
+        return names
+
+    def _documents(self, names: "dict[Any, str]") -> "dict[str, str]":
+        files.check_limits(commands=len(self._done))
+        at = [names[name] for name in self._names]
+        return {"--times": files.document(
+            links=[f"{at[a]} {at[b]} {self._delays[a, b]} {self._delays[b, a]}" for a, b in self._pairs],
+            routers=[f"{name} {delay}" for name, delay in zip(at, self._publications)],
+            changes=[f"{moment} {files.command(step, names)}" for moment, step in self._done])}
 
     # ---- what time it is
 
