@@ -428,6 +428,59 @@ class Refusals(unittest.TestCase):
         with self.assertRaises(tuhvondi.UnknownPrefix):
             network.at(5, Step(StepKind.ATTACH, "a", prefix=other, cost=1))
 
+    def test_what_is_said(self):
+        """Each says what is wrong, and with whom."""
+        links = [("a", "b", 1), ("b", "c", 1), ("a", "c", 5)]
+        network, timed = Network("abc", links), tuhvondi.TimedNetwork("abc", links)
+        timed.run_to_rest()
+        network.settle()
+        graph = graphs.Graph({0: {}, 1: {}}, [(0, 1, {})], False)
+        many = [(near, far, 1) for near in range(2) for far in range(2, 35)]
+        rows = [
+            (TypeError, "have to be a dict", lambda: Network("abc", links, NET)),
+            (TypeError, "have to be a dict", lambda: Network("abc", links, ["a"])),
+            (TypeError, "attachment of 'a' is None", lambda: Network("abc", links, {"a": None})),
+            (TypeError, "attachment of 'a' is 5", lambda: Network("abc", links, {"a": 5})),
+            (tuhvondi.BadLink, r"^\('a', 'b'\) has no two names and one or two costs$", lambda: Network("ab", [("a", "b")])),
+            (tuhvondi.BadLink, "^a link joins 'a' to itself$", lambda: Network("ab", [("a", "a", 1)])),
+            (tuhvondi.BadLink, "^there is a second link of 'b' and 'a'$", lambda: Network("ab", [*links[:1], ("b", "a", 2)])),
+            (tuhvondi.BadLink, "^the step needs `neighbour`", lambda: network.do(Step(StepKind.LINK_DOWN, "a"))),
+            (tuhvondi.BadKind, "^routers deliver, publish and release by", lambda: timed.at(9000, Step(StepKind.PUBLISH, "a"))),
+            (TypeError, "None is no Step", lambda: network.do(network.next_step("a"))),
+            (TypeError, "'down a b' is no Step", lambda: timed.at(9000, "down a b")),
+            (tuhvondi.BadCost, "inf is no whole number", lambda: network.set_cost("a", "b", math.inf)),
+            (ValueError, "moment is 10000000.0", lambda: timed.at(1e7, Step(StepKind.LINK_DOWN, "a", "b"))),
+            (tuhvondi.PastMoment, f"0, and it is {timed.now}", lambda: timed.at(0, Step(StepKind.LINK_DOWN, "a", "b"))),
+            (tuhvondi.BadCost, "the step names none for", lambda: timed.at(9000, Step(StepKind.SET_COST, "a", "b"))),
+            (tuhvondi.UnknownRouter, "'0', though there is 0, a int", lambda: Network.from_networkx(graph, {"0": NET})),
+            (tuhvondi.BadLength, "10.0.0.0/33", lambda: network.distance("a", "10.0.0.0/33")),
+            (tuhvondi.HostBits, "10.0.0.1/8", lambda: network.distance("a", "10.0.0.1/8")),
+            (tuhvondi.TooManyLinks, "^router 0 would have 33 links, and can have 32$", lambda: Network(range(35), many)),
+            (tuhvondi.UnknownLink, "'a' and 'a'", lambda: tuhvondi.TimedNetwork("abc", links, delay={("a", "a"): 5})),
+        ]
+        for number, (expected, text, call) in enumerate(rows):
+            with self.subTest(f"{number} {text}"), self.assertRaisesRegex(expected, text):
+                call()
+
+    def test_more_links_than_can_be(self):
+        routers = range(4100)
+        links = [(near, (near + gap) % 4100, 1) for gap in range(1, 17) for near in routers]
+        with self.assertRaisesRegex(tuhvondi.TooManyLinks, "^the network would have 65600 links, and can have 65536$"):
+            Network(routers, links, {})
+
+    def test_what_is_shown(self):
+        network = Network("ab", [("a", "b", 1)], {"a": NET}, up=False)
+        self.assertEqual(repr(network), "Network of 2 routers, 1 link (1 down), 1 prefix, settled after 0 steps")
+        self.assertIn("<tr><td>b</td><td>inf</td></tr>", network._repr_html_())
+        self.assertEqual(network.table("a")._repr_html_().count("<td>"), 2)
+        shown = [network, tuhvondi.Image([tuhvondi.Row.local(NET)]), tuhvondi.Router([1], {NET: 1})]
+        self.assertEqual(list(map(repr, shown[1:])), [
+            "Image of 1 rows, generation 0", "Router of 1 prefixes, 0 rows to publish, 0 messages held, generation 0"])
+        for each in shown:
+            each.close()
+            self.assertEqual(repr(each), f"{type(each).__name__}, which is closed")
+        self.assertIn("closed", network._repr_html_())
+
     def test_a_link_comes_up_as_often_as_it_can(self):
         network = Network("ab", [("a", "b", 1)], {"a": NET}, up=False)
         for number in range(65535):

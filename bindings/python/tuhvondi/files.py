@@ -10,6 +10,7 @@ import shutil
 import subprocess
 import tempfile
 import unicodedata
+from html import escape
 from pathlib import Path
 from typing import Any, Dict, Hashable, Iterable, List, Sequence, Set
 
@@ -112,6 +113,26 @@ def json_text(value: Any) -> str:
             return each
         return None if each == math.inf else str(each)
     return json.dumps(plain(value)) + "\n"
+
+
+def html(value: Any) -> str:
+    """A value as a text of HTML.
+
+    >>> html("<b>")
+    '&lt;b&gt;'
+    """
+    return escape(str(value))
+
+
+def html_table(head: Sequence[Any], rows: Iterable[Sequence[Any]]) -> str:
+    """A table of HTML.
+
+    >>> html_table(["a"], [[1]])
+    '<table><tr><th>a</th></tr><tr><td>1</td></tr></table>'
+    """
+    lines = [("th", head), *(("td", row) for row in rows)]
+    return "<table>" + "".join(
+        "<tr>" + "".join(f"<{tag}>{html(cell)}</{tag}>" for cell in row) + "</tr>" for tag, row in lines) + "</table>"
 
 
 def page(path: Any, documents: Dict[str, str]) -> None:

@@ -8,7 +8,7 @@ from typing import Any, Callable, Dict, Hashable, Iterator, List, Mapping, Optio
 from .files import write_text
 from .status import BadCost, BadLink
 
-CostGiven = Union[str, int, Callable[[Hashable, Hashable, Mapping[str, Any]], int]]
+CostGiven = Union[str, int, Callable[[Any, Any, Mapping[str, Any]], int]]
 # The attributes that count if none is named, and what counts of an edge that has none: a cost, and a delay in
 # microseconds. The same of a node: how long it takes to publish.
 _COST, _DELAY, _PUBLICATION = ("weight", 1), ("delay", 1000), ("publication", 1000)

@@ -173,6 +173,9 @@ class Image(Owner):
             if written.value < _MANY:
                 return
 
+    def __repr__(self) -> str:
+        return f"Image of {len(self):,} rows, generation {self.generation}" if self._handle.holds_ else "Image, which is closed"
+
     def __iter__(self) -> Iterator[Row]:
         return self.rows()
 

@@ -9,20 +9,21 @@ import math
 import time
 from ctypes import byref, c_size_t, c_uint8
 from ipaddress import IPv4Address, IPv4Network
-from typing import (Any, Callable, Hashable, Iterable, Iterator, List, Mapping, NamedTuple, Optional, Sequence,
+from typing import (Any, Callable, Iterable, Iterator, List, Mapping, NamedTuple, Optional, Sequence,
                     Tuple, TypeVar, Union)
 
 from . import _library, files, graphs
 from .owner import Owner
 from .rows import (Address, Distance, Kind, Prefix, address_number, cost_number, distance_of, network_of,
                    number_of, prefix_parts)
-from .status import (BY_NETWORK, BadLink, BadRouters, NoClock, UnknownLink, UnknownPrefix, UnknownRouter,
+from .status import (BY_NETWORK, BadCost, BadLink, BadRouters, NoClock, UnknownLink, UnknownPrefix, UnknownRouter,
                      refusal)
 
-# A router's name: whatever can be a key of a dict, as nodes of networkx are.
-Name = Hashable
+# A router's name: whatever can be a key of a dict, as nodes of networkx are. It is Any and not Hashable, because a checker
+# of types would take no dict of your names for a dict of Hashable.
+Name = Any
 # The prefixes of routers, by their names: one prefix, several, or several with their costs.
-Attachments = Mapping[Name, Union[Prefix, Iterable[Prefix], Mapping[Prefix, int]]]
+Attachments = Mapping[Name, Union[Prefix, Iterable[Prefix], Mapping[Any, int]]]
 # A link: the two routers' names, and its cost; or its cost from the first and its cost from the second.
 LinkGiven = Union[Tuple[Name, Name, int], Tuple[Name, Name, int, int]]
 
@@ -35,6 +36,8 @@ _BEGIN, _SECONDS, _MORE = 256, 0.05, 4
 _SETTLES = 4096
 # The largest number that can be given.
 _MOST = 2 ** 64 - 1
+# How many prefixes Jupyter is shown, and half as many as there are routers.
+_SHOWN = 10
 # What stands in the list of what was done: a step, or so many steps of a settling.
 _STEP, _SETTLING = 0, 1
 _RECORD = 24
@@ -147,6 +150,17 @@ class Entry(NamedTuple):
         if self.kind == Kind.VIA:
             return f"{self.prefix} via {self.next}, session {self.session}"
         return f"{self.prefix} {self.kind.name.lower()}"
+
+
+class Table(List[Entry]):
+    """The rows in force at a router: a list, which Jupyter shows as a table.
+
+    >>> Table([Entry(IPv4Network("10.0.0.0/8"), Kind.LOCAL)])._repr_html_()
+    '<table><tr><th>prefix</th><th>next</th></tr><tr><td>10.0.0.0/8</td><td>local</td></tr></table>'
+    """
+
+    def _repr_html_(self) -> str:
+        return files.html_table(["prefix", "next"], [str(entry).split(" ", maxsplit=1) for entry in self])
 
 
 class Trace(NamedTuple):
@@ -292,6 +306,10 @@ class Held(NamedTuple):
     due: bool
 
 
+def _counted(number: int, one: str, many: str = "") -> str:
+    return f"{number:,} {one if number == 1 else many or one + 's'}"
+
+
 def default_attachments(routers: Sequence[Name]) -> "dict[Name, IPv4Network]":
     """A prefix for each router: 10.0.0.0/24 for the first, 10.0.1.0/24 for the second, and so on.
 
@@ -354,20 +372,28 @@ class Whole(Owner):
         return a, b, costs[0], costs[-1]
 
     @staticmethod
-    def _cost(cost: int, where: str) -> int:
+    def _cost(cost: Optional[int], where: str) -> int:
+        if cost is None:
+            raise BadCost(f"the step names none for {where}")
         number = cost_number(cost)
         if not 1 <= number <= 65535:
             raise refusal(5, BY_NETWORK, f"{cost} of {where}")
         return number
 
     def _owners(self, attachments: Attachments) -> "list[tuple[int, int, int, int]]":
+        if not isinstance(attachments, Mapping):
+            raise TypeError(f"the attachments are {attachments!r}, and have to be a dict of prefixes by router")
         owners = []
         for name, prefixes in attachments.items():
-            if isinstance(prefixes, (str, IPv4Network)):
-                prefixes = {prefixes: 1}
-            elif not isinstance(prefixes, Mapping):
-                prefixes = [(prefix, 1) for prefix in prefixes]
-            pairs = prefixes.items() if isinstance(prefixes, Mapping) else prefixes
+            if isinstance(prefixes, Mapping):
+                pairs = list(prefixes.items())
+            elif isinstance(prefixes, (str, IPv4Network)):
+                pairs = [(prefixes, 1)]
+            elif isinstance(prefixes, Iterable):
+                pairs = [(prefix, 1) for prefix in prefixes]
+            else:
+                raise TypeError(f"the attachment of {name!r} is {prefixes!r}, and has to be a prefix, several, or a dict of "
+                                "their costs")
             for prefix, cost in pairs:
                 number = self._number(name)
                 owners.append((*prefix_parts(prefix), self._cost(cost, f"the attachment of {name}"), number))
@@ -385,13 +411,24 @@ class Whole(Owner):
         if status:
             where = ""
             if place.list == 1:
-                a, b = self._pairs[place.position]
-                where = f"{self._names[a]!r} and {self._names[b]!r}"
+                where = self._fault_of_link(status, place.position)
             elif place.list == 2:
                 addr, length, _, router = owners[place.position]
                 where = f"{network_of(addr, length)} of {self._names[router]!r}"
             raise refusal(status, BY_NETWORK, where)
         self._given = (links, owners)
+
+    def _fault_of_link(self, status: int, position: int) -> str:
+        """Why the library refuses a link: which limit was met, and by whom."""
+        pair = self._pairs[position]
+        a, b = (self._names[end] for end in pair)
+        if status == BadLink.number:
+            return f"a link joins {a!r} to itself" if a == b else f"there is a second link of {a!r} and {b!r}"
+        for end in pair:
+            if sum(end in other for other in self._pairs[:position]) >= _library.PORTS:
+                return (f"router {self._names[end]!r} would have {len(self._neighbours[end])} links, and can have "
+                        f"{_library.PORTS}")
+        return f"the network would have {len(self._pairs)} links, and can have {_WIDEST[1]}"
 
     def _new(self, limits: Any, routers: int, links: Any, link_count: int, owners: Any, owner_count: int,
              place: _library.FaultPlaceParts) -> int:
@@ -724,7 +761,8 @@ class Whole(Owner):
     def _number(self, router: Name) -> int:
         number = self._numbers.get(router)
         if number is None:
-            raise UnknownRouter(repr(router))
+            like = [name for name in self._names if str(name) == str(router)]
+            raise UnknownRouter(f"{router!r}" + (f", though there is {like[0]!r}, a {type(like[0]).__name__}" if like else ""))
         return number
 
     def _prefix(self, prefix: Prefix) -> "tuple[int, int]":
@@ -777,24 +815,26 @@ class Whole(Owner):
 
     def _parts_of(self, step: Step) -> "tuple[_library.StepParts, str]":
         """A step as the library has it, and what a refusal says of it."""
+        if not isinstance(step, Step):
+            raise TypeError(f"{step!r} is no Step: give one, as Step(StepKind.LINK_DOWN, 'a', 'b')")
         kind, near = StepKind(step.kind), self._number(step.router)
         if kind in (StepKind.ATTACH, StepKind.DETACH):
             if step.prefix is None:
                 raise UnknownPrefix("the step names none")
             addr, length = self._prefix(step.prefix)
-            cost = self._cost(step.cost or 0, f"the attachment of {step.router}") if kind == StepKind.ATTACH else 0
+            cost = self._cost(step.cost, f"the attachment of {step.router!r}") if kind == StepKind.ATTACH else 0
             return _library.StepParts(addr=addr, cost=cost, subject=near, kind=kind, len=length), str(step.prefix)
         if kind in (StepKind.PUBLISH, StepKind.RELEASE):
             return _library.StepParts(subject=near, kind=kind), ""
         if step.neighbour is None:
             if kind != StepKind.DELIVER:
-                raise BadLink("the step names one router")
+                raise BadLink("the step needs `neighbour`, the router at the other end of the link")
             return _library.StepParts(subject=near, kind=kind, port=len(self._neighbours[near])), ""
         far = self._number(step.neighbour)
         link, names = self._link(near, far), f"{step.router!r} and {step.neighbour!r}"
         if kind in (StepKind.LINK_UP, StepKind.LINK_DOWN):
             return _library.StepParts(subject=link, kind=kind), names
-        cost = self._cost(step.cost or 0, f"the link of {names}") if kind == StepKind.SET_COST else 0
+        cost = self._cost(step.cost, f"the link of {names}") if kind == StepKind.SET_COST else 0
         return _library.StepParts(subject=near, kind=kind, port=self._ports[near, far], cost=cost), ""
 
     def _step_of(self, parts: _library.StepParts) -> Optional[Step]:
@@ -811,6 +851,26 @@ class Whole(Owner):
         if kind in (StepKind.DELIVER, StepKind.SET_COST) and parts.port < len(neighbours):
             return Step(kind, router, self._names[neighbours[parts.port]], cost=cost)
         return Step(kind, router)
+
+    # ---- what is shown of it
+
+    def __repr__(self) -> str:
+        kind = type(self).__name__
+        if not self._handle.holds_:
+            return f"{kind}, which is closed"
+        down = sum(not link.is_up for link in self.links)
+        return (f"{kind} of {_counted(len(self._names), 'router')}, {_counted(len(self._pairs), 'link')}"
+                f"{f' ({down:,} down)' if down else ''}, {_counted(len(self._prefixes), 'prefix', 'prefixes')}, {self._so_far()}")
+
+    def _so_far(self) -> str:
+        """How far it is, for people."""
+        raise NotImplementedError
+
+    def _repr_html_(self) -> str:
+        """What Jupyter shows: the distances of the first routers to the first prefixes."""
+        prefixes = self.prefixes[:_SHOWN] if self._handle.holds_ else []
+        rows = [[name, *(self.distance(name, prefix) for prefix in prefixes)] for name in self._names[:2 * _SHOWN]]
+        return f"<p>{files.html(repr(self))}</p>{files.html_table(['distance', *prefixes], rows)}"
 
     # ---- what can be asked
 
@@ -869,7 +929,7 @@ class Whole(Owner):
             byref(count), byref(end)))
         return Trace(tuple(self._names[number] for number in self._hops[:count.value]), End(end.value))
 
-    def table(self, router: Name) -> List[Entry]:
+    def table(self, router: Name) -> Table:
         """The rows in force at a router, in the order of their prefixes.
 
         >>> net = Network("ab", [("a", "b", 5)])
@@ -887,7 +947,7 @@ class Whole(Owner):
         self._need(self._library.network_rows(self._at, number, rows, len(self._prefixes),
                                               byref(written), byref(more)))
         entries = (self._entry(number, parts) for parts in rows[:written.value])
-        return [entry for entry in entries if entry is not None]
+        return Table(entry for entry in entries if entry is not None)
 
     def _machine(self, router: int, prefix: "tuple[int, int]", parts: _library.MachineParts) -> bool:
         """Writes what a router has of a prefix, and answers whether it has heard of it."""
@@ -1119,6 +1179,8 @@ class Network(Whole):
     and attachments change. A ring of three routers:
 
     >>> net = Network("abc", [("a", "b", 1), ("b", "c", 1), ("a", "c", 5)], {"a": "10.0.0.0/8"})
+    >>> net
+    Network of 3 routers, 3 links, 1 prefix, not settled after 3 steps
     >>> net.settle().messages > 0
     True
     >>> net.distances("10.0.0.0/8")
@@ -1291,6 +1353,9 @@ class Network(Whole):
         settled = c_uint8()
         self._need(self._library.network_is_settled(self._at, byref(settled)))
         return bool(settled.value)
+
+    def _so_far(self) -> str:
+        return f"{'settled' if self.is_settled else 'not settled'} after {_counted(self.counts.steps, 'step')}"
 
     # ---- pickles
 

@@ -7,7 +7,7 @@ import enum
 import math
 from ctypes import byref, c_size_t, c_uint8, c_uint64
 from ipaddress import IPv4Network
-from typing import Iterator, Mapping, NamedTuple, Optional, Sequence
+from typing import Any, Iterator, Mapping, NamedTuple, Optional, Sequence
 
 from . import _library
 from .owner import Owner
@@ -171,7 +171,7 @@ class Router(Owner):
 
     _kind = "router"
 
-    def __init__(self, costs: Sequence[int], attachments: Optional[Mapping[Prefix, int]] = None,
+    def __init__(self, costs: Sequence[int], attachments: Optional[Mapping[Any, int]] = None,
                  most_prefixes: int = 4096) -> None:
         super().__init__()
         if most_prefixes < 0:
@@ -298,6 +298,13 @@ class Router(Owner):
         self._need(self._library.router_counts(self._at, byref(parts)))
         return RouterCounts(parts.prefixes, parts.changed, parts.held, parts.ripe, parts.generation,
                             bool(parts.due))
+
+    def __repr__(self) -> str:
+        if not self._handle.holds_:
+            return "Router, which is closed"
+        counts = self.counts()
+        return (f"Router of {counts.prefixes:,} prefixes, {counts.changed:,} rows to publish, {counts.held:,} messages held, "
+                f"generation {counts.generation}")
 
     def publish(self, room: Optional[int] = None) -> Optional[Publication]:
         """Puts the rows that the router chose in force, and gives them; None if nothing is due.

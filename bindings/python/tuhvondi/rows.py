@@ -7,11 +7,11 @@ import enum
 import functools
 import math
 import operator
-from ipaddress import IPv4Address, IPv4Network
+from ipaddress import AddressValueError, IPv4Address, IPv4Network, NetmaskValueError
 from typing import Any, Iterable, NamedTuple, Optional, Union
 
 from . import _library
-from .status import BadCost
+from .status import BadCost, BadLength, HostBits
 
 # What stands for a prefix: a text such as "10.0.0.0/8", or an IPv4Network.
 Prefix = Union[str, IPv4Network]
@@ -61,7 +61,7 @@ class Row(NamedTuple):
         >>> print(Row.local("10.0.0.0/8"))
         10.0.0.0/8 local
         """
-        return cls(IPv4Network(prefix), Kind.LOCAL)
+        return cls(network_of(*prefix_parts(prefix)), Kind.LOCAL)
 
     @classmethod
     def via(cls, prefix: Prefix, port: int, session: int = 1) -> Row:
@@ -70,7 +70,7 @@ class Row(NamedTuple):
         >>> print(Row.via("192.0.2.0/24", 0))
         192.0.2.0/24 via 0 1
         """
-        return cls(IPv4Network(prefix), Kind.VIA, port, session)
+        return cls(network_of(*prefix_parts(prefix)), Kind.VIA, port, session)
 
     @classmethod
     def unreachable(cls, prefix: Prefix) -> Row:
@@ -79,7 +79,7 @@ class Row(NamedTuple):
         >>> print(Row.unreachable("0.0.0.0/0"))
         0.0.0.0/0 unreachable
         """
-        return cls(IPv4Network(prefix), Kind.UNREACHABLE)
+        return cls(network_of(*prefix_parts(prefix)), Kind.UNREACHABLE)
 
     def __str__(self) -> str:
         if self.kind == Kind.VIA:
@@ -95,7 +95,14 @@ def network_of(addr: int, length: int) -> IPv4Network:
 
 @functools.lru_cache(maxsize=65536)
 def _prefix_of_text(text: str) -> tuple[int, int]:
-    network = IPv4Network(text)
+    try:
+        network = IPv4Network(text)
+    except NetmaskValueError:
+        raise BadLength(repr(text)) from None
+    except AddressValueError:
+        raise
+    except ValueError:
+        raise HostBits(repr(text)) from None
     return int(network.network_address), network.prefixlen
 
 
@@ -117,7 +124,11 @@ def address_number(address: Address) -> int:
 
 def cost_number(cost: int) -> int:
     """A cost that the library can be given. It refuses those outside 1 to 65535 itself."""
-    if isinstance(cost, bool) or cost != int(cost):
+    try:
+        is_whole = not isinstance(cost, bool) and cost == int(cost)
+    except (TypeError, ValueError, OverflowError):
+        is_whole = False
+    if not is_whole:
         raise BadCost(f"{cost!r} is no whole number")
     if not 0 <= cost <= 0xFFFFFFFF:
         raise BadCost(str(cost))

@@ -22,9 +22,11 @@ class Refused(Exception):
 
     number: int = 0
     text: str = "the call is refused"
+    # Whether what is said of one case says all.
+    alone: bool = False
 
     def __init__(self, detail: str = "") -> None:
-        super().__init__(f"{self.text}: {detail}" if detail else self.text)
+        super().__init__(detail if detail and self.alone else f"{self.text}: {detail}" if detail else self.text)
         self.detail = detail
 
     def __reduce__(self) -> Any:
@@ -63,6 +65,7 @@ class BadKind(Refused, ValueError):
     """The kind of a row, a message or a step is too large, or the step is no change that can be given."""
 
     number, text = 6, "a kind is too large, or the step is no change that can be given"
+    alone = True
 
 
 class EmptyHandle(Refused):
@@ -159,12 +162,14 @@ class BadLink(Refused, ValueError):
     """A link does not join two routers that no earlier link joins."""
 
     number, text = 25, "the link does not join two routers that no earlier link joins"
+    alone = True
 
 
 class TooManyLinks(Refused, ValueError):
     """A network has at most 65,536 links, and a router 32."""
 
     number, text = 26, "a network has at most 65536 links, and a router 32"
+    alone = True
 
 
 class TooManyPorts(Refused, ValueError):

@@ -9,6 +9,7 @@ from typing import Any, Callable, Iterable, List, Mapping, NamedTuple, Optional,
 from . import _library, files, graphs
 from .network import Attachments, Counts, LinkGiven, Name, Step, StepKind, Whole
 from .rows import network_of, number_of
+from .status import BadKind, PastMoment
 
 # The delay from one router to another: a number for all, by the two names, or a function of them.
 DelayGiven = Union[int, Mapping[Tuple[Name, Name], int], Callable[[Name, Name], int]]
@@ -88,6 +89,8 @@ class TimedNetwork(Whole):
     >>> _ = net.run_to_rest()
     >>> print(net.trace("b", "10.1.2.3"), "- at rest since", net.now)
     b c a: delivered - at rest since 1002300
+    >>> net
+    TimedNetwork of 3 routers, 3 links (1 down), 1 prefix, at rest since 1,002,300 µs
 
     All that is proved of a network holds of this one at every moment, whatever the delays are. It is also
     proved that nothing is done before it is due, and that nothing that is due is left out. A record is exact: a
@@ -197,8 +200,13 @@ class TimedNetwork(Whole):
         NoMemory.
         """
         parts, detail = self._parts_of(step)
+        if step.kind in (StepKind.DELIVER, StepKind.PUBLISH, StepKind.RELEASE):
+            raise BadKind("routers deliver, publish and release by themselves: give a change of a link, a cost or an attachment")
         number = number_of("moment", moment, _LAST)
-        self._need(self._library.network_at(self._at, number, byref(parts)), detail)
+        status = self._library.network_at(self._at, number, byref(parts))
+        if status == PastMoment.number:
+            raise PastMoment(f"{number}, and it is {self.now}")
+        self._need(status, detail)
         self._done.append((number, self._step_of(parts) or step))
 
     def _give(self, steps: Sequence[Step], at: Optional[int]) -> None:
@@ -357,6 +365,9 @@ class TimedNetwork(Whole):
         rests = c_uint8()
         self._need(self._library.network_is_at_rest(self._at, byref(rests)))
         return bool(rests.value)
+
+    def _so_far(self) -> str:
+        return f"at rest since {self.now:,} µs" if self.is_at_rest else f"not at rest at {self.now:,} µs"
 
     # ---- what went on, and what goes on
 
