@@ -189,13 +189,13 @@ class Parts(unittest.TestCase):
 
         def call(wanted, done):
             parts.append(wanted)
-            clock[0] += wanted * (0.001 if len(parts) < 4 else 1e-5)
+            clock[0] += wanted * (2 ** -10 if len(parts) < 6 else 2 ** -17)
             done.value = wanted
 
         with mock.patch.object(time, "perf_counter", lambda: clock[0]):
-            network._in_parts(2000, call, lambda counts: None)
-        # A quarter of a second at first; then events take a hundredth of the time.
-        self.assertEqual(parts, [256, 50, 50, 50, 200, 800, 594])
+            network._in_parts(2000, None, call)
+        # 51 events take 50 ms at first, and then a hundredth of that.
+        self.assertEqual(parts, [1, 4, 16, 51, 51, 51, 204, 816, 806])
 
     def test_a_settling_is_the_same_each_time_and_tells_how_far_it_is(self):
         routers = range(40)
@@ -220,7 +220,8 @@ class Parts(unittest.TestCase):
         attachments = tuhvondi.default_attachments(routers[:20])
         before = signal.signal(signal.SIGPROF, interrupt)
         try:
-            for network in (Network(routers, links, attachments), tuhvondi.TimedNetwork(routers, links, attachments)):
+            for network in (Network(routers, links, attachments), tuhvondi.TimedNetwork(routers, links, attachments),
+                            tuhvondi.TimedNetwork(routers, links, attachments, record=True)):
                 run = network.settle if isinstance(network, Network) else network.run_to_rest
                 began = time.process_time()
                 signal.setitimer(signal.ITIMER_PROF, 0.1)
@@ -452,7 +453,7 @@ class Refusals(unittest.TestCase):
             (ValueError, "moment is 10000000.0", lambda: timed.at(1e7, Step(StepKind.LINK_DOWN, "a", "b"))),
             (tuhvondi.PastMoment, f"0, and it is {timed.now}", lambda: timed.at(0, Step(StepKind.LINK_DOWN, "a", "b"))),
             (tuhvondi.BadCost, "the step names none for", lambda: timed.at(9000, Step(StepKind.SET_COST, "a", "b"))),
-            (tuhvondi.UnknownRouter, "'0', though there is 0, a int", lambda: Network.from_networkx(graph, {"0": NET})),
+            (tuhvondi.UnknownRouter, "'0', though there is 0, of type int", lambda: Network.from_networkx(graph, {"0": NET})),
             (tuhvondi.BadLength, "10.0.0.0/33", lambda: network.distance("a", "10.0.0.0/33")),
             (tuhvondi.HostBits, "10.0.0.1/8", lambda: network.distance("a", "10.0.0.1/8")),
             (tuhvondi.TooManyLinks, "^router 0 would have 33 links, and can have 32$", lambda: Network(range(35), many)),

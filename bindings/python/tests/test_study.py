@@ -1,6 +1,5 @@
 """Studies: their measures beside others, their program and its files."""
 
-import contextlib
 import csv
 import io
 import json
@@ -82,8 +81,13 @@ class Measures(unittest.TestCase):
                      lambda: study.run(study.start(network), [], processes=0)):
             with self.assertRaises(ValueError):
                 call()
-        with self.assertRaises(RuntimeError), contextlib.redirect_stderr(io.StringIO()):
-            study.run(network, [("a", "x")])
+        network.fail("a", "b")
+        network.settle()
+        rows = [(tuhvondi.UnknownRouter, ("a", "x")), (tuhvondi.UnknownRouter, ("x",)), (tuhvondi.UnknownLink, ("a", "a")),
+                (tuhvondi.IsDown, ("a", "b")), (ValueError, "ab"), (ValueError, ()), (ValueError, ("a", "b", "a"))]
+        for expected, failure in rows:
+            with self.subTest(failure), self.assertRaises(expected):
+                study.run(network, [failure])
 
     def test_a_process_that_dies(self):
         network = study.start(Network("ab", [("a", "b", 1)]))
@@ -109,13 +113,24 @@ class Program(unittest.TestCase):
         done = self.run_it("study", self.graph, "--fail", "each-link", "--processes", 2, "--csv", table,
                            "--json", lines)
         self.assertEqual((done.returncode, done.stdout), (0, ""), done.stderr)
-        self.assertIn("4 failures", done.stderr)
+        self.assertIn("4 failures: median / 95 % / most", done.stderr)
         with open(table, encoding="utf-8", newline="") as file:
             rows = list(csv.DictReader(file))
         objects = json.loads(lines.read_text(encoding="utf-8"))
         self.assertEqual(rows, [{key: str(value) for key, value in each.items()} for each in objects])
         self.assertEqual([row["failed"] for row in rows], ["a - b", "b - c", "a - c", "c - d"])
         self.assertEqual([row["cut"] for row in rows], ["0", "0", "0", "6"])
+
+    def test_by_time(self):
+        done = self.run_it("study", self.graph, "--timed", "--delay", 500, "--publication", 100, "--fail", "each-router",
+                           "--prefixes", 2, "--processes", 2)
+        self.assertEqual(done.returncode, 0, done.stderr)
+        lines = list(csv.DictReader(io.StringIO(done.stdout)))
+        self.assertEqual([line["protocol"] for line in lines], 4 * ["DUAL", "distance vector", "link state"])
+        self.assertEqual({line["looped"] for line in lines[::3]}, {"0"})
+        self.assertIn("lost flow-µs, link state: ", done.stderr)
+        done = self.run_it("study", self.graph, "--timed", "--delay", "dealy")
+        self.assertEqual((done.returncode, "no edge has the attribute 'dealy'" in done.stderr), (1, True))
 
     def test_standard_output(self):
         done = self.run_it("study", self.graph, "--fail", "each-router", "--prefixes", 1, "--seed", 5)
@@ -144,10 +159,11 @@ class Program(unittest.TestCase):
             import matplotlib  # pylint: disable=import-outside-toplevel,unused-import
         except ImportError:
             self.skipTest("matplotlib is not installed")
-        picture = self.folder / "out.png"
-        done = self.run_it("study", self.graph, "--plot", picture)
-        self.assertEqual(done.returncode, 0, done.stderr)
-        self.assertTrue(picture.read_bytes().startswith(b"\x89PNG"))
+        for words, name, begin in (([], "out.png", b"\x89PNG"), (["--timed"], "out.svg", b"<?xml")):
+            picture = self.folder / name
+            done = self.run_it("study", self.graph, *words, "--plot", picture)
+            self.assertEqual(done.returncode, 0, done.stderr)
+            self.assertTrue(picture.read_bytes().startswith(begin))
 
     def test_plots_by_a_stand_in(self):
         """What is drawn, without matplotlib."""
@@ -161,7 +177,9 @@ class Program(unittest.TestCase):
             study.plot(outcomes, "out.png")
         figure.savefig.assert_called_once_with("out.png")
         for each, field in zip(axes, study.PLOTS):
-            self.assertEqual(each.hist.call_args[0][0], [getattr(outcome, field) for outcome in outcomes])
+            values, shares = each.step.call_args[0]
+            self.assertEqual(values, [0, *sorted(getattr(outcome, field) for outcome in outcomes)])
+            self.assertEqual(shares, [0, 0.5, 1])
 
 
 if __name__ == "__main__":

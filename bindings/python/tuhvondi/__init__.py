@@ -12,7 +12,8 @@ What is here
   event loop of your own, or if routers are processes of their own.
 - `Image`: a forwarding table, which answers addresses by the longest match.
 - `tuhvondi.study`: each link or router of a network fails alone, from one settled state: messages, rounds to
-  rest, active routers, outages. `python3 -m tuhvondi study FILE` does it with a file of GraphML.
+  rest, active routers, outages. `python3 -m tuhvondi study FILE` does it with a file of GraphML, and with `--timed`
+  by time and beside `tuhvondi.baselines`, which are link state and a distance vector.
 - `Refused`: why a call is refused, with an exception for each number of the library.
 
 A first network
@@ -53,7 +54,8 @@ A cost is a whole number from 1 to 65535 and has no unit. A distance is a sum of
 at the end included; `math.inf` says that there is no way. A session says how often a link came up. Addresses
 are texts such as "10.1.2.3", numbers of 32 bits, or `ipaddress.IPv4Address`. Prefixes are texts such as
 "10.0.0.0/8" or `ipaddress.IPv4Network`. A network has no clock: its time is counted in steps. Moments and
-delays of a timed network are whole numbers of microseconds, and its opening is at moment 0.
+delays of a timed network are whole numbers of microseconds, and its opening is at moment 0. A network has at most
+65,536 routers and as many links, and a router 32 links.
 
 What is proved
 ==============
@@ -69,11 +71,11 @@ are in it at once. The interpreter's lock sees to that. In an interpreter withou
 here to one thread.
 """
 
-from . import study
+from . import baselines, study
 from ._library import LibraryNotFound
 from .image import Image
 from .network import (Counts, End, Entry, Held, HeldMessage, Item, ItemKind, LinkState,
-                      MachineState, Network, Notice, Step, StepKind, Trace, default_attachments)
+                      MachineState, Network, Notice, Step, StepKind, Table, Trace, default_attachments)
 from .router import Message, MessageKind, PrefixState, Publication, Router, RouterCounts
 from .rows import Address, Distance, Kind, Prefix, Row
 from .status import (AlreadyUp, AskedTwice, BadCost, BadCount, BadKind, BadLength, BadLimits,
@@ -87,9 +89,9 @@ from .timed import Event, Spell, TimedNetwork
 __version__ = "0.2.0"
 
 __all__ = [
-    "study",
+    "baselines", "study",
     "Network", "Counts", "End", "Entry", "Held", "HeldMessage", "Item", "ItemKind", "LinkState",
-    "MachineState", "Notice", "Step", "StepKind", "Trace", "default_attachments",
+    "MachineState", "Notice", "Step", "StepKind", "Table", "Trace", "default_attachments",
     "TimedNetwork", "Event", "Spell",
     "Router", "Message", "MessageKind", "PrefixState", "Publication", "RouterCounts",
     "Image", "Row", "Kind",

@@ -82,7 +82,7 @@ def document(**lists: Sequence[str]) -> str:
     links = [
     ]
     """
-    return "".join("".join([f"{key} = [\n", *(f'    "{line}",\n' for line in lines), "]\n"]) for key, lines in lists.items())
+    return "".join(f"{key} = [\n" + "".join(f'    "{line}",\n' for line in lines) + "]\n" for key, lines in lists.items())
 
 
 def check_limits(**counts: int) -> None:

@@ -158,8 +158,8 @@ def write_graphml(graph: Graph, file: Any) -> None:
     """Writes a graph as GraphML, whose ids are the nodes' names as texts.
 
     >>> import sys
-    >>> write_graphml(Graph({1: {}}, [], directed=False), sys.stdout)
-    <graphml xmlns="http://graphml.graphdrawing.org/xmlns"><graph edgedefault="undirected"><node id="1" /></graph></graphml>
+    >>> write_graphml(Graph({1: {}}, [], directed=False), sys.stdout)   # doctest: +ELLIPSIS
+    <graphml xmlns="..."><graph edgedefault="undirected"><node id="1" /></graph></graphml>
 
     Raises ValueError if two names are the same text.
     """
@@ -174,9 +174,9 @@ def write_graphml(graph: Graph, file: Any) -> None:
         for name, value in data.items():
             if (kind, name) not in keys:
                 keys[kind, name] = f"d{len(keys)}"
-                types = {bool: "boolean", int: "long"}
+                of = {bool: "boolean", int: "long"}.get(type(value), "string")
                 root.insert(len(keys) - 1, ElementTree.Element("key", {
-                    "id": keys[kind, name], "for": kind, "attr.name": name, "attr.type": types.get(type(value), "string")}))
+                    "id": keys[kind, name], "for": kind, "attr.name": name, "attr.type": of}))
             ElementTree.SubElement(element, "data", key=keys[kind, name]).text = str(value)
 
     for node, data in graph.nodes.items():

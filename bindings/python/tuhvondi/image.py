@@ -174,7 +174,9 @@ class Image(Owner):
                 return
 
     def __repr__(self) -> str:
-        return f"Image of {len(self):,} rows, generation {self.generation}" if self._handle.holds_ else "Image, which is closed"
+        if not self._handle.holds_:
+            return "Image, which is closed"
+        return f"Image of {len(self):,} rows, generation {self.generation}"
 
     def __iter__(self) -> Iterator[Row]:
         return self.rows()

@@ -19,8 +19,8 @@ from .rows import (Address, Distance, Kind, Prefix, address_number, cost_number,
 from .status import (BY_NETWORK, BadCost, BadLink, BadRouters, NoClock, UnknownLink, UnknownPrefix, UnknownRouter,
                      refusal)
 
-# A router's name: whatever can be a key of a dict, as nodes of networkx are. It is Any and not Hashable, because a checker
-# of types would take no dict of your names for a dict of Hashable.
+# A router's name: whatever can be a key of a dict, as nodes of networkx are. It is Any and not Hashable, because a
+# checker of types would take no dict of your names for a dict of Hashable.
 Name = Any
 # The prefixes of routers, by their names: one prefix, several, or several with their costs.
 Attachments = Mapping[Name, Union[Prefix, Iterable[Prefix], Mapping[Any, int]]]
@@ -29,9 +29,10 @@ LinkGiven = Union[Tuple[Name, Name, int], Tuple[Name, Name, int, int]]
 
 # The widest limits that the library has: of routers, links, links of a router, prefixes and attachments.
 _WIDEST = (65536, 65536, 32, 4294967295, 4294967295)
-# Calls end after a while, so that an interrupt from the keyboard is heard and progress is told: with how many steps they
-# begin, how many seconds each is to take, and how many times as many steps as the one before it may do.
-_BEGIN, _SECONDS, _MORE = 256, 0.05, 4
+# Calls end after a while, so that an interrupt from the keyboard is heard and progress is told: how many seconds each is
+# to take, and how many times as many steps as the one before it may do. They begin with one, because an event of a large
+# network with a record can take that long.
+_SECONDS, _MORE = 0.05, 4
 # A settling does as many steps at a time as there are routers, and at least so many.
 _SETTLES = 4096
 # The largest number that can be given.
@@ -392,8 +393,8 @@ class Whole(Owner):
             elif isinstance(prefixes, Iterable):
                 pairs = [(prefix, 1) for prefix in prefixes]
             else:
-                raise TypeError(f"the attachment of {name!r} is {prefixes!r}, and has to be a prefix, several, or a dict of "
-                                "their costs")
+                raise TypeError(f"the attachment of {name!r} is {prefixes!r}, and has to be a prefix, several, or a dict "
+                                "of their costs")
             for prefix, cost in pairs:
                 number = self._number(name)
                 owners.append((*prefix_parts(prefix), self._cost(cost, f"the attachment of {name}"), number))
@@ -616,13 +617,20 @@ class Whole(Owner):
         """The link of two routers goes down, and the messages on it are lost. With one router, all its links
         that are up go down, as if it had stopped.
 
-        In simulated time `at` is the moment at which it happens, or the present one if you give none, and what you
-        give happens as time goes on. Which links are up then, says what you have given up to now.
+        In simulated time `at` is the moment at which it is to happen, or the present one if you give none. Of a router
+        it is then that those links go down which are up at that moment by what you have given so far.
 
         >>> net = Network("abc", [("a", "b", 1), ("b", "c", 1)])
         >>> net.fail("b")
         >>> [link.is_up for link in net.links]
         [False, False]
+        >>> from tuhvondi import TimedNetwork
+        >>> timed = TimedNetwork("abc", [("a", "b", 1), ("b", "c", 1)])
+        >>> timed.fail("b", at=1_000_000)
+        >>> timed.restore("b", at=2_000_000)
+        >>> _ = timed.run_to_rest()
+        >>> [link.session for link in timed.links]
+        [2, 2]
 
         Raises UnknownRouter, UnknownLink, and IsDown if the link is down; NoClock if `at` is given and there is no
         clock, PastMoment.
@@ -687,7 +695,7 @@ class Whole(Owner):
         Raises UnknownRouter, BadCost, UnknownPrefix if it is none of `prefixes`, NoMemory; NoClock and PastMoment as
         `fail` does.
         """
-        self._give([Step(StepKind.ATTACH, router, prefix=prefix, cost=cost)], at)
+        self._give([Step(StepKind.ATTACH, router, prefix=network_of(*self._prefix(prefix)), cost=cost)], at)
 
     def detach(self, router: Name, prefix: Prefix, *, at: Optional[int] = None) -> None:
         """A router is attached to a prefix no more. `at` is as for `fail`.
@@ -700,7 +708,7 @@ class Whole(Owner):
 
         Raises UnknownRouter, UnknownPrefix, NotAttached, NoMemory; NoClock and PastMoment as `fail` does.
         """
-        self._give([Step(StepKind.DETACH, router, prefix=prefix)], at)
+        self._give([Step(StepKind.DETACH, router, prefix=network_of(*self._prefix(prefix)))], at)
 
     def _give(self, steps: Sequence[Step], at: Optional[int]) -> None:
         """Does these changes, or in simulated time gives them for a moment."""
@@ -762,7 +770,8 @@ class Whole(Owner):
         number = self._numbers.get(router)
         if number is None:
             like = [name for name in self._names if str(name) == str(router)]
-            raise UnknownRouter(f"{router!r}" + (f", though there is {like[0]!r}, a {type(like[0]).__name__}" if like else ""))
+            more = f", though there is {like[0]!r}, of type {type(like[0]).__name__}" if like else ""
+            raise UnknownRouter(f"{router!r}{more}")
         return number
 
     def _prefix(self, prefix: Prefix) -> "tuple[int, int]":
@@ -793,20 +802,21 @@ class Whole(Owner):
                 return found[:written.value]
             room *= 4
 
-    def _in_parts(self, most: Optional[int], call: Callable[[int, c_size_t], None], told: Callable[[Counts], Any],
-                  each: int = 0) -> Counts:
+    def _in_parts(self, most: Optional[int], progress: Optional[Callable[[Counts], Any]],
+                  call: Callable[[int, c_size_t], None], each: int = 0) -> Counts:
         """Does at most so many steps, or all, some at a time, and answers how many steps and messages these were.
-        `call` does at most the number that it is given, and writes how many it has done. It raises a refusal. `told` is
-        told after each part. A part has `each` steps, or else as many as take about `_SECONDS`."""
+        `call` does at most the number that it is given, and writes how many it has done. It raises a refusal. A part
+        has `each` steps, or else as many as take about `_SECONDS`."""
         before = self.counts
         left = math.inf if most is None else number_of("number `most`", most, _MOST)
-        done, part = c_size_t(), each or _BEGIN
+        done, part = c_size_t(), each or 1
         while left > 0:
             wanted = int(min(left, part))
             done.value, began = 0, time.perf_counter()
             call(wanted, done)
             took = time.perf_counter() - began
-            told(self.counts.since(before))
+            if progress:
+                progress(self.counts.since(before))
             if done.value < wanted:
                 break
             left -= wanted
@@ -859,8 +869,9 @@ class Whole(Owner):
         if not self._handle.holds_:
             return f"{kind}, which is closed"
         down = sum(not link.is_up for link in self.links)
-        return (f"{kind} of {_counted(len(self._names), 'router')}, {_counted(len(self._pairs), 'link')}"
-                f"{f' ({down:,} down)' if down else ''}, {_counted(len(self._prefixes), 'prefix', 'prefixes')}, {self._so_far()}")
+        links = _counted(len(self._pairs), "link") + (f" ({down:,} down)" if down else "")
+        prefixes = _counted(len(self._prefixes), "prefix", "prefixes")
+        return f"{kind} of {_counted(len(self._names), 'router')}, {links}, {prefixes}, {self._so_far()}"
 
     def _so_far(self) -> str:
         """How far it is, for people."""
@@ -1309,7 +1320,7 @@ class Network(Whole):
                 self._done += b"".join(it.to_bytes(8, "little") for it in (_SETTLING, number, done.value))
             self._need(status)
 
-        return self._in_parts(most, settle, progress or (lambda counts: None), max(_SETTLES, len(self._names)))
+        return self._in_parts(most, progress, settle, max(_SETTLES, len(self._names)))
 
     def next_step(self, router: Name) -> Optional[Step]:
         """What a router has to do next: a release; if it has none, a publication; else a delivery from its

@@ -1,6 +1,6 @@
 """Studies: each link or router of a network fails alone, from one settled state.
 
->>> from tuhvondi import Network, study
+>>> from tuhvondi import Network, TimedNetwork, study
 >>> net = Network("abcd", [("a", "b", 1), ("b", "c", 1), ("c", "d", 1), ("d", "a", 1)])
 >>> _ = net.settle()
 >>> outcomes = study.run(net, study.failures(net, "each-link"))
@@ -12,7 +12,21 @@
 `python3 -m tuhvondi study FILE` does that with a file of GraphML.
 
 There is no clock: time is counted in *rounds*. In a round each router has one turn, and does one step: it
-takes an item, publishes, or puts a message on its link. `examples/python/own_loop.py` has a clock and delays.
+takes an item, publishes, or puts a message on its link.
+
+By time, and beside two protocols that you know, is another study (`--timed`):
+
+>>> links = [("a", "b", 1), ("b", "c", 1), ("c", "d", 1), ("d", "a", 1)]
+>>> net = TimedNetwork("abcd", links, {"a": "10.0.0.0/8"}, delay=500, publication=100, record=True)
+>>> _ = net.run_to_rest()
+>>> for outcome in study.run_timed(net, [("a", "b")]):
+...     print(outcome.protocol, outcome.rest, outcome.lost, outcome.looped, outcome.messages)
+DUAL 2300 3000 0 3
+distance vector 1800 3000 0 3
+link state 2100 2200 2 6
+
+No loops is not no loss. A router that runs DUAL and has no feasible neighbour has no way until all have replied. The
+others take a way at once, over which packets may circle meanwhile.
 """
 
 from __future__ import annotations
@@ -22,29 +36,40 @@ import collections
 import csv
 import gc
 import json
+import math
 import multiprocessing
 import multiprocessing.connection
+import os
 import random
 import statistics
 import sys
 from ctypes import byref, c_size_t, c_uint8, c_uint16, c_uint32
-from typing import Any, Dict, Iterable, List, NamedTuple, Optional, Sequence, Set, TextIO, Tuple
+from typing import (Any, Callable, Dict, Iterable, Iterator, List, NamedTuple, Optional, Sequence, Set, TextIO, Tuple,
+                    Union)
 
-from . import _library, graphs
-from .network import Attachments, End, ItemKind, Name, Network, StepKind, default_attachments
+from . import _library, baselines, graphs
+from .network import Attachments, End, ItemKind, Name, Network, StepKind, Whole, default_attachments
 from .rows import network_of
-from .status import Refused
+from .status import IsDown, Refused
+from .timed import TimedNetwork
 
-__all__ = ["Outcome", "failures", "start", "watch", "run", "write_csv", "write_json", "summary", "plot"]
+__all__ = ["Outcome", "TimedOutcome", "failures", "start", "watch", "run", "run_timed", "write_csv", "write_json",
+           "summary", "plot"]
 
 # What fails: a router, or the two ends of a link.
 Failure = Tuple[Name, ...]
-# What the plots show: a measure, and what is written below it.
+# What the plots show: a measure, and what is written below it; of a study without a clock, and of one by time.
 PLOTS = {
     "messages": "messages",
     "rounds": "rounds to rest",
     "active_routers": "active routers",
     "outage_most": "longest outage, in rounds",
+}
+TIMED_PLOTS = {
+    "messages": "messages",
+    "rest": "µs to rest",
+    "back": "µs until the last flow is back",
+    "lost": "lost flow-µs",
 }
 
 
@@ -81,6 +106,36 @@ class Outcome(NamedTuple):
     outage_mean: float
     outage_most: int
     cut: int
+
+
+class TimedOutcome(NamedTuple):
+    """What came of a failure by one protocol. A *flow* is a router and a prefix, and it has an outage while links lead
+    there and rows do not.
+
+    - failed: the names of the link's ends, or of the router
+    - protocol: "DUAL", "distance vector" or "link state"
+    - rest: how many microseconds it took until nothing was left to do
+    - back: how many until the last outage ended
+    - lost: how long the outages were, all together
+    - flows: how many flows had one
+    - looped: the packets of how many flows circled at some moment; with DUAL it is proved that none do
+    - messages: how many there were
+
+    >>> TimedOutcome._fields[:3]
+    ('failed', 'protocol', 'rest')
+    """
+
+    failed: str
+    protocol: str
+    rest: int
+    back: int
+    lost: int
+    flows: int
+    looped: int
+    messages: int
+
+
+AnyOutcome = Union[Outcome, TimedOutcome]
 
 
 class _Flows:
@@ -224,7 +279,7 @@ class _Turns:
         return row.addr, row.len, row.kind, row.port, row.session
 
 
-def failures(network: Network, which: str = "each-link") -> List[Failure]:
+def failures(network: Whole, which: str = "each-link") -> List[Failure]:
     """What can fail alone: with "each-link" each link that is up, with "each-router" each router.
 
     >>> failures(Network("ab", [("a", "b", 1)]), "each-router")
@@ -279,8 +334,14 @@ def _outcome(network: Network, failure: Failure, turns: _Turns) -> Outcome:
         computations=len(turns.active), **turns.flows.measures())
 
 
-def _child(sender: Any, network: Network, failure: Failure, turns: _Turns) -> None:
-    sender.send(_outcome(network, failure, turns))
+def _checked(network: Whole, failure: Failure) -> Failure:
+    """A failure that can be, before another process finds that it cannot."""
+    if not isinstance(failure, (tuple, list)) or not 1 <= len(failure) <= 2:
+        raise ValueError(f"{failure!r} is no failure: give a tuple of a router, or of the two ends of a link")
+    network.neighbours(failure[0])
+    if len(failure) == 2 and not network.link(*failure).is_up:
+        raise IsDown(f"{failure[0]!r} and {failure[1]!r}")
+    return failure
 
 
 def run(network: Network, given: Iterable[Failure], processes: int = 1, seed: int = 0) -> List[Outcome]:
@@ -296,16 +357,57 @@ def run(network: Network, given: Iterable[Failure], processes: int = 1, seed: in
     >>> net.trace("c", "10.0.0.1").arrives
     True
 
-    Raises ValueError if something is left to do in the network, and RuntimeError if a process dies.
+    Raises ValueError if something is left to do in the network, or what is to fail is no tuple of one or two names,
+    UnknownRouter, UnknownLink, IsDown if the link is down, and RuntimeError if a process dies.
     """
-    if processes < 1:
-        raise ValueError(f"nothing can be done by {processes} processes")
     if not network.is_settled:
         raise ValueError("something is left to do in the network: settle it first")
+    failing = [_checked(network, failure) for failure in given]
     turns = _Turns(network, seed)
+    return _forked(lambda failure: _outcome(network, failure, turns), failing, processes)
+
+
+def run_timed(network: TimedNetwork, given: Iterable[Failure], processes: int = 1) -> List[TimedOutcome]:
+    """What comes of each failure alone by DUAL, by a distance vector and by link state (`tuhvondi.baselines`): three
+    outcomes for each, which begin with the rows that the network has now. The network stays as it is, and has to keep a
+    record. Processes are as for `run`.
+
+    >>> net = TimedNetwork("ab", [("a", "b", 1)], {"a": "10.0.0.0/8"}, record=True)
+    >>> _ = net.run_to_rest()
+    >>> [outcome.flows for outcome in run_timed(net, [("a",)])]
+    [0, 0, 0]
+
+    Raises ValueError if the network is not at rest, NoRecord, and what `run` raises.
+    """
+    if not network.is_at_rest:
+        raise ValueError("something is left to do in the network: run it to rest first")
+    failing, seen = [_checked(network, failure) for failure in given], len(network.outages())
+
+    def outcomes(failure: Failure) -> List[TimedOutcome]:
+        failed, began = " - ".join(map(str, failure)), network.now
+        dual = network.copy()
+        dual.fail(*failure)
+        messages, spells = dual.run_to_rest().messages, dual.outages(seen)
+        found = [TimedOutcome(
+            failed, "DUAL", dual.now - began, max((spell.end or 0 for spell in spells), default=began) - began,
+            sum(spell.length or 0 for spell in spells), len({spell[:2] for spell in spells}), 0, messages)]
+        for kind in (baselines.DistanceVector, baselines.LinkState):
+            other = kind(network)
+            other.fail(*failure)
+            found.append(TimedOutcome(failed, other.protocol, other.rest, other.back, sum(other.outages.values()),
+                                      len(other.outages), len(other.looped), other.messages))
+        return found
+
+    return [outcome for each in _forked(outcomes, failing, processes) for outcome in each]
+
+
+def _forked(work: Callable[[Failure], Any], failing: Sequence[Failure], processes: int) -> List[Any]:
+    """What this work answers of each failure, in a process of its own."""
+    if processes < 1:
+        raise ValueError(f"nothing can be done by {processes} processes")
     forks = multiprocessing.get_context("fork")
-    waiting = list(enumerate(given))[::-1]
-    outcomes: Dict[int, Outcome] = {}
+    waiting = list(enumerate(failing))[::-1]
+    outcomes: Dict[int, Any] = {}
     running: Dict[Any, Tuple[int, Failure, Any]] = {}
     gc.freeze()  # so that children do not copy what they only look at
     try:
@@ -313,7 +415,7 @@ def run(network: Network, given: Iterable[Failure], processes: int = 1, seed: in
             while waiting and len(running) < processes:
                 number, failure = waiting.pop()
                 receiver, sender = forks.Pipe(duplex=False)
-                process = forks.Process(target=_child, args=(sender, network, failure, turns), daemon=True)
+                process = forks.Process(target=lambda: sender.send(work(failure)), daemon=True)
                 process.start()
                 sender.close()
                 running[receiver] = (number, failure, process)
@@ -335,18 +437,18 @@ def run(network: Network, given: Iterable[Failure], processes: int = 1, seed: in
     return [outcomes[number] for number in sorted(outcomes)]
 
 
-def write_csv(outcomes: Iterable[Outcome], file: TextIO) -> None:
+def write_csv(outcomes: Sequence[AnyOutcome], file: TextIO) -> None:
     """Writes a table with a line for each failure. Open the file with newline="".
 
     >>> write_csv([], sys.stdout)   # doctest: +ELLIPSIS
     failed,rounds,steps,updates,queries,replies,messages,active_routers,...,cut
     """
     lines = csv.writer(file, lineterminator="\n")
-    lines.writerow(Outcome._fields)
+    lines.writerow((outcomes[0] if outcomes else Outcome)._fields)
     lines.writerows(outcomes)
 
 
-def write_json(outcomes: Iterable[Outcome], file: TextIO) -> None:
+def write_json(outcomes: Iterable[AnyOutcome], file: TextIO) -> None:
     """Writes a list with an object for each failure.
 
     >>> write_json([], sys.stdout)
@@ -356,41 +458,61 @@ def write_json(outcomes: Iterable[Outcome], file: TextIO) -> None:
     file.write("\n")
 
 
-def summary(outcomes: Sequence[Outcome]) -> str:
-    """The distribution of each measure that is plotted: its least, median and largest value.
+def _measures(outcomes: Sequence[AnyOutcome]) -> "Iterator[tuple[str, dict[str, list[float]]]]":
+    """What is written of each measure that is plotted, and its values by protocol, from the least on."""
+    for field, what in (TIMED_PLOTS if isinstance(next(iter(outcomes), None), TimedOutcome) else PLOTS).items():
+        values: Dict[str, List[float]] = {}
+        for outcome in outcomes:
+            values.setdefault(getattr(outcome, "protocol", ""), []).append(getattr(outcome, field))
+        yield what, {protocol: sorted(each) for protocol, each in values.items()}
+
+
+def summary(outcomes: Sequence[AnyOutcome]) -> str:
+    """The distribution of each measure that is plotted: its median, the value that 95 % are not above, and the largest.
 
     >>> net = start(Network("abc", [("a", "b", 1), ("b", "c", 1)]))
     >>> print(summary(run(net, failures(net))))
-    2 failures
-    messages: 4 to 4, median 4
-    rounds to rest: 11 to 11, median 11
-    active routers: 2 to 2, median 2
-    longest outage, in rounds: 0 to 0, median 0
+    2 failures: median / 95 % / most
+    messages: 4 / 4 / 4
+    rounds to rest: 11 / 11 / 11
+    active routers: 2 / 2 / 2
+    longest outage, in rounds: 0 / 0 / 0
     """
-    lines = [f"{len(outcomes)} failures"]
-    for field, what in PLOTS.items():
-        values = sorted(getattr(outcome, field) for outcome in outcomes)
-        if values:
-            lines.append(f"{what}: {values[0]} to {values[-1]}, median {statistics.median(values):g}")
+    lines = [f"{len({outcome.failed for outcome in outcomes})} failures: median / 95 % / most"]
+    for what, by_protocol in _measures(outcomes):
+        for protocol, values in by_protocol.items():
+            three = statistics.median(values), values[math.ceil(0.95 * len(values)) - 1], values[-1]
+            name = f"{what}, {protocol}" if protocol else what
+            lines.append(f"{name}: {' / '.join(f'{value:,.10g}' for value in three)}")
     return "\n".join(lines)
 
 
-def plot(outcomes: Sequence[Outcome], file: Any) -> None:
-    """Draws how messages, rounds to rest, active routers and outages are distributed, if matplotlib is
-    installed. The format is that of the file's name: PNG, SVG, PDF.
+def plot(outcomes: Sequence[AnyOutcome], file: Any, title: str = "") -> None:
+    """Draws the share of failures up to each value of four measures, on logarithmic axes, if matplotlib is installed: a
+    curve for each protocol. The format is that of the file's name: SVG, PDF, PNG.
 
-    >>> plot([], "study.png")   # doctest: +SKIP
+    >>> plot([], "study.svg")   # doctest: +SKIP
     """
     # No window is opened: that needs this other class than pyplot.
     from matplotlib.figure import Figure  # pylint: disable=import-outside-toplevel
 
     figure = Figure(figsize=(9, 6), layout="constrained")
-    for axes, (field, what) in zip(figure.subplots(2, 2).flat, PLOTS.items()):
-        values = [getattr(outcome, field) for outcome in outcomes]
-        axes.hist(values, bins=min(30, len(set(values)) or 1))
-        axes.set_xlabel(what)
-        axes.set_ylabel("failures")
+    figure.suptitle(title)
+    for axes, (what, by_protocol) in zip(figure.subplots(2, 2).flat, _measures(outcomes)):
+        for protocol, values in by_protocol.items():
+            shares = [number / len(values) for number in range(len(values) + 1)]
+            axes.step([0, *values], shares, where="post", label=protocol)
+        # Below the least value the axis is straight, because a logarithm of 0 is none.
+        least = min((value for values in by_protocol.values() for value in values if value), default=1)
+        axes.set_xscale("symlog", linthresh=least)
+        axes.set(xlabel=what, ylabel="share of failures", xlim=(0, None), ylim=(0, 1.02))
+        if len(by_protocol) > 1:
+            axes.legend()
     figure.savefig(file)
+
+
+def _number_or_name(text: str) -> Union[int, str]:
+    return int(text) if text.isdecimal() else text
 
 
 def _first(graph: Any, most: Optional[int]) -> Optional[Attachments]:
@@ -418,8 +540,8 @@ def main(words: Optional[Sequence[str]] = None) -> int:
     parser = argparse.ArgumentParser(
         prog="python3 -m tuhvondi study",
         description="Each link or router of a topology fails alone, from one settled state.",
-        epilog="Without --csv, --json and --plot the table is printed. A round is a turn of each router; "
-        "there is no clock.")
+        epilog="Without --csv, --json and --plot the table is printed. A round is a turn of each router, and counts "
+        "where there is no clock.")
     parser.add_argument("graph", help="a file of GraphML: at most 65,536 nodes and edges, 32 edges at a node")
     parser.add_argument("--fail", choices=("each-link", "each-router"), default="each-link",
                         help="what fails alone (each-link)")
@@ -429,24 +551,36 @@ def main(words: Optional[Sequence[str]] = None) -> int:
          "without it costs 1"),
         ("--prefixes", "N", _count, None, "so many routers, those with the most links, have a prefix (all)"),
         ("--seed", "N", int, 0, "routers take turns in a random order (in their own)"),
+        ("--delay", "KEY", _number_or_name, "delay", "with --timed: the edges' attribute with the delay in "
+         "microseconds (delay), of which an edge without it has 1000; or a number for all"),
+        ("--publication", "N", int, 1000, "with --timed: the microseconds that a router takes to publish (1000)"),
         ("--csv", "FILE", str, None, "write the table as CSV"),
         ("--json", "FILE", str, None, "write the table as JSON"),
-        ("--plot", "FILE", str, None, "draw the distributions, if matplotlib is installed"),
+        ("--plot", "FILE", str, None, "draw the distributions, if matplotlib is installed: SVG, PDF or PNG by its name"),
     ):
         parser.add_argument(name, metavar=how, type=kind, default=default, help=text)
+    parser.add_argument("--timed", action="store_true", help="by time, beside a distance vector and link state")
     given = parser.parse_args(words)
     try:
         if given.plot:
             __import__("matplotlib")
         graph = graphs.read_graphml(given.graph)
-        network = start(Network.from_networkx(graph, _first(graph, given.prefixes), given.cost, up=False))
-        outcomes = run(network, failures(network, given.fail), given.processes, given.seed)
+        attachments = _first(graph, given.prefixes)
+        outcomes: Sequence[AnyOutcome]
+        if given.timed:
+            timed = TimedNetwork.from_networkx(graph, attachments, given.cost, delay=given.delay,
+                                               publication=given.publication, record=True)
+            timed.run_to_rest()
+            outcomes = run_timed(timed, failures(timed, given.fail), given.processes)
+        else:
+            network = start(Network.from_networkx(graph, attachments, given.cost, up=False))
+            outcomes = run(network, failures(network, given.fail), given.processes, given.seed)
         for name, write in ((given.csv, write_csv), (given.json, write_json)):
             if name:
                 with open(name, "w", encoding="utf-8", newline="") as file:
                     write(outcomes, file)
         if given.plot:
-            plot(outcomes, given.plot)
+            plot(outcomes, given.plot, os.path.basename(given.graph))
         if not given.csv and not given.json and not given.plot:
             write_csv(outcomes, sys.stdout)
     except (OSError, ValueError, LookupError, ImportError, RuntimeError, Refused) as error:

@@ -96,7 +96,7 @@ class TimedNetwork(Whole):
     proved that nothing is done before it is due, and that nothing that is due is left out. A record is exact: a
     spell stands in it if and only if there was one, and those that ended stand there once each, in that order.
 
-    Raises what a `Network` raises, and ValueError if a delay is none.
+    Raises what a `Network` raises, ValueError if a delay is none, and UnknownLink if it is of no link.
     """
 
     def __init__(self, routers: Iterable[Name], links: Iterable[LinkGiven],
@@ -201,7 +201,8 @@ class TimedNetwork(Whole):
         """
         parts, detail = self._parts_of(step)
         if step.kind in (StepKind.DELIVER, StepKind.PUBLISH, StepKind.RELEASE):
-            raise BadKind("routers deliver, publish and release by themselves: give a change of a link, a cost or an attachment")
+            raise BadKind("routers deliver, publish and release by themselves: give a change of a link, a cost or an "
+                          "attachment")
         number = number_of("moment", moment, _LAST)
         status = self._library.network_at(self._at, number, byref(parts))
         if status == PastMoment.number:
@@ -268,9 +269,11 @@ class TimedNetwork(Whole):
         at rest.
 
         >>> net = TimedNetwork("ab", [("a", "b", 5)], {"a": "10.0.0.0/8"}, delay=500, publication=100)
-        >>> net.run_to_rest(progress=lambda counts, now: print(counts.messages, "messages at", now)).steps, net.now
-        2 messages at 1700
+        >>> moments = []
+        >>> net.run_to_rest(progress=lambda counts, now: moments.append(now)).steps, net.now
         (9, 1700)
+        >>> moments[-1]
+        1700
         >>> net.distances("10.0.0.0/8")
         {'a': 1, 'b': 6}
         """
@@ -284,7 +287,11 @@ class TimedNetwork(Whole):
                 event = self.next_event
                 self._need(status, str(event) if event else "")
 
-        return self._in_parts(most, run, lambda counts: progress(counts, self.now) if progress else None)
+        def tell(counts: Counts) -> None:
+            if progress:
+                progress(counts, self.now)
+
+        return self._in_parts(most, tell if progress else None, run)
 
     # ---- documents
 
