@@ -34,7 +34,7 @@ _WIDEST = (65536, 65536, 32, 4294967295, 4294967295)
 # network with a record can take that long.
 _SECONDS, _MORE = 0.05, 4
 # A settling does as many steps at a time as there are routers, and at least so many.
-_SETTLES = 4096
+_SETTLES = 16384
 # The largest number that can be given.
 _MOST = 2 ** 64 - 1
 # How many prefixes Jupyter is shown, and half as many as there are routers.
@@ -1299,7 +1299,7 @@ class Network(Whole):
         how many steps and messages these were.
 
         Routers take turns in the order in which you named them, or in a pseudo-random order that the seed
-        determines, 1 to 2^64 - 1. Each order ends, and begins anew after 4096 steps, or after as many as there
+        determines, 1 to 2^64 - 1. Each order ends, and begins anew after 16384 steps, or after as many as there
         are routers if these are more: then an interrupt from the keyboard is heard, and `progress`, a function of
         what was done so far, is called. It is so many steps and no time, so that the same seed does the same again.
 
