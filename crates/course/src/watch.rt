@@ -56,10 +56,12 @@ impl<A: SmallAllocator> Watch<A> {
 
     /// The router may have something to do.
     pub fn add(&mut self, router: u16) {
-        if let Some(word) = self.words.get_mut(usize::from(router / 64)) {
-            *word |= 1 << (router % 64);
-        }
-        if let Some(word) = self.filled.get_mut(usize::from(router / 4096)) {
+        let Some(word) = self.words.get_mut(usize::from(router / 64)) else {
+            return;
+        };
+        let was_empty = *word == 0;
+        *word |= 1 << (router % 64);
+        if was_empty && let Some(word) = self.filled.get_mut(usize::from(router / 4096)) {
             *word |= 1 << (router / 64 % 64);
         }
     }
@@ -113,19 +115,16 @@ impl<A: SmallAllocator> Watch<A> {
     }
 
     /// What a step brings to do that was done, and touched this. What takes from a link brings its far end nothing
-    /// to do.
+    /// to do, and of any other step that touches a link, the router is one of the link's ends.
     pub fn note(&mut self, network: &Network, step: &Step, touched: Touched) {
-        if let Some(router) = touched.router.or(touched.attachments) {
-            self.add(router);
-        }
-        if matches!(step, Step::Deliver { .. }) {
-            return;
-        }
         if let Some(link) = touched.link
+            && !matches!(step, Step::Deliver { .. })
             && let Some(spec) = network.links().get(usize::from(link))
         {
             self.add(spec.a);
             self.add(spec.b);
+        } else if let Some(router) = touched.router.or(touched.attachments) {
+            self.add(router);
         }
     }
 }
