@@ -25,7 +25,7 @@ always_next t p fds w h A can = record {
   invariant = next_keeps t p fds w A.invariant A.orderly A.placed h can;
   orderly = next_orderly t p fds w A.invariant A.orderly h can;
   placed = placed_next t w A.placed h;
-  shown = next_shown p t w h fds can A.shown;
+  shown = next_shown p t w h fds can A.invariant A.shown;
 }
 
 -- and where ports get other neighbours

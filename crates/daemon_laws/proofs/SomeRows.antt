@@ -65,17 +65,6 @@ pub sorted_in_force : (rows table : List (Prefix × Entry)) → is_sorted prefix
 sorted_in_force [] table sorted = sorted
 sorted_in_force (r ∷ rows) table sorted = sorted_in_force rows (put prefix_cmp r.0 r.1 table) (sorted-put table r.0 r.1 sorted)
 
--- where a prefix has no row in force then, it has none among them, and had none before
-pub none_in_force : (p : Prefix) (rows table : List (Prefix × Entry)) → row_of prefix_cmp p (with_rows rows table) ≡ None → (row_of prefix_cmp p rows ≡ None) × (row_of prefix_cmp p table ≡ None)
-none_in_force p [] table none = (refl, none)
-none_in_force p (r ∷ rows) table none =
-    let rest = none_in_force p rows (put prefix_cmp r.0 r.1 table) none in
-    by_key (prefix_eq p r.0) rest.0 (sym (find-put prefix_cmp prefix_cmp_total p r.0 r.1 table) ∙ rest.1)
-  where
-    by_key : (b : Bool) → row_of prefix_cmp p rows ≡ None → cond b (Some r.1) (row_of prefix_cmp p table) ≡ None → (cond b (Some r.1) (row_of prefix_cmp p rows) ≡ None) × (row_of prefix_cmp p table ≡ None)
-    by_key true rest e = absurd (None_not_Some (sym e))
-    by_key false rest e = (rest, e)
-
 -- ---- rows without those of a prefix
 
 -- a row that is forgotten is not found

@@ -4,7 +4,7 @@ use Rattle.no_packet_loops.proofs.Common.{Prefix, prefix_cmp, covers, longest_ma
 use Rattle.network_model.proofs.Common.{both_ways, find as row_of}
 use Rattle.no_packet_loops.proofs.{Publishing.control_sorted, Walks.match_is_row}
 use Rattle.all_packets.specs.Packets.{IsWayBy}
-use Rattle.all_packets.proofs.{Known.unheard, Matches.GoesBefore, Matches.found}
+use Rattle.all_packets.proofs.{Known.Fits, Known.chosen_fits, Matches.GoesBefore, Matches.found}
 use Rattle.all_packets.proofs.Improving.{Improves, Goes, none_twice, matched_once}
 use Rattle.daemon_laws.specs.Processes.{Processes}
 use Rattle.daemon_laws.specs.Packets.{is_in_session, session_leads, unmarked_leads, rows_in_mixture, MayGoOnBy, IsHalfWritten, IsShut, GoesHalfWritten}
@@ -44,8 +44,8 @@ module _ (t : Topology) (w : Processes) (fds : Prefix → ℕ → ℕ) (I : (p :
   has_row c p k below = by_row (row_of prefix_cmp p (rows c k)) refl
     where
       far : (d : Bool) → row_of prefix_cmp p (rows d k) ≡ None → fd_by d p k ≡ infinity
-      far true none = unheard p (w.routers k) (S p k).follows none
-      far false none = (S p k).unheard_then none
+      far true none = subst (λ (o : Option Entry). Fits o (machine_of (w.routers k) p).fd) none (chosen_fits p (w.routers k) (S p k).follows ((I p).sound k))
+      far false none = subst (λ (o : Option Entry). Fits o (fds p k)) none (S p k).fits
 
       by_row : (o : Option Entry) → row_of prefix_cmp p (rows c k) ≡ o → (e : Entry) × (row_of prefix_cmp p (rows c k) ≡ Some e)
       by_row (Some e) is = (e, is)

@@ -37,6 +37,7 @@ sound_came_up m q cost sound meets = record {
   successor_up = λ p s. (successor_kept_up m (Up q cost) sound p s).0;
   successor_within = λ p s. (successor_kept_up m (Up q cost) sound p s).1;
   successor_attached = λ s. successor_kept_attached m (Up q cost) sound s;
+  successor_finite = sound.successor_finite;
   passive_least = λ k. sound.passive_least k ∙ sym same_least;
   passive_feasible = λ p k s up.
       let other = successor_other m q p sound meets.0 meets.1 s in
@@ -76,6 +77,7 @@ sound_waiting m e c debt answer sound meets h some a = record {
   successor_up = λ p s. (successor_kept_up m e sound p s).0;
   successor_within = λ p s. (successor_kept_up m e sound p s).1;
   successor_attached = λ s. successor_kept_attached m e sound s;
+  successor_finite = λ p s. sound.successor_finite p (successor_kept (port_count m) e m.successor p s).0;
   passive_least = λ k. absurd (true≢false k);
   passive_feasible = λ p k. absurd (true≢false k);
   passive_attains = λ p n k. absurd (true≢false k);
@@ -98,6 +100,7 @@ sound_settled m e fd owed sound meets above f = record {
   successor_up = λ p s l. let take = (chosen_feasible fd ns was p s).1 in rw (sym (append_within (records_after e m.ports) (home_ways (attachment_after e m.attachment)) p l) ∙ take.at) take.up;
   successor_within = λ p s. let take = (chosen_feasible fd ns was p s).1 in way_within (records_after e m.ports) (attachment_after e m.attachment) p take.neighbour take.at;
   successor_attached = λ s. let take = (chosen_feasible fd ns was (length (records_after e m.ports)) s).1 in way_last (records_after e m.ports) (attachment_after e m.attachment) take.neighbour take.at;
+  successor_finite = λ p s. omega (arith, (chosen_feasible fd ns was p s).0);
   passive_least = λ k. refl;
   passive_feasible = λ p k s up. settled_reported m e fd p sound meets s up;
   passive_attains = λ p n k s at. let take = (chosen_feasible fd ns was p s).1 in subst (λ x. distance x ≡ least ns) (same_Some take.neighbour n (sym take.at ∙ at)) take.attains;
@@ -127,6 +130,7 @@ sound_asked m e fd debt answer sound meets dec a f some = record {
   successor_up = λ p s. (successor_kept_up m e sound p s).0;
   successor_within = λ p s. (successor_kept_up m e sound p s).1;
   successor_attached = λ s. successor_kept_attached m e sound s;
+  successor_finite = λ p s. omega (arith, far, least_bounded ns);
   passive_least = λ k. absurd (true≢false k);
   passive_feasible = λ p k. absurd (true≢false k);
   passive_attains = λ p n k. absurd (true≢false k);

@@ -103,6 +103,8 @@ pub record IsSound (m : Machine) : Type 0 where
   pub successor_up : (p : ℕ) → m.successor ≡ Some p → p < port_count m → is_up_at m p ≡ true
   pub successor_within : (p : ℕ) → m.successor ≡ Some p → p ≤ port_count m
   pub successor_attached : m.successor ≡ Some (port_count m) → is_some m.attachment ≡ true
+  -- with one the feasible distance is below infinity
+  pub successor_finite : (p : ℕ) → m.successor ≡ Some p → m.fd < infinity
   -- passive: at the least distance, by way of the attachment, or of a neighbour that reported less than the feasible distance
   pub passive_least : is_active m ≡ false → m.rd ≡ least (ways m)
   pub passive_feasible : (p : ℕ) → is_active m ≡ false → m.successor ≡ Some p → is_up_at m p ≡ true → reported_at m p < m.fd

@@ -3,7 +3,7 @@ use Rattle.std.proofs.Common.{refl, sym, ap, subst, ◌∙◌, inl, inr, arith, 
 use Rattle.no_packet_loops.proofs.Common.{option_map_or, Prefix, prefix_cmp, covers, longest_match, infinity, Entry, Router, World, Network, IsForwarded, opening, machine_of, Lawful, Runs, History, history, history_from, with_step, with_steps, published_after, None_not_Some, Some_injective, IsNetwork, find as row_of, longest_match-found, Step, Publish}
 use Rattle.no_packet_loops.specs.Packets.{DistancesFall, published_entry}
 use Rattle.no_packet_loops.proofs.{Wiring.IsWired, Wiring.wired, Runs.Reached, Runs.reached, Runs.history_world, Walks.distances_fall, Walks.match_is_row, WorldLaws.runs_more}
-use Rattle.all_packets.proofs.{Matches.GoesBefore, Matches.found, Known.always_shown}
+use Rattle.all_packets.proofs.{Matches.GoesBefore, Matches.found, Known.Fits, Known.always_shown}
 use Rattle.moving_packets.specs.Moving.{fd_chosen, fd_published}
 
 -- the history is one that lawful steps make from the opening of a network
@@ -91,7 +91,7 @@ module _ (h : History) (M : IsMade h) where
       by_row r' was below r at (Some e) is = (e, refl)
       by_row r' was below r at None is =
           let S = always_shown p M.network wired_is M.steps h.world M.runs i r r' (ap (λ (x : World). slice_get x.routers i) w_is ∙ at) (ap (λ (x : History). slice_get x.published i) M.is ∙ was) in
-          let top = S.unheard_then is in
+          let top : (machine_of r' p).fd ≡ infinity = subst (λ (o : Option Entry). Fits o (machine_of r' p).fd) is S.fits in
           absurd (omega (arith, top, below))
 
       by_now : (r' : Router) → slice_get h.published i ≡ Some r' → (machine_of r' p).fd < infinity → (o : Option Router) → slice_get (h.world).routers i ≡ o → (e : Entry) × (option_and_then (λ (r : Router). row_of prefix_cmp p (r.table).published) o ≡ Some e)

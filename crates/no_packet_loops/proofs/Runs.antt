@@ -200,7 +200,7 @@ started n N p = record {
 }
 
 -- from a world that is reached, each world to which lawful steps lead is reached
-goes_on : (n : Network) (N : IsWired n) (p : Prefix) (h : History) (ss : List Step) (v : World) → Runs h.world ss v → Reached n N p h.world h.published → Reached n N p v (with_steps h ss).published
+pub goes_on : (n : Network) (N : IsWired n) (p : Prefix) (h : History) (ss : List Step) (v : World) → Runs h.world ss v → Reached n N p h.world h.published → Reached n N p v (with_steps h ss).published
 goes_on n N p h [] v r R = subst (λ (w : World). Reached n N p w h.published) r R
 goes_on n N p h (s ∷ ss) v r R =
     let S = stepped n N p h.world R.published_fd R.kept R.inv s r.0 in
