@@ -1,8 +1,8 @@
 -- A packet that moves between processes: matches get longer, or stay and published feasible distances fall, while it stays near.
-use Rattle.std.proofs.Common.{refl, sym, ap, subst, ◌∙◌, inl, inr, ◌<◌, ◌≤◌, ◌≡◌, ◌⊎◌, ℕ, Bool, true, false, ◌&&◌, ◌||◌, if◌then◌else◌, take, is_some, eq-eqb, ne_eqb, List, [], ◌∷◌, Some}
-use Rattle.no_packet_loops.proofs.Common.{prefix_eq, Prefix, prefix_cmp, covers, infinity, Entry, Topology, Some_injective, or_parts, changed_rows, machine_of, is_sorted, longest_match-found}
+use Rattle.std.proofs.Common.{refl, sym, ap, subst, ◌∙◌, inl, inr, ◌<◌, ◌≤◌, ◌≡◌, ◌⊎◌, ℕ, Bool, true, false, ◌&&◌, ◌||◌, if◌then◌else◌, take, is_some, eq-eqb, ne_eqb, List, [], ◌∷◌, Option, Some}
+use Rattle.no_packet_loops.proofs.Common.{prefix_eq, Prefix, prefix_cmp, covers, infinity, Entry, Via, Topology, None_not_Some, Some_injective, or_parts, changed_rows, machine_of, is_sorted, longest_match-found}
 use Rattle.no_packet_loops.proofs.Walks.{match_is_row}
-use Rattle.all_packets.proofs.Matches.{GoesBefore, found}
+use Rattle.all_packets.proofs.{Known.Fits, Matches.GoesBefore, Matches.found}
 use Rattle.moving_packets.proofs.Returns.{IsLow, stays_low as low_next, IsOn, Descends, first_on, goes_on, comes_back}
 use Rattle.daemon_laws.specs.{Processes.Processes, Packets.rows_in_force, Packets.session_leads, Packets.unmarked_leads, Facts.fd_then, Moments.fds_reached, Rest.entry_in_force}
 use Rattle.daemon_laws.specs.Happenings.{Happening, Publishes, PublishesSome, Forgets, BeginsAnew, CanHappen, MayRewire, AreReached}
@@ -10,7 +10,7 @@ use Rattle.network_model.proofs.Common.{cases_eq, find as row_of}
 use Rattle.router_core.specs.Alone.{may_forget}
 use Rattle.single_router.specs.Openings.{made_router}
 use Rattle.daemon_laws.proofs.Always.{Always, always, always_next, always_rewired}
-use Rattle.daemon_laws.proofs.Ways.{in_order, falls, bounded, has_row}
+use Rattle.daemon_laws.proofs.Ways.{in_order, falls, has_row}
 use Rattle.daemon_laws.proofs.Walks.{unmarked}
 use Rattle.moving_daemon_packets.specs.Moving.{Moment, moment_next, moment_rewired, HoldsAtEveryMoment, DaemonEvent, Goes, Does, Rewires, daemon_at_end, moment_after, LeadsOn, Forwards, moment_fd, happening_raises, published_rises, loses_all, StaysNearAtDaemons, IsCalmAtDaemons, CalmStaysNearAtDaemons, HasBetterAtDaemons, ComesBackForBetterAtDaemons}
 
@@ -85,34 +85,40 @@ module _ (leads : LeadsOn) (sound : Sound leads) where
           chosen = λ e. falls m.topology m.processes m.fd_published (λ x. (K x).invariant) (λ x. (K x).shown) false true p i k F.entry row lead;
         }
 
-    top_is : (p : Prefix) (i : ℕ) → m.fd_published p i ≤ infinity
-    top_is p i = bounded m.topology m.processes m.fd_published (λ x. (K x).invariant) (λ x. (K x).shown) false p i
+    finite : (addr i k : ℕ) (p : Prefix) → Forwards leads m addr p i k → m.fd_published p i < infinity
+    finite addr i k p F =
+        let row = row_is addr i k p F in
+        by_entry F.entry (subst (λ (o : Option Entry). Fits o (m.fd_published p i)) row ((K p).shown i).fits) (sound m K p i k F.entry row F.leads)
+      where
+        by_entry : (e : Entry) → Fits (Some e) (m.fd_published p i) → session_leads m.topology m.processes i e ≡ Some k → m.fd_published p i < infinity
+        by_entry (Via q session) below lead = below
+        by_entry _ f lead = absurd (None_not_Some lead)
 
     row_there : (p : Prefix) (i : ℕ) → m.fd_published p i < infinity → (e : Entry) × (entry_in_force m.processes i p ≡ Some e)
     row_there p i lt = has_row m.topology m.processes m.fd_published (λ x. (K x).invariant) (λ x. (K x).shown) false p i lt
 
   -- along a packet's way feasible distances descend
-  pub descends : Descends IsKept (λ (m : Moment). m.fd_published) (λ (m : Moment). entry_in_force m.processes) (Forwards leads)
-  descends = record { covered = covered; goes_before = goes_before; bounded = top_is; lower = λ m K addr i k p F. (lower m K addr i k p F).published; has_row = row_there }
+  pub descends : Descends IsKept (λ b (m : Moment). m.fd_published) (λ b (m : Moment). entry_in_force m.processes) (λ b. Forwards leads)
+  descends = record { covered = λ b. covered; goes_before = λ b. goes_before; finite = λ b. finite; lower = λ b c m K addr i k p F. (lower m K addr i k p F).published; has_row = λ b. row_there }
 
   -- whatever happens before it comes back
   module _ (m0 : Moment) (K0 : IsKept m0) (addr i k0 : ℕ) (p : Prefix) (F0 : Forwards leads m0 addr p i k0) where
-    returns : (m : Moment) → IsKept m → (q : Prefix) (k g : ℕ) (es : List DaemonEvent) → IsOn addr p (m0.fd_published p i) q g → StaysNearAtDaemons leads m addr q g k es → (q' : Prefix) → Forwards leads (moment_after m es) addr q' (daemon_at_end k es) i → HasBetterAtDaemons addr i p m0 (moment_after m es)
-    returns m K q k g [] O C q' F = comes_back descends m0 K0 addr i k0 p F0 m K q k g O C q' F
-    returns m K q k g (Goes l ∷ es) O C q' F = returns m K (C.1).0 l (m.fd_published (C.1).0 k) es (goes_on descends m K addr p (m0.fd_published p i) q k g O C.0 (C.1).0 l (C.1).1) (C.1).2 q' F
+    returns : (m : Moment) → IsKept m → (q : Prefix) (k g : ℕ) (es : List DaemonEvent) → IsOn addr p (m0.fd_published p i) q g → StaysNearAtDaemons (λ x f. x ≤ f) leads m addr q g k es → (q' : Prefix) → Forwards leads (moment_after m es) addr q' (daemon_at_end k es) i → HasBetterAtDaemons addr i p m0 (moment_after m es)
+    returns m K q k g [] O C q' F = comes_back descends false m0 K0 addr i k0 p F0 false m K q k g O C q' F false
+    returns m K q k g (Goes l ∷ es) O C q' F = returns m K C.1 l (m.fd_published C.1 k) es (goes_on descends false m K addr p (m0.fd_published p i) q k g O C.0 C.1 l C.2) C.3 q' F
     returns m K q k g (Does h ∷ es) O C q' F = returns (moment_next m h) (kept_next m h K C.0) q k g es O C.1 q' F
     returns m K q k g (Rewires t ∷ es) O C q' F = returns (moment_rewired m t) (kept_rewired m t K C.0) q k g es O C.1 q' F
 
   -- where no rise is published, it stays near
-  stays_near : (m : Moment) → IsKept m → (addr : ℕ) (q : Prefix) (risen : Bool) (k g : ℕ) (es : List DaemonEvent) → IsLow (m.fd_published q k) (moment_fd m q k) risen g → IsCalmAtDaemons leads m addr q risen k es → StaysNearAtDaemons leads m addr q g k es
+  stays_near : (m : Moment) → IsKept m → (addr : ℕ) (q : Prefix) (risen : Bool) (k g : ℕ) (es : List DaemonEvent) → IsLow (m.fd_published q k) (moment_fd m q k) risen g → IsCalmAtDaemons leads m addr q risen k es → StaysNearAtDaemons (λ x f. x < f) leads m addr q g k es
   stays_near m K addr q risen k g [] W C = W.published
-  stays_near m K addr q risen k g (Goes l ∷ es) W C = (W.published, (C.0, C.1, stays_near m K addr C.0 false l (m.fd_published C.0 k) es (lower m K addr k l C.0 C.1) C.2))
+  stays_near m K addr q risen k g (Goes l ∷ es) W C = (W.published, C.0, C.1, stays_near m K addr C.0 false l (m.fd_published C.0 k) es (lower m K addr k l C.0 C.1) C.2)
   stays_near m K addr q risen k g (Does h ∷ es) W C = (C.0, stays_near (moment_next m h) (kept_next m h K C.0) addr q (risen || happening_raises m h q k) k g es (stays_low m h q risen k g C.1 W) C.2)
   stays_near m K addr q risen k g (Rewires t ∷ es) W C = (C.0, stays_near (moment_rewired m t) (kept_rewired m t K C.0) addr q risen k g es (record { published = W.published; chosen = W.chosen }) C.1)
 
-  pub for_better : (m : Moment) → IsKept m → (addr i k : ℕ) (p q : Prefix) (es : List DaemonEvent) → Forwards leads m addr p i k → StaysNearAtDaemons leads m addr p (m.fd_published p i) k es
+  pub for_better : (m : Moment) → IsKept m → (addr i k : ℕ) (p q : Prefix) (es : List DaemonEvent) → Forwards leads m addr p i k → StaysNearAtDaemons (λ x f. x ≤ f) leads m addr p (m.fd_published p i) k es
       → Forwards leads (moment_after m es) addr q (daemon_at_end k es) i → HasBetterAtDaemons addr i p m (moment_after m es)
-  for_better m K addr i k p q es F C G = returns m K addr i k p F m K p k (m.fd_published p i) es (first_on descends m K addr i k p F) C q G
+  for_better m K addr i k p q es F C G = returns m K addr i k p F m K p k (m.fd_published p i) es (first_on descends false m K addr i k p F) C q G
 
 -- ---- at every moment
 

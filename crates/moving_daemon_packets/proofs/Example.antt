@@ -144,7 +144,7 @@ can_find : AllCanHappen (links true) (moment_rewired moment (links true)).proces
 can_find = ((omega arith, one), ((omega arith, one), (tt, (tt, (tt, (tt, (tt, (tt, (tt, (tt, (tt, (tt, (tt, tt)))))))))))))
 
 -- where a packet waits it stays near, if it is near at the end
-waits_near : (leads : LeadsOn) (m : Moment) (addr : ℕ) (p : Prefix) (f k : ℕ) (hs : List Happening) → AllCanHappen m.topology m.processes hs → (moment_after m (doing hs)).fd_published p k < f → StaysNearAtDaemons leads m addr p f k (doing hs)
+waits_near : (leads : LeadsOn) (m : Moment) (addr : ℕ) (p : Prefix) (f k : ℕ) (hs : List Happening) → AllCanHappen m.topology m.processes hs → (moment_after m (doing hs)).fd_published p k < f → StaysNearAtDaemons (λ x g. x < g) leads m addr p f k (doing hs)
 waits_near leads m addr p f k [] can lt = lt
 waits_near leads m addr p f k (h ∷ hs) can lt = (can.0, waits_near leads (moment_next m h) addr p f k hs can.1 lt)
 

@@ -1,6 +1,6 @@
 -- A router that publishes nothing keeps its published rows and feasible distances: so a packet that stays near does not come back to it.
-use Rattle.std.proofs.Common.{refl, ap, arith, ◌≤◌, ◌≡◌, ℕ, ◌+◌, Bool, true, false, ◌&&◌, ◌==◌, if◌then◌else◌, List, [], ◌∷◌, take, is_none}
-use Rattle.no_packet_loops.proofs.Common.{Prefix, prefix_cmp, prefix_eq, infinity, Router, router_publishing, router_releasing, or_parts, changed_rows, machine_of, find as row_of}
+use Rattle.std.proofs.Common.{refl, ap, inr, arith, ◌≤◌, ◌≡◌, ℕ, ◌+◌, Bool, true, false, ◌&&◌, ◌==◌, if◌then◌else◌, List, [], ◌∷◌, take, is_none}
+use Rattle.no_packet_loops.proofs.Common.{⊤, Prefix, prefix_cmp, prefix_eq, infinity, Router, router_publishing, router_releasing, or_parts, changed_rows, machine_of, find as row_of}
 use Rattle.router_core.specs.Alone.{may_forget, router_publishing_some}
 use Rattle.single_router.specs.{declared.input.Input.Input, Inputs.told_fault, Inputs.router_after as router_told, Openings.made_router}
 use Rattle.single_router.specs.declared.input.Input.TheVariants as input
@@ -82,20 +82,22 @@ module _ (leads : LeadsOn) (sound : Sound leads) where
 
   -- ---- how often a packet comes back
 
-  few : (m : Moment) → IsKept m → (addr i : ℕ) (q : Prefix) (k g : ℕ) (es : List DaemonEvent) → StaysNearAtDaemons leads m addr q g k es → (w : Where (descends leads sound) addr i m q k g) → visits_meanwhile i es ≤ publications_meanwhile i es + spare (descends leads sound) w
+  few : (m : Moment) → IsKept m → (addr i : ℕ) (q : Prefix) (k g : ℕ) (es : List DaemonEvent) → StaysNearAtDaemons (λ x f. x ≤ f) leads m addr q g k es → (w : Where (descends leads sound) (λ c. ⊤) addr i m q k g) → visits_meanwhile i es ≤ publications_meanwhile i es + spare (descends leads sound) w
   few m K addr i q k g [] C w = omega arith
   few m K addr i q k g (Goes l ∷ es) C w =
-      let N = hop_counts (descends leads sound) m K addr i q k g w C.0 (C.1).0 l (C.1).1 in
-      count_hop (i == l) (visits_meanwhile i es) (publications_meanwhile i es) (spare (descends leads sound) N.0) (spare (descends leads sound) w) (few m K addr i (C.1).0 l (m.fd_published (C.1).0 k) es (C.1).2 N.0) N.1
+      let N = hop_counts (descends leads sound) (λ c. ⊤) false m K addr i q k g w C.0 C.1 l C.2 (λ e. tt) in
+      count_hop (i == l) (visits_meanwhile i es) (publications_meanwhile i es) (spare (descends leads sound) N.0) (spare (descends leads sound) w) (few m K addr i C.1 l (m.fd_published C.1 k) es C.3 N.0) N.1
   few m K addr i q k g (Does h ∷ es) C w =
-      let N = wait_counts (descends leads sound) addr i m (moment_next m h) q k g (happening_publishes i h) (same_step m h i) w in
+      let N = wait_counts (descends leads sound) (λ c. ⊤) (λ c. ⊤) addr i m (moment_next m h) q k g (happening_publishes i h) (λ c r quiet. (same_step m h i quiet, tt)) w in
       count_wait (happening_publishes i h) (visits_meanwhile i es) (publications_meanwhile i es) (spare (descends leads sound) N.0) (spare (descends leads sound) w) (few (moment_next m h) (kept_next m h K C.0) addr i q k g es C.1 N.0) N.1
   few m K addr i q k g (Rewires t ∷ es) C w =
-      let N = wait_counts (descends leads sound) addr i m (moment_rewired m t) q k g false (λ e. record { rows = λ z. refl; fds = λ z. refl }) w in
+      let N = wait_counts (descends leads sound) (λ c. ⊤) (λ c. ⊤) addr i m (moment_rewired m t) q k g false (λ c r e. (record { rows = λ z. refl; fds = λ z. refl }, tt)) w in
       count_wait false (visits_meanwhile i es) (publications_meanwhile i es) (spare (descends leads sound) N.0) (spare (descends leads sound) w) (few (moment_rewired m t) (kept_rewired m t K C.0) addr i q k g es C.1 N.0) N.1
 
   seldom : (m : Moment) → IsKept m → ComesBackSeldomAtDaemons leads m
-  seldom m K addr i k p es F C = (let le = few m K addr i p k (m.fd_published p i) es C (leaves (descends leads sound) m K addr i k p F) in omega (arith, le))
+  seldom m K addr i k p es F C =
+      let le = few m K addr i p k (m.fd_published p i) es C (inr (leaves (descends leads sound) (λ c. ⊤) false m K addr i i refl k p F tt)) in
+      omega (arith, le)
 
 -- ---- at every moment
 

@@ -55,12 +55,12 @@ Forwards leads m addr p i k = IsForwardedByRows (leads m.topology m.processes) (
 
 -- a packet is at router k, where it came by a row of prefix p whose published feasible distance was f. It goes on along the rows in force at each moment,
 -- whatever happens meanwhile, and stays near: whenever it leaves a router, and at the end, that router's published feasible distance for the prefix by which
--- the packet came is still below that of the row by which it came
-abbrev pub StaysNearAtDaemons : LeadsOn → Moment → ℕ → Prefix → ℕ → ℕ → List DaemonEvent → Type 0
-StaysNearAtDaemons leads m addr p f k [] = m.fd_published p k < f
-StaysNearAtDaemons leads m addr p f k (Goes l ∷ es) = (m.fd_published p k < f) × ((q : Prefix) × Forwards leads m addr q k l × StaysNearAtDaemons leads m addr q (m.fd_published q k) l es)
-StaysNearAtDaemons leads m addr p f k (Does h ∷ es) = CanHappen m.processes h × StaysNearAtDaemons leads (moment_next m h) addr p f k es
-StaysNearAtDaemons leads m addr p f k (Rewires t ∷ es) = MayRewire m.topology t m.processes × StaysNearAtDaemons leads (moment_rewired m t) addr p f k es
+-- the packet came is near that of the row by which it came, which is to say not above it, or below it
+abbrev pub StaysNearAtDaemons : (ℕ → ℕ → Type 0) → LeadsOn → Moment → ℕ → Prefix → ℕ → ℕ → List DaemonEvent → Type 0
+StaysNearAtDaemons near leads m addr p f k [] = near (m.fd_published p k) f
+StaysNearAtDaemons near leads m addr p f k (Goes l ∷ es) = near (m.fd_published p k) f × (q : Prefix) × Forwards leads m addr q k l × StaysNearAtDaemons near leads m addr q (m.fd_published q k) l es
+StaysNearAtDaemons near leads m addr p f k (Does h ∷ es) = CanHappen m.processes h × StaysNearAtDaemons near leads (moment_next m h) addr p f k es
+StaysNearAtDaemons near leads m addr p f k (Rewires t ∷ es) = MayRewire m.topology t m.processes × StaysNearAtDaemons near leads (moment_rewired m t) addr p f k es
 
 -- the feasible distance of router i for the prefix
 abbrev pub moment_fd : Moment → Prefix → ℕ → ℕ
@@ -81,7 +81,8 @@ loses_all k (BeginsAnew i costs attachments) = k == i
 loses_all k _ = false
 
 -- the same of a packet that is where no rise of a feasible distance, for the prefix by which it came, is both begun and published while it is there, and none
--- is published by a router that forgets or begins anew: risen says whether one has begun. A port that gets another neighbour is no rise, and ends none that has begun
+-- is published by a router that forgets or begins anew: risen says whether one has begun. A port that gets another neighbour is no rise, and ends none that has
+-- begun
 abbrev pub IsCalmAtDaemons : LeadsOn → Moment → ℕ → Prefix → Bool → ℕ → List DaemonEvent → Type 0
 IsCalmAtDaemons leads m addr p risen k [] = ⊤
 IsCalmAtDaemons leads m addr p risen k (Goes l ∷ es) = (q : Prefix) × Forwards leads m addr q k l × IsCalmAtDaemons leads m addr q false l es
@@ -89,9 +90,9 @@ IsCalmAtDaemons leads m addr p risen k (Does h ∷ es) = CanHappen m.processes h
     × IsCalmAtDaemons leads (moment_next m h) addr p (risen || happening_raises m h p k) k es
 IsCalmAtDaemons leads m addr p risen k (Rewires t ∷ es) = MayRewire m.topology t m.processes × IsCalmAtDaemons leads (moment_rewired m t) addr p risen k es
 
--- such a packet stays near
+-- such a packet stays near, even below
 abbrev pub CalmStaysNearAtDaemons : LeadsOn → Moment → Type 0
-CalmStaysNearAtDaemons leads m = (addr i k : ℕ) (p : Prefix) (es : List DaemonEvent) → Forwards leads m addr p i k → IsCalmAtDaemons leads m addr p false k es → StaysNearAtDaemons leads m addr p (m.fd_published p i) k es
+CalmStaysNearAtDaemons leads m = (addr i k : ℕ) (p : Prefix) (es : List DaemonEvent) → Forwards leads m addr p i k → IsCalmAtDaemons leads m addr p false k es → StaysNearAtDaemons (λ x f. x < f) leads m addr p (m.fd_published p i) k es
 
 -- since a packet left router i by a row of prefix p, the router has published a better way for it
 abbrev pub HasBetterAtDaemons : ℕ → ℕ → Prefix → Moment → Moment → Type 0
@@ -99,7 +100,7 @@ HasBetterAtDaemons addr i p m m' = IsBetter addr p (m.fd_published p i) (m'.fd_p
 
 -- a packet that stays near comes back to a router only where that has published a better way since
 abbrev pub ComesBackForBetterAtDaemons : LeadsOn → Moment → Type 0
-ComesBackForBetterAtDaemons leads m = (addr i k : ℕ) (p q : Prefix) (es : List DaemonEvent) → Forwards leads m addr p i k → StaysNearAtDaemons leads m addr p (m.fd_published p i) k es
+ComesBackForBetterAtDaemons leads m = (addr i k : ℕ) (p q : Prefix) (es : List DaemonEvent) → Forwards leads m addr p i k → StaysNearAtDaemons (λ x f. x ≤ f) leads m addr p (m.fd_published p i) k es
     → Forwards leads (moment_after m es) addr q (daemon_at_end k es) i → HasBetterAtDaemons addr i p m (moment_after m es)
 
 -- whether the rows that router i has published may change by this: it publishes, forgets a prefix, or its process begins anew
@@ -119,7 +120,7 @@ publishes_meanwhile i (Rewires t ∷ es) = publishes_meanwhile i es
 
 -- so not to one that has published nothing since
 abbrev pub ComesBackOncePublishedAtDaemons : LeadsOn → Moment → Type 0
-ComesBackOncePublishedAtDaemons leads m = (addr i k : ℕ) (p q : Prefix) (es : List DaemonEvent) → Forwards leads m addr p i k → StaysNearAtDaemons leads m addr p (m.fd_published p i) k es
+ComesBackOncePublishedAtDaemons leads m = (addr i k : ℕ) (p q : Prefix) (es : List DaemonEvent) → Forwards leads m addr p i k → StaysNearAtDaemons (λ x f. x ≤ f) leads m addr p (m.fd_published p i) k es
     → Forwards leads (moment_after m es) addr q (daemon_at_end k es) i → publishes_meanwhile i es ≡ true
 
 -- how often a packet comes to router i
@@ -138,7 +139,7 @@ publications_meanwhile i (Rewires t ∷ es) = publications_meanwhile i es
 
 -- a packet that stays near comes back to a router at most as often as that publishes meanwhile
 abbrev pub ComesBackSeldomAtDaemons : LeadsOn → Moment → Type 0
-ComesBackSeldomAtDaemons leads m = (addr i k : ℕ) (p : Prefix) (es : List DaemonEvent) → Forwards leads m addr p i k → StaysNearAtDaemons leads m addr p (m.fd_published p i) k es → visits_meanwhile i es ≤ publications_meanwhile i es
+ComesBackSeldomAtDaemons leads m = (addr i k : ℕ) (p : Prefix) (es : List DaemonEvent) → Forwards leads m addr p i k → StaysNearAtDaemons (λ x f. x ≤ f) leads m addr p (m.fd_published p i) k es → visits_meanwhile i es ≤ publications_meanwhile i es
 
 -- ---- that there is something to say
 
@@ -163,5 +164,5 @@ pub record SomeComesBack : Type 0 where
   pub is_linked : topology.valid (at_port router port) ≡ true
   pub new : is_new_link before topology (at_port router port) ≡ true
   pub goes : Forwards session_leads (record { topology = before; processes = processes; fd_published = fds_reached before processes reached }) addr prefix router to
-  pub near : StaysNearAtDaemons session_leads (record { topology = before; processes = processes; fd_published = fds_reached before processes reached }) addr prefix (fds_reached before processes reached prefix router) to (Rewires topology ∷ doing happenings)
+  pub near : StaysNearAtDaemons (λ x f. x < f) session_leads (record { topology = before; processes = processes; fd_published = fds_reached before processes reached }) addr prefix (fds_reached before processes reached prefix router) to (Rewires topology ∷ doing happenings)
   pub goes_back : Forwards session_leads (moment_after (record { topology = before; processes = processes; fd_published = fds_reached before processes reached }) (Rewires topology ∷ doing happenings)) addr prefix to router

@@ -1,9 +1,10 @@
 -- Two packets that come back in a triangle: one for a better way, and one after a computation that ended where it was.
-use Rattle.std.proofs.Common.{refl, sym, subst, inl, inr, arith, ◌<◌, ◌≡◌, ℕ, Bool, true, false, cond, List, [], ◌∷◌, All, zero, suc, Some, None, IsSome}
-use Rattle.no_packet_loops.proofs.Common.{false≢true, Prefix, IsPrefix, IsCost, prefix_eq, Entry, Via, World, Network, opening, LinkSpec, HasCosts, IsNetwork, next, Runs, run, run-Runs, History, history, with_step, Step, LinkUp, LinkDown, Deliver, Publish, Release}
+use Rattle.std.proofs.Common.{refl, sym, subst, inl, inr, arith, ◌≤◌, ◌≡◌, ℕ, Bool, true, false, cond, List, [], ◌∷◌, ◌++◌, All, zero, suc, Some, None, IsSome}
+use Rattle.no_packet_loops.proofs.Common.{false≢true, Prefix, IsPrefix, IsCost, prefix_eq, Entry, Via, World, Network, opening, LinkSpec, HasCosts, IsNetwork, next, Runs, run, run-Runs, History, history, with_step, Step, LinkUp, LinkDown, Deliver, Publish, Release, Some_injective}
 use Rattle.no_packet_loops.proofs.{Machines.prefix_same, Runs.history_world}
-use Rattle.all_packets.specs.Journeys.{Event, Does}
-use Rattle.moving_packets.specs.Moving.{fd_published, router_at_end, history_after, StaysNear, IsMoving, HasBetter, SomeComesBackForBetter, SomeComesBackAfterRise}
+use Rattle.all_packets.specs.Packets.{MayGoOn}
+use Rattle.all_packets.specs.Journeys.{Event, Goes, Does}
+use Rattle.moving_packets.specs.Moving.{fd_chosen, fd_published, history_after, StaysNear, IsMoving, HasBetter, SomeComesBackForBetter, SomeComesBackAfterRise}
 
 -- ---- a packet that waits
 
@@ -11,18 +12,14 @@ abbrev waiting : List Step → List Event
 waiting [] = []
 waiting (s ∷ ss) = Does s ∷ waiting ss
 
--- where it waits through lawful steps it is where it was
-waits : (ss : List Step) (k : ℕ) → router_at_end k (waiting ss) ≡ k
-waits [] k = refl
-waits (s ∷ ss) k = waits ss k
+-- it waits through lawful steps, and goes on then
+waits_near : (h : History) (addr : ℕ) (p : Prefix) (f k i : ℕ) (ss : List Step) (v : World) → Runs h.world ss v → StaysNear (λ x g. x ≤ g) (history_after h (waiting ss)) addr p f k (Goes i ∷ []) → StaysNear (λ x g. x ≤ g) h addr p f k (waiting ss ++ Goes i ∷ [])
+waits_near h addr p f k i [] v r goes = goes
+waits_near h addr p f k i (s ∷ ss) v r goes = (r.0, waits_near (with_step h s) addr p f k i ss v r.1 goes)
 
-waits_near : (h : History) (addr : ℕ) (p : Prefix) (f k : ℕ) (ss : List Step) (v : World) → Runs h.world ss v → fd_published (history_after h (waiting ss)) p k < f → StaysNear h addr p f k (waiting ss)
-waits_near h addr p f k [] v r lt = lt
-waits_near h addr p f k (s ∷ ss) v r lt = (r.0, waits_near (with_step h s) addr p f k ss v r.1 lt)
-
-waits_moving : (w : World) (addr k : ℕ) (ss : List Step) (v : World) → Runs w ss v → IsMoving w addr k (waiting ss)
-waits_moving w addr k [] v r = tt
-waits_moving w addr k (s ∷ ss) v r = (r.0, waits_moving (next w s) addr k ss v r.1)
+waits_moving : (w : World) (addr k i : ℕ) (ss : List Step) (v : World) → Runs w ss v → MayGoOn v addr k i → IsMoving w addr k (waiting ss ++ Goes i ∷ [])
+waits_moving w addr k i [] v r goes = (subst (λ (u : World). MayGoOn u addr k i) (sym r) goes, tt)
+waits_moving w addr k i (s ∷ ss) v r goes = (r.0, waits_moving (next w s) addr k i ss v r.1 goes)
 
 -- ---- networks of three routers
 
@@ -75,9 +72,10 @@ abbrev told : List Step
 told = LinkUp 0 ∷ LinkUp 1 ∷ Deliver 0 0 ∷ Deliver 1 0 ∷ Deliver 1 1 ∷ Deliver 2 0
     ∷ Publish 2 ∷ Release 2 ∷ Deliver 1 1 ∷ Publish 1 ∷ Release 1 ∷ Deliver 0 0 ∷ Publish 0 ∷ []
 
--- the packet goes from router 0 to 1. Then the link 0-2 comes up: router 0 finds its way by router 2, and tells router 1, which turns round
+-- the packet goes from router 0 to 1. Then the link 0-2 comes up: router 0 finds its way by router 2, and tells router 1, which turns round, and has yet to
+-- publish that
 abbrev found : List Step
-found = LinkUp 2 ∷ Deliver 0 1 ∷ Deliver 2 1 ∷ Publish 2 ∷ Release 2 ∷ Deliver 0 1 ∷ Publish 0 ∷ Release 0 ∷ Release 0 ∷ Release 0 ∷ Deliver 1 0 ∷ Deliver 1 0 ∷ Publish 1 ∷ []
+found = LinkUp 2 ∷ Deliver 0 1 ∷ Deliver 2 1 ∷ Publish 2 ∷ Release 2 ∷ Deliver 0 1 ∷ Publish 0 ∷ Release 0 ∷ Release 0 ∷ Release 0 ∷ Deliver 1 0 ∷ Deliver 1 0 ∷ []
 
 abbrev long_then : World
 long_then = (run (opening long) told).world
@@ -86,7 +84,7 @@ told_runs : Runs (opening long) told long_then
 told_runs = run-Runs (opening long) told (tt, (tt, (tt, (tt, (tt, (tt, (tt, (tt, (tt, (tt, (tt, (tt, (tt, tt))))))))))))) refl
 
 found_runs : Runs long_then found (run long_then found).world
-found_runs = run-Runs long_then found (tt, (tt, (tt, (tt, (tt, (tt, (tt, (tt, (tt, (tt, (tt, (tt, (tt, tt))))))))))))) refl
+found_runs = run-Runs long_then found (tt, (tt, (tt, (tt, (tt, (tt, (tt, (tt, (tt, (tt, (tt, (tt, tt)))))))))))) refl
 
 pub some_for_better : SomeComesBackForBetter
 some_for_better = (
@@ -100,16 +98,25 @@ some_for_better = (
   waiting found,
   long_good,
   told_runs,
-  (Via 0 1, refl, refl),
-  waits_near (history long told) address prefix (fd_published (history long told) prefix 0) 1 found (run long_then found).world (subst (λ (x : World). Runs x found (run long_then found).world) (sym (history_world long told long_then told_runs)) found_runs) near,
-  (Via 0 1, refl, refl),
+  (
+    record { entry = Via 0 1; matched = refl; leads = refl },
+    waits_near (history long told) address prefix (fd_published (history long told) prefix 0) 1 0 found (run long_then found).world (subst (λ (x : World). Runs x found (run long_then found).world) (sym (history_world long told long_then told_runs)) found_runs)
+        (true, near, λ e. refl, prefix, record { entry = Via 0 1; matched = refl; leads = refl }, end),
+  ),
+  λ e. (let other : 2 ≡ 0 = Some_injective e in omega (arith, other)),
 )
   where
-    near : fd_published (history_after (history long told) (waiting found)) prefix 1 < fd_published (history long told) prefix 0
+    near : fd_chosen (history_after (history long told) (waiting found)) prefix 1 ≤ fd_published (history long told) prefix 0
     near =
-        let now : fd_published (history_after (history long told) (waiting found)) prefix 1 ≡ 3 = refl in
+        let now : fd_chosen (history_after (history long told) (waiting found)) prefix 1 ≡ 3 = refl in
         let was : fd_published (history long told) prefix 0 ≡ 7 = refl in
         omega (arith, now, was)
+
+    end : fd_published (history_after (history long told) (waiting found)) prefix 0 ≤ fd_chosen (history_after (history long told) (waiting found)) prefix 1
+    end =
+        let here : fd_published (history_after (history long told) (waiting found)) prefix 0 ≡ 2 = refl in
+        let was : fd_chosen (history_after (history long told) (waiting found)) prefix 1 ≡ 3 = refl in
+        omega (arith, here, was)
 
 -- ---- a computation that ended
 
@@ -164,13 +171,12 @@ some_after_rise = (
   waiting asked,
   short_good,
   spread_runs,
-  (Via 0 1, refl, refl),
-  waits_moving short_then address 1 asked (run short_then asked).world asked_runs,
-  (Via 1 1, refl, refl),
+  record { entry = Via 0 1; matched = refl; leads = refl },
+  waits_moving short_then address 1 2 asked (run short_then asked).world asked_runs (false, refl),
   none,
 )
   where
-    none : HasBetter address 2 prefix (history short spread) (history_after (history short spread) (waiting asked)) → ⊥
+    none : HasBetter false false address 2 prefix (history short spread) (history_after (history short spread) (waiting asked)) → ⊥
     none (inl lt) =
         let now : fd_published (history_after (history short spread) (waiting asked)) prefix 2 ≡ 3 = refl in
         let was : fd_published (history short spread) prefix 2 ≡ 3 = refl in

@@ -1,11 +1,11 @@
 -- Between two takings a packet goes along a way of one world: so it makes few hops, and in a network that is left alone they end.
-use Rattle.std.proofs.Common.{refl, subst, arith, ◌<◌, ◌≤◌, ◌≡◌, ℕ, suc, ◌+◌, ◌*◌, Bool, true, false, if◌then◌else◌, List, [], ◌∷◌, ◌++◌, length, Option, Some, None, slice_get, option_and_then}
-use Rattle.no_packet_loops.proofs.Common.{slice_get_within, Prefix, Entry, Router, World, Network, opening, longest_match, row_for, entry_leads, next, Runs, None_not_Some, IsNetwork, suc-mul, mul-le-mul_right, hop, Step}
-use Rattle.no_packet_loops.specs.Packets.{HoldsInEveryWorld}
-use Rattle.no_packet_loops.proofs.WorldLaws.{runs_more, next-shape}
-use Rattle.all_packets.specs.Packets.{IsMovingWay}
+use Rattle.std.proofs.Common.{refl, subst, ◌∙◌, arith, ◌<◌, ◌≤◌, ◌≡◌, ℕ, suc, ◌+◌, ◌*◌, Bool, true, false, if◌then◌else◌, List, [], ◌∷◌, ◌++◌, length, Option, Some, None, option_and_then}
+use Rattle.no_packet_loops.proofs.Common.{length-map-range_with_len, Prefix, Entry, World, Network, opening, longest_match, entry_leads, next, Runs, history, None_not_Some, IsNetwork, suc-mul, mul-le-mul_right, Step}
+use Rattle.no_packet_loops.specs.Packets.{HoldsInEveryWorld, mixture_rows}
+use Rattle.no_packet_loops.proofs.{Runs.reached, Walks.leads_known, Wiring.wired, WorldLaws.runs_more, WorldLaws.next-shape, WorldLaws.Runs-shape}
+use Rattle.all_packets.specs.Packets.{MayGoOn, IsMovingWay}
 use Rattle.all_packets.specs.Journeys.{is_taking, Event, Goes, Does, routers_met}
-use Rattle.all_packets.proofs.{Ways.always_ways_end, Ways.always_matches_last, Ways.by_published, Journeys.none_later, Journeys.way_before}
+use Rattle.all_packets.proofs.{Ways.always_ways_end, Journeys.none_later, Journeys.way_before}
 use Rattle.coming_to_rest.specs.Worlds.{AllOwn, HasBound}
 use Rattle.coming_to_rest.proofs.AllWorlds.{all_have_bounds}
 use Rattle.moving_packets.specs.Moving.{IsMoving, takings, HopsAreFew, OwnAlone, HopsEnd}
@@ -33,22 +33,21 @@ parts (Does s ∷ es) = by_kind (is_taking s) (parts es)
     by_kind false e = e
 
 -- a packet that goes on comes to a router of the network
-hop_within : (n : Network) → IsNetwork n → (ss : List Step) (w : World) → Runs (opening n) ss w → (addr i k : ℕ) → hop w addr i ≡ Some k → k < length w.routers
-hop_within n valid ss w r addr i k h = by_row (row_for w i addr) refl h
+hop_within : (n : Network) → IsNetwork n → (ss : List Step) (w : World) → Runs (opening n) ss w → (addr i k : ℕ) → MayGoOn w addr i k → k < length w.routers
+hop_within n valid ss w r addr i k h = by_row (longest_match addr (mixture_rows (λ j. h.0) w i)) h.1
   where
-    by_router : (o : Option Router) → slice_get w.routers k ≡ o → (x : Prefix × Entry) → option_and_then (λ (y : Router). longest_match addr (y.table).published) o ≡ Some x → k < length w.routers
-    by_router None at x g = absurd (None_not_Some g)
-    by_router (Some y) at x g = slice_get_within w.routers k y at
-
-    by_row : (o : Option (Prefix × Entry)) → row_for w i addr ≡ o → option_and_then (λ (x : Prefix × Entry). entry_leads w i x.1) o ≡ Some k → k < length w.routers
-    by_row None is g = absurd (None_not_Some g)
-    by_row (Some x) is g = (let (q, e, row, le) = always_matches_last n ss w valid r addr x.0 i k (x.1, is, g) in by_router (slice_get w.routers k) refl (q, e) row)
+    by_row : (o : Option (Prefix × Entry)) → option_and_then (λ (x : Prefix × Entry). entry_leads w i x.1) o ≡ Some k → k < length w.routers
+    by_row None g = absurd (None_not_Some g)
+    by_row (Some x) g =
+        let count : length w.routers ≡ n.routers = (Runs-shape (opening n) ss w r).routers ∙ length-map-range_with_len _ 0 n.routers in
+        let lt = leads_known n (wired n valid) x.0 w (history n ss).published (reached n (wired n valid) x.0 ss w r) i x.1 k g in
+        omega (arith, lt, count)
 
 module _ (n : Network) (valid : IsNetwork n) (addr : ℕ) where
   -- before the first taking the packet goes along a way of the world in which it begins
   way : (ss : List Step) (w : World) → Runs (opening n) ss w → (i : ℕ) (es : List Event) → IsMoving w addr i es → IsMovingWay w addr (i ∷ before es)
   way ss w r i [] h = tt
-  way ss w r i (Goes k ∷ es) h = (by_published w addr i k h.0, way ss w r k es h.1)
+  way ss w r i (Goes k ∷ es) h = (h.0, way ss w r k es h.1)
   way ss w r i (Does s ∷ es) h = by_kind (is_taking s) refl (way (ss ++ s ∷ []) (next w s) (runs_more (opening n) ss w s r h.0) i es h.1)
     where
       by_kind : (b : Bool) → is_taking s ≡ b → IsMovingWay (next w s) addr (i ∷ before es) → IsMovingWay w addr (i ∷ (if b then [] else before es))

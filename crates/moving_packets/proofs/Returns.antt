@@ -56,19 +56,20 @@ stays_beyond p f q q' g g' (inr (same, low)) le (inr (as_long, inr (one, below))
 -- a packet that left a router by a row of prefix p, whose feasible distance was f, came by a row of prefix q, whose feasible distance was g
 pub record IsOn (addr : ℕ) (p : Prefix) (f : ℕ) (q : Prefix) (g : ℕ) : Type 0 where
   pub covered_is : covers q addr ≡ true
-  pub top : g ≤ infinity
+  pub top : g < infinity
   pub beyond : Beyond p f q g
 
 -- ---- moments
 
--- what is used of the moments of one kind, of each of which something is kept: fd is the feasible distance with which a router published last, row
--- the entry that it published, and goes says that a packet goes on, matched by a prefix
-pub record Descends {M : Type 0} (kept : M → Type 0) (fd : M → Prefix → ℕ → ℕ) (row : M → ℕ → Prefix → Option Entry) (goes : M → ℕ → Prefix → ℕ → ℕ → Type 0) : Type 0 where
-  pub covered : (m : M) → kept m → (addr i k : ℕ) (p : Prefix) → goes m addr p i k → covers p addr ≡ true
-  pub goes_before : (m : M) → kept m → (addr i k : ℕ) (p q : Prefix) (e : Entry) → goes m addr p i k → covers q addr ≡ true → row m i q ≡ Some e → GoesBefore p q
-  pub bounded : (m : M) → kept m → (p : Prefix) (i : ℕ) → fd m p i ≤ infinity
-  pub lower : (m : M) → kept m → (addr i k : ℕ) (p : Prefix) → goes m addr p i k → fd m p k < fd m p i
-  pub has_row : (m : M) → kept m → (p : Prefix) (i : ℕ) → fd m p i < infinity → (e : Entry) × (row m i p ≡ Some e)
+-- what is used of the moments of one kind, of each of which something is kept. A router shows the rows that it published last, or perhaps those that it has
+-- chosen: fd b is the feasible distance that goes with those of kind b, row b the entry among them, and goes b says that a packet goes on by one of them,
+-- matched by a prefix
+pub record Descends {M : Type 0} (kept : M → Type 0) (fd : Bool → M → Prefix → ℕ → ℕ) (row : Bool → M → ℕ → Prefix → Option Entry) (goes : Bool → M → ℕ → Prefix → ℕ → ℕ → Type 0) : Type 0 where
+  pub covered : (b : Bool) (m : M) → kept m → (addr i k : ℕ) (p : Prefix) → goes b m addr p i k → covers p addr ≡ true
+  pub goes_before : (b : Bool) (m : M) → kept m → (addr i k : ℕ) (p q : Prefix) (e : Entry) → goes b m addr p i k → covers q addr ≡ true → row b m i q ≡ Some e → GoesBefore p q
+  pub finite : (b : Bool) (m : M) → kept m → (addr i k : ℕ) (p : Prefix) → goes b m addr p i k → fd b m p i < infinity
+  pub lower : (b c : Bool) (m : M) → kept m → (addr i k : ℕ) (p : Prefix) → goes b m addr p i k → fd c m p k < fd b m p i
+  pub has_row : (b : Bool) (m : M) → kept m → (p : Prefix) (i : ℕ) → fd b m p i < infinity → (e : Entry) × (row b m i p ≡ Some e)
 
 -- a router shows the same at two moments
 pub record SameShown {M : Type 0} (fd : M → Prefix → ℕ → ℕ) (row : M → ℕ → Prefix → Option Entry) (i : ℕ) (m m' : M) : Type 0 where
@@ -87,156 +88,141 @@ module _ {M : Type 0} {fd : M → Prefix → ℕ → ℕ} {row : M → ℕ → P
       never : row m' i q ≡ None → ⊥
       never e = false≢true (subst IsSome e some)
 
-module _ {M : Type 0} {kept : M → Type 0} {fd : M → Prefix → ℕ → ℕ} {row : M → ℕ → Prefix → Option Entry} {goes : M → ℕ → Prefix → ℕ → ℕ → Type 0} (D : Descends kept fd row goes) where
+module _ {M : Type 0} {kept : M → Type 0} {fd : Bool → M → Prefix → ℕ → ℕ} {row : Bool → M → ℕ → Prefix → Option Entry} {goes : Bool → M → ℕ → Prefix → ℕ → ℕ → Type 0} (D : Descends kept fd row goes) where
   -- ---- a packet that comes back
 
   -- the first hop
-  pub first_on : (m : M) → kept m → (addr i k : ℕ) (p : Prefix) → goes m addr p i k → IsOn addr p (fd m p i) p (fd m p i)
-  first_on m K addr i k p G = record { covered_is = D.covered m K addr i k p G; top = D.bounded m K p i; beyond = inr (refl, inr (refl, omega arith)) }
+  pub first_on : (b : Bool) (m : M) → kept m → (addr i k : ℕ) (p : Prefix) → goes b m addr p i k → IsOn addr p (fd b m p i) p (fd b m p i)
+  first_on b m K addr i k p G = record { covered_is = D.covered b m K addr i k p G; top = D.finite b m K addr i k p G; beyond = inr (refl, inr (refl, omega arith)) }
 
   -- where it goes on it is so at the next router
-  pub goes_on : (m : M) → kept m → (addr : ℕ) (p : Prefix) (f : ℕ) (q : Prefix) (k g : ℕ) → IsOn addr p f q g → fd m q k < g → (q' : Prefix) (l : ℕ) → goes m addr q' k l → IsOn addr p f q' (fd m q' k)
-  goes_on m K addr p f q k g O low q' l G = record {
-    covered_is = D.covered m K addr k l q' G;
-    top = D.bounded m K q' k;
-    beyond = stays_beyond p f q q' g (fd m q' k) before (λ same. (let lt : fd m q' k < g = subst (λ (x : Prefix). fd m x k < g) (sym same) low in omega (arith, lt))) O.beyond;
+  pub goes_on : (b : Bool) (m : M) → kept m → (addr : ℕ) (p : Prefix) (f : ℕ) (q : Prefix) (k g : ℕ) → IsOn addr p f q g → fd b m q k ≤ g → (q' : Prefix) (l : ℕ) → goes b m addr q' k l → IsOn addr p f q' (fd b m q' k)
+  goes_on b m K addr p f q k g O near q' l G = record {
+    covered_is = D.covered b m K addr k l q' G;
+    top = D.finite b m K addr k l q' G;
+    beyond = stays_beyond p f q q' g (fd b m q' k) before (λ same. subst (λ (x : Prefix). fd b m x k ≤ g) (sym same) near) O.beyond;
   }
     where
       before : GoesBefore q' q
-      before =
-          let top = O.top in
-          let here = D.has_row m K q k (omega (arith, top, low)) in
-          D.goes_before m K addr k l q' q here.0 G O.covered_is here.1
+      before = (let top = O.top in let here = D.has_row b m K q k (omega (arith, near, top)) in D.goes_before b m K addr k l q' q here.0 G O.covered_is here.1)
 
   -- at the router that it left it finds a better way
-  finds_better : (m0 : M) → kept m0 → (addr i k0 : ℕ) (p : Prefix) → goes m0 addr p i k0 → (m : M) → kept m → (q : Prefix) (g : ℕ) → IsOn addr p (fd m0 p i) q g → fd m q i < g
-      → IsBetter addr p (fd m0 p i) (fd m p i) (row m0 i) (row m i)
-  finds_better m0 K0 addr i k0 p G0 m K q g O low = by_beyond O.beyond
+  finds_better : (c : Bool) (m0 : M) → kept m0 → (addr i k0 : ℕ) (p : Prefix) → goes c m0 addr p i k0 → (d : Bool) (m : M) → kept m → (q : Prefix) (g : ℕ) → IsOn addr p (fd c m0 p i) q g → fd d m q i < g
+      → IsBetter addr p (fd c m0 p i) (fd d m p i) (row c m0 i) (row d m i)
+  finds_better c m0 K0 addr i k0 p G0 d m K q g O low = by_beyond O.beyond
     where
-      here : (e : Entry) × (row m i q ≡ Some e)
-      here = (let top = O.top in D.has_row m K q i (omega (arith, top, low)))
+      here : (e : Entry) × (row d m i q ≡ Some e)
+      here = (let top = O.top in D.has_row d m K q i (omega (arith, top, low)))
 
-      -- a prefix that goes strictly before was not published
-      fresh : (GoesBefore p q → ⊥) → row m0 i q ≡ None
-      fresh never = by_row (row m0 i q) refl
+      -- a prefix that goes strictly before was not shown
+      fresh : (GoesBefore p q → ⊥) → row c m0 i q ≡ None
+      fresh never = by_row (row c m0 i q) refl
         where
-          by_row : (o : Option Entry) → row m0 i q ≡ o → o ≡ None
+          by_row : (o : Option Entry) → row c m0 i q ≡ o → o ≡ None
           by_row None is = refl
-          by_row (Some e) is = absurd (never (D.goes_before m0 K0 addr i k0 p q e G0 O.covered_is is))
+          by_row (Some e) is = absurd (never (D.goes_before c m0 K0 addr i k0 p q e G0 O.covered_is is))
 
-      another : (GoesBefore p q → ⊥) → (q ≢ p) → p.len ≤ q.len → IsBetter addr p (fd m0 p i) (fd m p i) (row m0 i) (row m i)
+      another : (GoesBefore p q → ⊥) → (q ≢ p) → p.len ≤ q.len → IsBetter addr p (fd c m0 p i) (fd d m p i) (row c m0 i) (row d m i)
       another never other le = inr (q, O.covered_is, other, le, fresh never, subst IsSome (sym here.1) refl)
 
-      by_beyond : Beyond p (fd m0 p i) q g → IsBetter addr p (fd m0 p i) (fd m p i) (row m0 i) (row m i)
+      by_beyond : Beyond p (fd c m0 p i) q g → IsBetter addr p (fd c m0 p i) (fd d m p i) (row c m0 i) (row d m i)
       by_beyond (inl longer) = another (λ b. elim b [ inl x ↦ omega (arith, x, longer) | inr x ↦ (let e = x.0 in omega (arith, e, longer)) ])
           (λ e. (let same = ap (λ (y : Prefix). y.len) e in omega (arith, same, longer))) (omega (arith, longer))
       by_beyond (inr (as_long, inl less)) = another (λ b. elim b [ inl x ↦ omega (arith, x, as_long) | inr x ↦ (let le = x.1 in omega (arith, le, less)) ])
           (λ e. (let same = ap (λ (y : Prefix). y.addr) e in omega (arith, same, less))) (omega (arith, as_long))
       by_beyond (inr (as_long, inr (one, below))) =
           let prefix : q ≡ p = λ z. record { addr = one z; len = sym as_long z } in
-          let lt : fd m p i < g = subst (λ (x : Prefix). fd m x i < g) prefix low in
+          let lt : fd d m p i < g = subst (λ (x : Prefix). fd d m x i < g) prefix low in
           inl (omega (arith, lt, below))
 
-  pub comes_back : (m0 : M) → kept m0 → (addr i k0 : ℕ) (p : Prefix) → goes m0 addr p i k0 → (m : M) → kept m → (q : Prefix) (k g : ℕ) → IsOn addr p (fd m0 p i) q g → fd m q k < g → (q' : Prefix) → goes m addr q' k i
-      → IsBetter addr p (fd m0 p i) (fd m p i) (row m0 i) (row m i)
-  comes_back m0 K0 addr i k0 p G0 m K q k g O low q' G =
-      finds_better m0 K0 addr i k0 p G0 m K q' (fd m q' k) (goes_on m K addr p (fd m0 p i) q k g O low q' i G) (D.lower m K addr k i q' G)
+  pub comes_back : (c : Bool) (m0 : M) → kept m0 → (addr i k0 : ℕ) (p : Prefix) → goes c m0 addr p i k0 → (b : Bool) (m : M) → kept m → (q : Prefix) (k g : ℕ) → IsOn addr p (fd c m0 p i) q g → fd b m q k ≤ g
+      → (q' : Prefix) → goes b m addr q' k i → (d : Bool) → IsBetter addr p (fd c m0 p i) (fd d m p i) (row c m0 i) (row d m i)
+  comes_back c m0 K0 addr i k0 p G0 b m K q k g O near q' G d =
+      finds_better c m0 K0 addr i k0 p G0 d m K q' (fd b m q' k) (goes_on b m K addr p (fd c m0 p i) q k g O near q' i G) (D.lower b d m K addr k i q' G)
 
   -- ---- how often it comes back
 
-  -- a packet at a router, which came by a row of prefix q, left router i at a moment before; published says whether that has published since
-  pub record Away (addr i : ℕ) (m : M) (q : Prefix) (g : ℕ) : Type 0 where
+  -- a packet left router i at a moment, by rows of some kind
+  pub record Left (addr i : ℕ) : Type 0 where
+    pub kind : Bool
     pub then_was : M
     pub kept_then : kept then_was
-    pub first_router : ℕ
-    pub first_prefix : Prefix
-    pub left_by : goes then_was addr first_prefix i first_router
-    pub on : IsOn addr first_prefix (fd then_was first_prefix i) q g
+    pub router : ℕ
+    pub prefix : Prefix
+    pub by : goes kind then_was addr prefix i router
+
+  -- now it is at a router to which it came by a row of prefix q. published says whether router i has published since; if not, it shows the same in rows of that
+  -- kind, and rest says that it goes on so
+  pub record Away (rest : Bool → Type 0) (addr i : ℕ) (m : M) (q : Prefix) (g : ℕ) : Type 0 where
+    pub left : Left addr i
+    pub on : IsOn addr left.prefix (fd left.kind left.then_was left.prefix i) q g
     pub published : Bool
-    pub same : published ≡ false → SameShown fd row i then_was m
+    pub same : published ≡ false → SameShown (fd left.kind) (row left.kind) i left.then_was m × rest left.kind
 
   -- it is at router i, or away from it
-  abbrev pub Where : ℕ → ℕ → M → Prefix → ℕ → ℕ → Type 0
-  Where addr i m q k g = (k ≡ i) ⊎ Away addr i m q g
+  abbrev pub Where : (Bool → Type 0) → ℕ → ℕ → M → Prefix → ℕ → ℕ → Type 0
+  Where rest addr i m q k g = (k ≡ i) ⊎ Away rest addr i m q g
 
   -- how often it may come without a publication
-  abbrev pub spare : {addr i : ℕ} {m : M} {q : Prefix} {k g : ℕ} → Where addr i m q k g → ℕ
+  abbrev pub spare : {rest : Bool → Type 0} {addr i : ℕ} {m : M} {q : Prefix} {k g : ℕ} → Where rest addr i m q k g → ℕ
   spare (inl e) = 0
   spare (inr A) = if A.published then 1 else 0
 
-  -- it has just left
-  abbrev pub leaves : (m : M) → kept m → (addr i k : ℕ) (p : Prefix) → goes m addr p i k → Where addr i m p k (fd m p i)
-  leaves m K addr i k p G = inr (record {
-    then_was = m;
-    kept_then = K;
-    first_router = k;
-    first_prefix = p;
-    left_by = G;
-    on = first_on m K addr i k p G;
+  -- it leaves router i
+  abbrev pub leaves : (rest : Bool → Type 0) (b : Bool) (m : M) → kept m → (addr i k : ℕ) → k ≡ i → (l : ℕ) (p : Prefix) → goes b m addr p k l → rest b → Away rest addr i m p (fd b m p k)
+  leaves rest b m K addr i k e l p G still = record {
+    left = record { kind = b; then_was = m; kept_then = K; router = l; prefix = p; by = subst (λ (x : ℕ). goes b m addr p x l) e G };
+    on = subst (λ (x : ℕ). IsOn addr p (fd b m p x) p (fd b m p k)) e (first_on b m K addr k l p G);
     published = false;
-    same = λ e. record { rows = λ q. refl; fds = λ q. refl };
-  })
+    same = λ x. (record { rows = λ z. refl; fds = λ z. refl }, still);
+  }
 
   -- a hop: to router i only where that has published since
-  pub hop_counts : (m : M) → kept m → (addr i : ℕ) (q : Prefix) (k g : ℕ) → (w : Where addr i m q k g) → fd m q k < g → (q' : Prefix) (l : ℕ) → goes m addr q' k l
-      → (w' : Where addr i m q' l (fd m q' k)) × ((if i == l then suc (spare w') else spare w') ≤ spare w)
-  hop_counts m K addr i q k g (inl e) low q' l G = by_test (i == l) refl
+  pub hop_counts : (rest : Bool → Type 0) (b : Bool) (m : M) → kept m → (addr i : ℕ) (q : Prefix) (k g : ℕ) → (w : Where rest addr i m q k g) → fd b m q k ≤ g → (q' : Prefix) (l : ℕ) → goes b m addr q' k l → (k ≡ i → rest b)
+      → (w' : Where rest addr i m q' l (fd b m q' k)) × ((if i == l then suc (spare w') else spare w') ≤ spare w)
+  hop_counts rest b m K addr i q k g (inl e) near q' l G still = by_test (i == l) refl
     where
-      left : goes m addr q' i l
-      left = subst (λ (x : ℕ). goes m addr q' x l) e G
-
-      A : Away addr i m q' (fd m q' k)
-      A = record {
-        then_was = m;
-        kept_then = K;
-        first_router = l;
-        first_prefix = q';
-        left_by = left;
-        on = subst (λ (x : ℕ). IsOn addr q' (fd m q' i) q' (fd m q' x)) (sym e) (first_on m K addr i l q' left);
-        published = false;
-        same = λ x. record { rows = λ z. refl; fds = λ z. refl };
-      }
-
-      by_test : (b : Bool) → (i == l) ≡ b → (w' : Where addr i m q' l (fd m q' k)) × ((if b then suc (spare w') else spare w') ≤ 0)
+      by_test : (x : Bool) → (i == l) ≡ x → (w' : Where rest addr i m q' l (fd b m q' k)) × ((if x then suc (spare w') else spare w') ≤ 0)
       by_test true is =
-          let same = ap (λ (x : ℕ). fd m q' x) (eqb-true i l is) in
-          let lt = D.lower m K addr i l q' left in
+          let same = ap (λ (x : ℕ). fd b m q' x) (e ∙ eqb-true i l is) in
+          let lt = D.lower b b m K addr k l q' G in
           absurd (omega (arith, lt, same))
-      by_test false is = (inr A, omega arith)
-  hop_counts m K addr i q k g (inr A) low q' l G = by_test (i == l) refl
+      by_test false is = (inr (leaves rest b m K addr i k e l q' G (still e)), omega arith)
+  hop_counts rest b m K addr i q k g (inr A) near q' l G still = by_test (i == l) refl
     where
-      on : IsOn addr A.first_prefix (fd A.then_was A.first_prefix i) q' (fd m q' k)
-      on = goes_on m K addr A.first_prefix (fd A.then_was A.first_prefix i) q k g A.on low q' l G
+      was : Left addr i
+      was = A.left
 
-      gone : Away addr i m q' (fd m q' k)
-      gone = record { then_was = A.then_was; kept_then = A.kept_then; first_router = A.first_router; first_prefix = A.first_prefix; left_by = A.left_by; on = on; published = A.published; same = A.same }
+      on : IsOn addr was.prefix (fd was.kind was.then_was was.prefix i) q' (fd b m q' k)
+      on = goes_on b m K addr was.prefix (fd was.kind was.then_was was.prefix i) q k g A.on near q' l G
 
       -- at router i again
-      back : i ≡ l → (b : Bool) → A.published ≡ b → 1 ≤ (if b then 1 else 0)
+      back : i ≡ l → (x : Bool) → A.published ≡ x → 1 ≤ (if x then 1 else 0)
       back e true is = omega arith
       back e false is =
-          let low : fd m q' i < fd m q' k = subst (λ (x : ℕ). fd m q' x < fd m q' k) (sym e) (D.lower m K addr k l q' G) in
-          absurd (none_better addr i A.first_prefix A.then_was m (A.same is) (finds_better A.then_was A.kept_then addr i A.first_router A.first_prefix A.left_by m K q' (fd m q' k) on low))
+          let low : fd was.kind m q' i < fd b m q' k = subst (λ (x : ℕ). fd was.kind m q' x < fd b m q' k) (sym e) (D.lower b was.kind m K addr k l q' G) in
+          absurd (none_better addr i was.prefix was.then_was m (A.same is).0 (finds_better was.kind was.then_was was.kept_then addr i was.router was.prefix was.by was.kind m K q' (fd b m q' k) on low))
 
-      by_test : (b : Bool) → (i == l) ≡ b → (w' : Where addr i m q' l (fd m q' k)) × ((if b then suc (spare w') else spare w') ≤ (if A.published then 1 else 0))
+      by_test : (x : Bool) → (i == l) ≡ x → (w' : Where rest addr i m q' l (fd b m q' k)) × ((if x then suc (spare w') else spare w') ≤ (if A.published then 1 else 0))
       by_test true is = (inl (sym (eqb-true i l is)), back (eqb-true i l is) A.published refl)
-      by_test false is = (inr gone, omega arith)
+      by_test false is = (inr (record { left = was; on = on; published = A.published; same = A.same }), omega arith)
 
   -- anything else: router i publishes, or shows the same
-  pub wait_counts : (addr i : ℕ) (m m' : M) (q : Prefix) (k g : ℕ) (b : Bool) → (b ≡ false → SameShown fd row i m m') → (w : Where addr i m q k g) → (w' : Where addr i m' q k g) × (spare w' ≤ spare w + (if b then 1 else 0))
-  wait_counts addr i m m' q k g b same (inl e) = (inl e, omega arith)
-  wait_counts addr i m m' q k g b same (inr A) = (inr later, by_kind A.published b)
+  pub wait_counts : (rest rest' : Bool → Type 0) (addr i : ℕ) (m m' : M) (q : Prefix) (k g : ℕ) (b : Bool) → ((c : Bool) → rest c → b ≡ false → SameShown (fd c) (row c) i m m' × rest' c) → (w : Where rest addr i m q k g)
+      → (w' : Where rest' addr i m' q k g) × (spare w' ≤ spare w + (if b then 1 else 0))
+  wait_counts rest rest' addr i m m' q k g b shows (inl e) = (inl e, omega arith)
+  wait_counts rest rest' addr i m m' q k g b shows (inr A) = (inr later, by_kind A.published b)
     where
-      later : Away addr i m' q g
+      later : Away rest' addr i m' q g
       later = record {
-        then_was = A.then_was;
-        kept_then = A.kept_then;
-        first_router = A.first_router;
-        first_prefix = A.first_prefix;
-        left_by = A.left_by;
+        left = A.left;
         on = A.on;
         published = A.published || b;
-        same = λ e. (let none = or_parts A.published b e in shows_same i A.then_was m m' (A.same none.0) (same none.1));
+        same = λ e. (
+            let none = or_parts A.published b e in
+            let before = A.same none.0 in
+            let now = shows (A.left).kind before.1 none.1 in
+            (shows_same i (A.left).then_was m m' before.0 now.0, now.1));
       }
 
       by_kind : (c d : Bool) → (if c || d then 1 else 0) ≤ (if c then 1 else 0) + (if d then 1 else 0)

@@ -1,13 +1,14 @@
--- A packet that is on its way while steps of every kind are done.
-use Rattle.std.specs.Prelude.{◌≡◌, ◌≢◌, ◌⊎◌, ℕ, suc, ◌+◌, ◌*◌, ◌<◌, ◌≤◌, Bool, true, false, ◌&&◌, ◌||◌, ◌==◌, nat_lt, if◌then◌else◌, List, [], ◌∷◌, Option, Some, None, IsSome, length, slice_get, ⊤}
+-- A packet that is on its way while steps of every kind are done, also at routers that have a ticket out.
+use Rattle.std.specs.Prelude.{◌≡◌, ◌≢◌, ◌⊎◌, ℕ, suc, ◌+◌, ◌*◌, ◌<◌, ◌≤◌, Bool, true, false, not, ◌&&◌, ◌||◌, ◌==◌, nat_lt, if◌then◌else◌, List, [], ◌∷◌, ◌++◌, Option, Some, None, IsSome, length, slice_get, ⊤}
 use Rattle.std.specs.Option.{option_map_or}
 use Rattle.ipv4_prefix.specs.Prefix.{Prefix, covers}
-use Rattle.network_model.specs.{declared.route.Entry.Entry, declared.step.Step.Step, declared.step.Step.TheVariants.Deliver, declared.step.Step.TheVariants.Publish, Machine.Machine, Machine.opening_machine, Network.IsNetwork, Step.Lawful, Step.next, Forwarding.hop, Forwarding.IsForwarded, View.fd_in}
+use Rattle.network_model.specs.{declared.route.Entry.Entry, declared.step.Step.Step, declared.step.Step.TheVariants.Deliver, declared.step.Step.TheVariants.Publish, Machine.Machine, Machine.opening_machine, Network.IsNetwork, Step.Lawful, Step.next, Forwarding.hop, View.fd_in}
 use Rattle.network_model.specs.World.{World, Network, machine_of, opening}
 use Rattle.network_model.specs.Run.{Runs, History, history, with_step}
 use Rattle.machine_laws.specs.Laws.{is_active, is_up_at}
-use Rattle.no_packet_loops.specs.Packets.{published_entry}
+use Rattle.no_packet_loops.specs.Packets.{IsForwardedBy, control_entry, published_entry}
 use Rattle.coming_to_rest.specs.Worlds.{is_own}
+use Rattle.all_packets.specs.Packets.{MayGoOn}
 use Rattle.all_packets.specs.Journeys.{is_taking, Event, Goes, Does, routers_met}
 
 -- what holds after every list of lawful steps from the opening of a network
@@ -43,6 +44,39 @@ pub record RisesComeFrom (h : History) : Type 0 where
 
 -- ---- a packet that moves
 
+-- a router forwards by the rows that it published last, or, where a ticket of it is out, perhaps by those that it has chosen, which are published next. This is
+-- the feasible distance that goes with the ones (false) or the others (true)
+abbrev pub fd_shown : Bool → History → Prefix → ℕ → ℕ
+fd_shown c h p i = if c then fd_chosen h p i else fd_published h p i
+
+-- and this the entry among them
+abbrev pub entry_shown : Bool → History → ℕ → Prefix → Option Entry
+entry_shown c h i p = if c then control_entry h.world i p else published_entry h.world i p
+
+-- a packet for the address, matched by this prefix among them, goes from router i to router k
+abbrev pub IsSent : Bool → History → ℕ → Prefix → ℕ → ℕ → Type 0
+IsSent c h addr p i k = IsForwardedBy (λ j. c) h.world addr p i k
+
+-- whether router i takes something in a step
+abbrev pub takes : ℕ → Step → Bool
+takes i (Deliver j q) = i == j
+takes i _ = false
+
+-- whether it publishes
+abbrev pub publishes : ℕ → Step → Bool
+publishes i (Publish j) = i == j
+publishes i _ = false
+
+-- in these events it takes nothing before it publishes: so it is from a ticket until that is given back
+abbrev pub publishes_first : ℕ → List Event → Bool
+publishes_first i [] = true
+publishes_first i (Goes k ∷ es) = publishes_first i es
+publishes_first i (Does s ∷ es) = publishes i s || (not (takes i s) && publishes_first i es)
+
+-- only then may a packet meet what it has chosen
+abbrev pub MayShow : Bool → ℕ → List Event → Type 0
+MayShow c i es = c ≡ true → publishes_first i es ≡ true
+
 -- where a packet is after these events, which began at router i
 abbrev pub router_at_end : ℕ → List Event → ℕ
 router_at_end i [] = i
@@ -55,58 +89,45 @@ history_after h [] = h
 history_after h (Goes k ∷ es) = history_after h es
 history_after h (Does s ∷ es) = history_after (with_step h s) es
 
--- a packet is at router k, where it came by a row of prefix p whose published feasible distance was f. It goes on along the rows in force at each moment, while
--- lawful steps of every kind are done. It stays near: whenever it leaves a router, and at the end, that router's published feasible distance for the prefix by
--- which the packet came is still below that of the row by which it came
-abbrev pub StaysNear : History → ℕ → Prefix → ℕ → ℕ → List Event → Type 0
-StaysNear h addr p f k [] = fd_published h p k < f
-StaysNear h addr p f k (Goes l ∷ es) = (fd_published h p k < f) × ((q : Prefix) × IsForwarded h.world addr q k l × StaysNear h addr q (fd_published h q k) l es)
-StaysNear h addr p f k (Does s ∷ es) = Lawful h.world s × StaysNear (with_step h s) addr p f k es
+-- a packet is at router k, where it came by a row of prefix p whose feasible distance was f. It goes on along the rows that it meets at each moment, while
+-- lawful steps of every kind are done. It stays near: whenever it leaves a router, the feasible distance that goes with the rows that it meets there, for the
+-- prefix by which it came, is near that of the row by which it came, which is to say not above it, or below it; and so is the published one at the end
+abbrev pub StaysNear : (ℕ → ℕ → Type 0) → History → ℕ → Prefix → ℕ → ℕ → List Event → Type 0
+StaysNear near h addr p f k [] = near (fd_published h p k) f
+StaysNear near h addr p f k (Goes l ∷ es) = (c : Bool) × near (fd_shown c h p k) f × MayShow c k es × (q : Prefix) × IsSent c h addr q k l × StaysNear near h addr q (fd_shown c h q k) l es
+StaysNear near h addr p f k (Does s ∷ es) = Lawful h.world s × StaysNear near (with_step h s) addr p f k es
 
--- the same of a packet that is where no rise of a feasible distance for the prefix by which it came is both begun and published while it is there: risen
--- says whether one has begun
+-- the same of a packet that is where no rise of a feasible distance for the prefix by which it came is both begun and published, or met by the packet, while it
+-- is there: risen says whether one has begun
 abbrev pub IsCalm : History → ℕ → Prefix → Bool → ℕ → List Event → Type 0
 IsCalm h addr p risen k [] = ⊤
-IsCalm h addr p risen k (Goes l ∷ es) = (q : Prefix) × IsForwarded h.world addr q k l × IsCalm h addr q false l es
+IsCalm h addr p risen k (Goes l ∷ es) = (c : Bool) × ((risen && nat_lt (fd_published h p k) (fd_shown c h p k)) ≡ false) × MayShow c k es × (q : Prefix) × IsSent c h addr q k l × IsCalm h addr q false l es
 IsCalm h addr p risen k (Does s ∷ es) = Lawful h.world s × ((risen && rises fd_published h s p k) ≡ false) × IsCalm (with_step h s) addr p (risen || rises fd_chosen h s p k) k es
 
--- such a packet stays near
+-- such a packet stays near, even below
 abbrev pub CalmStaysNear : History → Type 0
-CalmStaysNear h = (addr i k : ℕ) (p : Prefix) (es : List Event) → IsForwarded h.world addr p i k → IsCalm h addr p false k es → StaysNear h addr p (fd_published h p i) k es
+CalmStaysNear h = (addr i k : ℕ) (p : Prefix) (c : Bool) (es : List Event) → IsSent c h addr p i k → IsCalm h addr p false k es → StaysNear (λ x f. x < f) h addr p (fd_shown c h p i) k es
 
 -- ---- a packet that comes back
 
--- since a packet left a router by a row of prefix p, the router has published a better way for it: the same prefix at a lower feasible distance, or a row of
--- another prefix, no shorter, of which it had none. These are the feasible distances for p with which it had published last, and the entries that it had
--- published, then and now
-abbrev pub IsBetter : ℕ → Prefix → (fd_then fd_now : ℕ) → (then_published now_published : Prefix → Option Entry) → Type 0
-IsBetter addr p fd_then fd_now then_published now_published = (fd_now < fd_then)
-    ⊎ ((q : Prefix) × (covers q addr ≡ true) × (q ≢ p) × (p.len ≤ q.len) × (then_published q ≡ None) × IsSome (now_published q))
+-- since a packet left a router by a row of prefix p, the router has a better way for it: the same prefix at a lower feasible distance, or a row of another
+-- prefix, no shorter, of which it had none. These are the feasible distances for p that went with the rows which the packet met, and go with those that it
+-- meets, and the entries among them, then and now
+abbrev pub IsBetter : ℕ → Prefix → (fd_then fd_now : ℕ) → (then_shown now_shown : Prefix → Option Entry) → Type 0
+IsBetter addr p fd_then fd_now then_shown now_shown = (fd_now < fd_then)
+    ⊎ ((q : Prefix) × (covers q addr ≡ true) × (q ≢ p) × (p.len ≤ q.len) × (then_shown q ≡ None) × IsSome (now_shown q))
 
--- router i has, from one moment to the other
-abbrev pub HasBetter : ℕ → ℕ → Prefix → History → History → Type 0
-HasBetter addr i p h h' = IsBetter addr p (fd_published h p i) (fd_published h' p i) (published_entry h.world i) (published_entry h'.world i)
+-- router i has, from one moment to the other, in the rows of the one kind and of the other
+abbrev pub HasBetter : Bool → Bool → ℕ → ℕ → Prefix → History → History → Type 0
+HasBetter c d addr i p h h' = IsBetter addr p (fd_shown c h p i) (fd_shown d h' p i) (entry_shown c h i) (entry_shown d h' i)
 
--- a packet that stays near comes back to a router only where that has published a better way since
+-- a packet that left a router is never far, and comes back to it after these events
+abbrev pub ComesBack : Bool → History → ℕ → ℕ → ℕ → Prefix → List Event → Type 0
+ComesBack c h addr i k p es = IsSent c h addr p i k × StaysNear (λ x f. x ≤ f) h addr p (fd_shown c h p i) k (es ++ Goes i ∷ [])
+
+-- then that has a better way since, in those that it has published and in those that it has chosen
 abbrev pub ComesBackForBetter : History → Type 0
-ComesBackForBetter h = (addr i k : ℕ) (p q : Prefix) (es : List Event) → IsForwarded h.world addr p i k → StaysNear h addr p (fd_published h p i) k es
-    → IsForwarded (history_after h es).world addr q (router_at_end k es) i → HasBetter addr i p h (history_after h es)
-
--- whether router i publishes meanwhile
-abbrev pub publishes : ℕ → Step → Bool
-publishes i (Publish j) = i == j
-publishes i _ = false
-
--- whether it does so in one of these events
-abbrev pub has_published : ℕ → List Event → Bool
-has_published i [] = false
-has_published i (Goes k ∷ es) = has_published i es
-has_published i (Does s ∷ es) = publishes i s || has_published i es
-
--- so not to one that has published nothing since
-abbrev pub ComesBackOncePublished : History → Type 0
-ComesBackOncePublished h = (addr i k : ℕ) (p q : Prefix) (es : List Event) → IsForwarded h.world addr p i k → StaysNear h addr p (fd_published h p i) k es
-    → IsForwarded (history_after h es).world addr q (router_at_end k es) i → has_published i es ≡ true
+ComesBackForBetter h = (addr i k : ℕ) (p : Prefix) (c d : Bool) (es : List Event) → ComesBack c h addr i k p es → HasBetter c d addr i p h (history_after h es)
 
 -- how often a packet comes to router i
 abbrev pub visits : ℕ → List Event → ℕ
@@ -120,27 +141,32 @@ publications i [] = 0
 publications i (Goes k ∷ es) = publications i es
 publications i (Does s ∷ es) = if publishes i s then suc (publications i es) else publications i es
 
+-- so that has published since
+abbrev pub ComesBackOncePublished : History → Type 0
+ComesBackOncePublished h = (addr i k : ℕ) (p : Prefix) (c : Bool) (es : List Event) → MayShow c i (es ++ Goes i ∷ []) → ComesBack c h addr i k p es → 0 < publications i es
+
 -- a packet that stays near comes back to a router at most as often as that publishes meanwhile
 abbrev pub ComesBackSeldom : History → Type 0
-ComesBackSeldom h = (addr i k : ℕ) (p : Prefix) (es : List Event) → IsForwarded h.world addr p i k → StaysNear h addr p (fd_published h p i) k es → visits i es ≤ publications i es
+ComesBackSeldom h = (addr i k : ℕ) (p : Prefix) (c : Bool) (es : List Event) → MayShow c i es → IsSent c h addr p i k → StaysNear (λ x f. x ≤ f) h addr p (fd_shown c h p i) k es
+    → visits i es ≤ publications i es
 
 -- ---- how far it goes
 
--- each hop is by a row of this prefix
-abbrev pub IsBy : History → ℕ → Prefix → ℕ → List Event → Type 0
-IsBy h addr p k [] = ⊤
-IsBy h addr p k (Goes l ∷ es) = IsForwarded h.world addr p k l × IsBy h addr p l es
-IsBy h addr p k (Does s ∷ es) = IsBy (with_step h s) addr p k es
+-- each hop is by a row of prefix p, and from where the feasible distance is below that of the row by which the packet came; so it is at the end
+abbrev pub GoesNearer : History → ℕ → Prefix → ℕ → ℕ → List Event → Type 0
+GoesNearer h addr p f k [] = fd_published h p k < f
+GoesNearer h addr p f k (Goes l ∷ es) = (c : Bool) × (fd_shown c h p k < f) × IsSent c h addr p k l × GoesNearer h addr p (fd_shown c h p k) l es
+GoesNearer h addr p f k (Does s ∷ es) = GoesNearer (with_step h s) addr p f k es
 
--- where a packet stays near, each hop by one prefix brings it nearer, by the published feasible distances
+-- then each hop brings it nearer, by the feasible distances
 abbrev pub HopsComeNearer : History → Type 0
-HopsComeNearer h = (addr i k : ℕ) (p : Prefix) (es : List Event) → IsForwarded h.world addr p i k → StaysNear h addr p (fd_published h p i) k es → IsBy h addr p k es
-    → length (i ∷ routers_met es) + fd_published (history_after h es) p (router_at_end k es) ≤ fd_published h p i
+HopsComeNearer h = (addr i k : ℕ) (p : Prefix) (c : Bool) (es : List Event) → IsSent c h addr p i k → GoesNearer h addr p (fd_shown c h p i) k es
+    → length (i ∷ routers_met es) + fd_published (history_after h es) p (router_at_end k es) ≤ fd_shown c h p i
 
--- a packet goes on along the rows in force at each moment, while lawful steps of every kind are done
+-- a packet goes on along the rows that it meets at each moment, while lawful steps of every kind are done
 abbrev pub IsMoving : World → ℕ → ℕ → List Event → Type 0
 IsMoving w addr i [] = ⊤
-IsMoving w addr i (Goes k ∷ es) = (hop w addr i ≡ Some k) × IsMoving w addr k es
+IsMoving w addr i (Goes k ∷ es) = MayGoOn w addr i k × IsMoving w addr k es
 IsMoving w addr i (Does s ∷ es) = Lawful w s × IsMoving (next w s) addr i es
 
 -- how often a router takes something meanwhile
@@ -165,15 +191,12 @@ HopsEnd w = (most : ℕ) × ((addr i : ℕ) (es : List Event) → i < length w.r
 
 -- ---- that there is something to say
 
--- some packet stays near, and comes back to a router that has published a better way
+-- some packet stays near, and comes back to a router that has published a better way, by a row that the router before it has yet to publish
 abbrev pub SomeComesBackForBetter : Type 0
 SomeComesBackForBetter = (n : Network) × (ss : List Step) × (w : World) × (addr : ℕ) × (i : ℕ) × (k : ℕ) × (p : Prefix) × (es : List Event) × IsNetwork n × Runs (opening n) ss w
-    × IsForwarded (history n ss).world addr p i k × StaysNear (history n ss) addr p (fd_published (history n ss) p i) k es
-    × IsForwarded (history_after (history n ss) es).world addr p (router_at_end k es) i
+    × ComesBack false (history n ss) addr i k p es × (hop (history_after (history n ss) es).world addr (router_at_end k es) ≢ Some i)
 
 -- some packet does not stay near, and comes back to a router that has no better way
 abbrev pub SomeComesBackAfterRise : Type 0
 SomeComesBackAfterRise = (n : Network) × (ss : List Step) × (w : World) × (addr : ℕ) × (i : ℕ) × (k : ℕ) × (p : Prefix) × (es : List Event) × IsNetwork n × Runs (opening n) ss w
-    × IsForwarded (history n ss).world addr p i k × IsMoving w addr k es
-    × IsForwarded (history_after (history n ss) es).world addr p (router_at_end k es) i
-    × (HasBetter addr i p (history n ss) (history_after (history n ss) es) → ⊥)
+    × IsSent false (history n ss) addr p i k × IsMoving w addr k (es ++ Goes i ∷ []) × (HasBetter false false addr i p (history n ss) (history_after (history n ss) es) → ⊥)

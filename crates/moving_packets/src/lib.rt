@@ -6,7 +6,7 @@
 //! often?
 //!
 //! The law ([`comes_back`]): say that a packet *stays near*: whenever it leaves a router, the published feasible
-//! distance there, for the prefix by which it came, is below that of the row by which it came. If it comes
+//! distance there, for the prefix by which it came, is not above that of the row by which it came. If it comes
 //! back to a router then, this one has published a better way since: a lower feasible distance, or a row of
 //! another prefix that is no shorter. A packet stays near if no rise is both begun and published where it is.
 //! And a feasible distance rises only at the end of a computation, or when a router's last port goes down
@@ -15,13 +15,18 @@
 //! ```text
 //!    c  -- via b -->  b               the packet is at b; now b loses its way, asks c, and c takes another one
 //!    FD 3             FD 2
-//!    c  <-- via c --  b               b's computation ends, and b publishes: FD 7 is not below 3
+//!    c  <-- via c --  b               b's computation ends, and b publishes: FD 7 is above 3
 //! ```
 //!
-//! Why it is true: where a packet goes on, the feasible distance falls. While it waits, the published one stays,
-//! or becomes the one that was chosen. That was below the row's, too, when the packet came. The argument is
-//! said once for all kinds of moments (`proofs/Returns.antt`), because that of processes is the same
-//! (`moving_daemon_packets`).
+//! While a ticket of a router is out, nobody can say whether a packet meets there the rows that the router
+//! published or those that it has chosen, which are published next. The law lets it meet either at each hop,
+//! because along rows of both kinds feasible distances of both kinds fall, and because a router takes nothing
+//! from a ticket until that is given back.
+//!
+//! Why it is true: where a packet goes on, the feasible distance falls, so that it need not have fallen at the
+//! routers between. While the packet waits, the published one stays, or becomes the one that was chosen. That
+//! was below the row's, too, when the packet came. The argument is said once for all kinds of moments
+//! (`proofs/Returns.antt`), because that of processes is the same (`moving_daemon_packets`).
 //!
 //! The hard step is a packet that other prefixes match on its way. It is matched by the prefix by which it came,
 //! or by one that goes before. So the router to which it comes back had published no row of that one when the
@@ -37,11 +42,11 @@
 ghost use Rattle.no_packet_loops.specs.Packets.{HoldsInEveryWorld};
 ghost use Rattle.moving_packets.specs.Moving.{HoldsAfterEveryRun, CalmStaysNear, ComesBackForBetter, ComesBackOncePublished, ComesBackSeldom, HopsComeNearer, RisesComeFrom, HopsAreFew, HopsEnd, SomeComesBackForBetter, SomeComesBackAfterRise};
 
-/// After every run, of a packet that goes on along the rows in force at each moment, while lawful steps of
-/// every kind are done. If it stays near, it comes back to a router only where that has published a better way
-/// since, so not to one that has published nothing. It stays near if, at no router on its way, a rise of the
-/// feasible distance, for the prefix by which it came, is both begun and published while it is there. And
-/// while it does, each hop by one prefix brings it nearer.
+/// After every run, of a packet that goes on along the rows in force at each moment, or those that a router with
+/// a ticket out publishes next, while lawful steps of every kind are done. If it stays near, it comes back to a
+/// router only where that has published a better way since, so not to one that has published nothing. It stays
+/// near, even below, if at no router on its way a rise of the feasible distance, for the prefix by which it
+/// came, is both begun and published or met while it is there. And then each hop by one prefix brings it nearer.
 pub fn comes_back()
     ensures better { HoldsAfterEveryRun ComesBackForBetter }
     ensures published { HoldsAfterEveryRun ComesBackOncePublished }
@@ -64,8 +69,8 @@ pub fn hops_end()
     ensures end { HoldsInEveryWorld HopsEnd }
 {}
 
-/// Some packet stays near, and comes back for a better way. Some packet does not stay near, and comes back
-/// to a router that has no better way.
+/// Some packet stays near, and comes back for a better way, by a row that is yet to be published. Some packet
+/// does not stay near, and comes back to a router that has no better way.
 pub fn some_packets()
     ensures better { SomeComesBackForBetter }
     ensures rise { SomeComesBackAfterRise }
