@@ -39,9 +39,9 @@ enum {
 
 enum peer_state { PEER_IDLE, PEER_CONNECTING, PEER_GREETING, PEER_UP };
 
-/* How a session ends: by what fails on the way, by a neighbour that breaks the protocol or owes a reply for too long,
- * or by the operator. */
-enum ending { BY_LINK, BY_FAULT, BY_DEBT, BY_OPERATOR };
+/* How a session ends: by what fails on the way, by a neighbour that says or reads nothing, that breaks the protocol or owes a
+ * reply for too long, or by the operator. */
+enum ending { BY_LINK, BY_SILENCE, BY_FAULT, BY_DEBT, BY_OPERATOR };
 
 /* What an end said when a connection began: its hello, and the terms behind it (version FIRST_VERSION: there were none). */
 struct greeting {
@@ -73,8 +73,9 @@ struct peer_counters {
  * route. `marked`: it had a session, so rows of it may lead here until it says hello again. `removed`: it is no
  * neighbour any more, and its filter goes once it is not marked: at `cleared`. Then its port goes once it is `told`, so that
  * it need not ask when our line goes there. `parted`: it was told so over `fd`. `greeted`: its hello has come over `fd`, and
- * was answered. `waits_until`: after faults, no session before. `alive_ms`: between signs of life, which may be less than
- * ours for its sake. `crowded`: there was a line of prefixes that were left. `former`: the secret before the one of the
+ * was answered. `waits_until`: after faults, no session before; `rests_until`: nor before that, after several that
+ * ended soon. `alive_ms`: between signs of life, which may be less than ours for its sake. `said`: when something was last given to
+ * the socket, or it was full. `crowded`: there was a line of prefixes that were left. `former`: the secret before the one of the
  * configuration, as long as the other end may have no other. `signs_as_before`: `fd` signs by it; then the end that connects finds
  * out by the connection `asking`, begun at `asked`, whether the other end has the new one. `late`: an attempt to connect that goes
  * on beside later ones while there is no hello, begun at `late_since` and signed as before if `late_signs_as_before`. Of one that is
@@ -88,10 +89,10 @@ struct peer {
     int fd, asking, late;
     uint16_t last;
     unsigned char link_address[LINK_ADDRESS];
-    unsigned index, attempts, faults, shorts, complaints;
+    unsigned index, attempts, faults, shorts, silences, complaints;
     uint32_t reported; /* prefixes of which it told a finite distance last */
     uint32_t alive_ms;
-    int64_t heard, said, drained, begun, next_try, waits_until, complained, announced, over, cleared, asked, late_since;
+    int64_t heard, said, drained, begun, next_try, waits_until, rests_until, complained, announced, over, cleared, asked, late_since;
     int64_t carrier_losses; /* of its interface, before this end said hello over `fd`; -1: they are not counted */
     struct greeting greeting;
     const char *why, *tried; /* the last session ended; the last attempt did */
@@ -212,7 +213,7 @@ struct daemon {
     bool blocked, drains, install_asked; /* by the command line */
     struct tuhvondi_attachment found[MOST_FOUND]; /* what is attached because the host has it, in the order of prefixes */
     size_t found_count;
-    int64_t next_forget, next_found, accepts_at, blocked_at;
+    int64_t next_forget, next_found, accepts_at, blocked_at, kept_alive;
     uint64_t strangers; /* connections from addresses of no neighbour */
 };
 
@@ -308,7 +309,7 @@ void sessions_flush(struct daemon *daemon, struct peer *peer);
 /* How many messages more the queue of each neighbour takes. */
 size_t sessions_room(struct daemon *daemon);
 void sessions_tick(struct daemon *daemon, int64_t now);
-/* Says the signs of life that are due, between parts of a long publication. */
+/* Says the signs of life that are due, where a turn may be long. No session ends by it. */
 void sessions_keep_alive(struct daemon *daemon);
 /* All rows in force are of present sessions: what was stale is not any more. */
 void sessions_rows_are_new(struct daemon *daemon);

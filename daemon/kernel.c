@@ -555,6 +555,7 @@ bool kernel_set_rows(struct daemon *daemon, const struct tuhvondi_row *rows, siz
         return true;
     for (size_t at = 0; at < count; at += BATCH) {
         size_t part = count - at < BATCH ? count - at : BATCH;
+        sessions_keep_alive(daemon);
         if (!set_behind(daemon, rows + at, part))
             return false;
         bool done = set_via(daemon, rows + at, part);
@@ -962,6 +963,7 @@ static bool put_right(struct daemon *daemon, struct noted *noted, unsigned *diff
     noted->via = noted->found_via;
     noted->foreign = noted->differs = false;
     bool done = repair(daemon, addr, len);
+    sessions_keep_alive(daemon);
     noted = prefixes_find(&daemon->prefixes, addr, len);
     *differed += lost_other || (lost_via && noted && noted->via);
     return done;

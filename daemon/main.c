@@ -120,8 +120,10 @@ static void take(struct daemon *daemon, const struct polled *polled)
         struct peer *peer = polled->peers[i];
         const struct pollfd *at = &polled->polls[i];
         bool pending = peer && peer->in_count - peer->in_from >= FRAME_SIZE;
-        if (peer && peer->fd == at->fd && !daemon->blocked && (pending || (at->revents & ~POLLOUT)))
+        if (peer && peer->fd == at->fd && !daemon->blocked && (pending || (at->revents & ~POLLOUT))) {
             sessions_read(daemon, peer, false);
+            sessions_keep_alive(daemon);
+        }
         if (peer && peer->fd == at->fd && peer->state == PEER_CONNECTING && (at->revents & POLLOUT))
             sessions_read(daemon, peer, true);
     }
@@ -138,8 +140,10 @@ static void serve(struct daemon *daemon, const struct polled *polled)
 {
     for (nfds_t i = 0; i < polled->count; i++) {
         struct client *client = polled->clients[i];
-        if (client && client->used && client->fd == polled->polls[i].fd && polled->polls[i].revents)
+        if (client && client->used && client->fd == polled->polls[i].fd && polled->polls[i].revents) {
             control_serve(daemon, client, polled->polls[i].revents);
+            sessions_keep_alive(daemon);
+        }
     }
     if (is_awake(polled, CONTROL))
         control_accept(daemon, daemon->control, false);

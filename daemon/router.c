@@ -45,6 +45,7 @@ enum {
     LATE_LINES = 5,   /* at a look */
     MOST_COST = 65535,
     FORGETTING_MS = 20, /* at a turn */
+    MUCH = 8192,        /* bytes for a neighbour, which leave at once */
 };
 
 /* A question has left. It tells that a computation is under way, and whose reply it awaits, so the router need not be asked for
@@ -141,9 +142,12 @@ void router_tick(struct daemon *daemon, int64_t now)
     if (daemon->blocked || daemon->router.active == 0 || now < daemon->router.next_look)
         return;
     daemon->router.next_look = now + (LOOK_MS < daemon->config.active_ms / 4 ? LOOK_MS : daemon->config.active_ms / 4);
-    for (size_t i = 0; i < daemon->prefixes.size; i++)
-        if (daemon->prefixes.slots[i].active_since)
-            late |= look_at(daemon, &daemon->prefixes.slots[i], now, &lines);
+    for (size_t i = 0; i < daemon->prefixes.size; i++) {
+        if (!daemon->prefixes.slots[i].active_since)
+            continue;
+        late |= look_at(daemon, &daemon->prefixes.slots[i], now, &lines);
+        sessions_keep_alive(daemon);
+    }
     for (size_t port = 0; port < port_count(daemon); port++)
         if (late >> port & 1 && daemon->peers[port].state == PEER_UP) {
             daemon->router.late++;
@@ -418,7 +422,8 @@ bool router_forward(struct daemon *daemon)
 
 /* Puts what may leave on the links; what is of a session that has ended is dropped. What a queue does not take now stays with
  * the router, and all behind it, because the order is part of the protocol. To whom the next message goes is known only when it
- * is taken, so there has to be room with each neighbour. */
+ * is taken, so there has to be room with each neighbour. What is much leaves at once, and neighbours begin with that while the
+ * rest is taken. */
 static void release(struct daemon *daemon)
 {
     struct tuhvondi_message message;
@@ -435,6 +440,12 @@ static void release(struct daemon *daemon)
         if (message.kind == TUHVONDI_QUERY)
             asked = note_asked(daemon, &message, asked);
         peer_put(daemon, peer, &frame);
+        if (peer->out_count % MUCH < FRAME_SIZE) {
+            sessions_flush(daemon, peer);
+            sessions_keep_alive(daemon);
+            /* If a session ended by that, what is noted has moved. */
+            asked = NULL;
+        }
     }
 }
 

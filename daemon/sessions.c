@@ -8,6 +8,7 @@
 #include <stddef.h>
 #include <string.h>
 #include <sys/ioctl.h>
+#include <sys/random.h>
 #include <sys/socket.h>
 #include <unistd.h>
 
@@ -22,11 +23,12 @@ enum {
     FAULT_MS = 250,      /* without a session after a neighbour's fault, at first; it doubles */
     DEBT_MS = 2000,      /* after it owed a reply for too long */
     FAULT_DOUBLINGS = 8, /* so up to 64 seconds, or 512 */
-    CALM_MS = 30000,     /* a session that lasts longer has a fault count as the first again */
+    CALM_MS = 30000,     /* a session that lasts longer has a fault, or silence, count as the first again */
     BRIEF_MS = 1000,     /* and one that lasts longer has an attempt to connect do so */
     SHORT_MS = 5000,     /* one that is shorter counts as short */
     SHORTS = 8,          /* short ones that may come in a row; after more the wait doubles */
-    SHORT_DOUBLINGS = 5, /* so up to eight seconds */
+    SILENCES = 2,        /* and such that end by silence */
+    REST_DOUBLINGS = 6,  /* so up to 16 seconds */
     ACCEPTS = 16,        /* connections that are taken at a turn */
     IDLE_MS = 1000,      /* that the loop waits at most */
     SOON_MS = 50,        /* until what could not be done is tried again */
@@ -88,14 +90,30 @@ static void tell_down(struct daemon *daemon, struct peer *peer)
                     || router_link_down(daemon, peer) == TUHVONDI_NO_MEMORY;
 }
 
-/* Sessions that end soon, one after another, use up numbers too: how long to wait after one. */
-static int64_t wait_after_short(struct peer *peer, int64_t lasted)
+static int64_t later(int64_t one, int64_t other)
+{
+    return one > other ? one : other;
+}
+
+/* Up to half of it is drawn away, so that those who stopped together do not go on together. */
+static int64_t drawn(int64_t rest)
+{
+    uint32_t bits = 0;
+    if (getrandom(&bits, sizeof bits, GRND_NONBLOCK) != sizeof bits)
+        bits = 0;
+    return rest - (rest / 2 * bits >> 32);
+}
+
+/* Sessions that end soon, one after another, use up numbers too: how long to wait after one. Whoever has more to do than it can is
+ * silent, and gets yet more to do by the next session, in which each end tells all; so there the wait begins sooner. */
+static int64_t rest_after(struct peer *peer, int64_t lasted, enum ending ending)
 {
     peer->shorts = lasted > SHORT_MS ? 0 : peer->shorts + 1;
-    if (peer->shorts <= SHORTS)
-        return 0;
-    unsigned doublings = peer->shorts - SHORTS;
-    return (int64_t)RETRY_MS << (doublings < SHORT_DOUBLINGS ? doublings : SHORT_DOUBLINGS);
+    peer->silences = lasted > CALM_MS ? 0 : peer->silences + (ending == BY_SILENCE);
+    unsigned doublings = peer->shorts > SHORTS ? peer->shorts - SHORTS : 0;
+    if (ending == BY_SILENCE && peer->silences > SILENCES + doublings)
+        doublings = peer->silences - SILENCES;
+    return doublings ? drawn((int64_t)RETRY_MS << (doublings < REST_DOUBLINGS ? doublings : REST_DOUBLINGS)) : 0;
 }
 
 /* The next attempt waits a moment, and longer each time. After a fault of the neighbour no session begins for a
@@ -108,7 +126,7 @@ static void back_off(struct peer *peer, enum ending ending)
     if (peer->begun && now - peer->begun > BRIEF_MS)
         peer->attempts = 0;
     if (peer->begun)
-        peer->waits_until = now + wait_after_short(peer, now - peer->begun);
+        peer->rests_until = now + rest_after(peer, now - peer->begun, ending);
     if (ending == BY_FAULT || ending == BY_DEBT) {
         peer->waits_until = now + ((int64_t)(ending == BY_DEBT ? DEBT_MS : FAULT_MS) << peer->faults);
         peer->faults += peer->faults < FAULT_DOUBLINGS;
@@ -118,10 +136,12 @@ static void back_off(struct peer *peer, enum ending ending)
     peer->begun = 0;
 }
 
+/* What is waited for after faults stays. */
 void peer_wake(struct peer *peer)
 {
-    peer->attempts = peer->shorts = 0;
+    peer->attempts = peer->shorts = peer->silences = 0;
     peer->next_try = now_ms();
+    peer->rests_until = 0;
 }
 
 static void forget_former(struct peer *peer)
@@ -167,8 +187,11 @@ void peer_hang_up(struct daemon *daemon, struct peer *peer, enum ending ending, 
         back_off(peer, ending);
     }
     be_idle(peer);
-    if (was_up)
-        control_tell_peer(daemon, peer, "down");
+    if (!was_up)
+        return;
+    control_tell_peer(daemon, peer, "down");
+    /* To tell the router takes a while if it knows many prefixes, and many sessions may end at once. */
+    sessions_keep_alive(daemon);
 }
 
 /* ---- connections that are left */
@@ -235,13 +258,19 @@ static bool is_doubtful(struct daemon *daemon, const struct peer *peer, bool con
     return false;
 }
 
+/* When a session may begin, as far as time goes. */
+static int64_t begins_at(const struct peer *peer)
+{
+    return later(peer->next_try, later(peer->waits_until, peer->rests_until));
+}
+
 /* Whether a new session may come: the last one is over, and no row by it forwards. Then a hello may be said, also to
  * one that is no neighbour any more, to hear the same of its rows. */
 static bool may_begin(struct daemon *daemon, const struct peer *peer, bool connects)
 {
     return peer->used && peer->config.address.s_addr && !peer->shut && !peer->leaving && !peer->stale && !daemon->blocked
-           && (!daemon->kernel.installs || peer->index) && now_ms() >= peer->waits_until
-           && now_ms() >= peer->next_try && !is_doubtful(daemon, peer, connects);
+           && (!daemon->kernel.installs || peer->index) && now_ms() >= begins_at(peer)
+           && !is_doubtful(daemon, peer, connects);
 }
 
 void sessions_rows_are_new(struct daemon *daemon)
@@ -264,29 +293,35 @@ void peer_put(struct daemon *daemon, struct peer *peer, const struct frame *fram
         peer->out_from = 0;
     }
     if (peer->out_count + FRAME_SIZE > QUEUE) {
-        peer_hang_up(daemon, peer, BY_LINK, "it does not read");
+        peer_hang_up(daemon, peer, BY_SILENCE, "it does not read");
         return;
     }
     frame_write(frame, peer->out + peer->out_from + peer->out_count);
-    peer->said = now_ms();
     if (peer->out_count == 0)
-        peer->drained = peer->said;
+        peer->drained = now_ms();
     peer->out_count += FRAME_SIZE;
 }
 
-/* Writes what waits, as far as the neighbour takes it. */
-void sessions_flush(struct daemon *daemon, struct peer *peer)
+/* Writes what waits, as far as the neighbour takes it: whether the connection stands. */
+static bool write_out(struct peer *peer)
 {
     if (peer->fd < 0 || peer->state == PEER_CONNECTING || peer->out_count == 0)
-        return;
+        return true;
     ssize_t sent = send(peer->fd, peer->out + peer->out_from, peer->out_count, MSG_NOSIGNAL | MSG_DONTWAIT);
+    bool stands = sent > 0 || errno == EAGAIN || errno == EINTR;
+    peer->said = now_ms();
     if (sent > 0) {
-        peer->drained = now_ms();
+        peer->drained = peer->said;
         peer->out_count -= (size_t)sent;
         peer->out_from = peer->out_count ? peer->out_from + (size_t)sent : 0;
-    } else if (errno != EAGAIN && errno != EINTR) {
-        peer_hang_up(daemon, peer, BY_LINK, "the connection is lost");
     }
+    return stands;
+}
+
+void sessions_flush(struct daemon *daemon, struct peer *peer)
+{
+    if (!write_out(peer))
+        peer_hang_up(daemon, peer, BY_LINK, "the connection is lost");
 }
 
 static bool is_crowded(const struct peer *peer)
@@ -471,6 +506,7 @@ static void begin_session(struct daemon *daemon, struct peer *peer)
         peer_hang_up(daemon, peer, BY_LINK, "what comes in from it is still dropped");
     else
         peer_put(daemon, peer, &alive);
+    sessions_keep_alive(daemon);
 }
 
 /* Hellos go there and back over links that may be long, whatever is agreed on for the session. */
@@ -1048,6 +1084,15 @@ static void miss(struct peer *peer, int64_t now)
             peer->config.secret[0] ? "; its secret may be another" : "");
 }
 
+/* Whether it was silent for so long that its session is over. What lies in its socket is yet to be read, if this daemon itself stood
+ * still when it came. */
+static bool is_silent(const struct daemon *daemon, const struct peer *peer, int64_t now)
+{
+    bool has_frame = peer->in_count - peer->in_from >= FRAME_SIZE;
+    int unread = 0;
+    return now - peer->heard > patience(daemon, peer) && (has_frame || ioctl(peer->fd, FIONREAD, &unread) || unread == 0);
+}
+
 static void tick_peer(struct daemon *daemon, struct peer *peer, int64_t now)
 {
     struct frame alive = {.type = FRAME_ALIVE};
@@ -1059,15 +1104,15 @@ static void tick_peer(struct daemon *daemon, struct peer *peer, int64_t now)
     if (peer->state == PEER_CONNECTING && !daemon->blocked && now - peer->heard > CONNECT_MS)
         set_aside(peer);
     look_at_late(daemon, peer, now);
-    if (peer->state != PEER_IDLE && !daemon->blocked && now - peer->heard > patience(daemon, peer))
-        peer_hang_up(daemon, peer, BY_LINK, "it is silent");
+    if (peer->state != PEER_IDLE && !daemon->blocked && is_silent(daemon, peer, now))
+        peer_hang_up(daemon, peer, BY_SILENCE, "it is silent");
     if (is_crowded(peer) && now - peer->drained > (int64_t)daemon->config.dead_ms)
-        peer_hang_up(daemon, peer, BY_LINK, "it does not read");
+        peer_hang_up(daemon, peer, BY_SILENCE, "it does not read");
     tick_candidates(daemon, peer, now);
     bool connects = !peer->config.passive || (peer->removed && now - peer->heard > PARTING_MS);
     if (peer->state == PEER_IDLE && connects && may_begin(daemon, peer, true))
         try_to_connect(daemon, peer);
-    if (peer->state == PEER_UP && now - peer->said >= (int64_t)peer->alive_ms)
+    if (peer->state == PEER_UP && peer->out_count == 0 && now - peer->said >= (int64_t)peer->alive_ms)
         peer_put(daemon, peer, &alive);
     if (peer->state == PEER_UP && peer->signs_as_before && !peer->config.passive && !daemon->blocked)
         ask_for_secret(daemon, peer, now);
@@ -1075,17 +1120,22 @@ static void tick_peer(struct daemon *daemon, struct peer *peer, int64_t now)
         release(daemon, peer, now);
 }
 
-/* To set or to read many routes takes longer than neighbours may wait, or a service manager. */
+/* A turn may take longer than neighbours wait, or a service manager. That a connection is lost is found at the end of the turn: who
+ * asks for this may be in the middle of something that an end of a session would change. */
 void sessions_keep_alive(struct daemon *daemon)
 {
     const struct frame alive = {.type = FRAME_ALIVE};
     int64_t now = now_ms();
+    if (now == daemon->kept_alive)
+        return;
+    daemon->kept_alive = now;
     service_watch(now);
     for (struct peer *peer = daemon->peers; peer < peers_end(daemon); peer++) {
         if (!peer->used || peer->state != PEER_UP || now - peer->said < (int64_t)peer->alive_ms)
             continue;
-        peer_put(daemon, peer, &alive);
-        sessions_flush(daemon, peer);
+        if (peer->out_count == 0)
+            peer_put(daemon, peer, &alive);
+        write_out(peer);
     }
 }
 
@@ -1117,7 +1167,7 @@ static int64_t earlier(int64_t one, int64_t other)
  * for a while waits for something else than time. */
 static int64_t deadline_of(const struct daemon *daemon, const struct peer *peer, int64_t now)
 {
-    int64_t next = now + IDLE_MS, begins = peer->next_try > peer->waits_until ? peer->next_try : peer->waits_until;
+    int64_t next = now + IDLE_MS, begins = begins_at(peer);
     if (peer->leaving || peer->stale || peer->lost || (peer->removed && !peer->marked))
         next = now + SOON_MS;
     if (peer->state != PEER_IDLE)
@@ -1236,6 +1286,7 @@ const char *peer_add(struct daemon *daemon, const struct neighbour *neighbour)
 void peer_remove(struct daemon *daemon, struct peer *peer)
 {
     drop_connections(daemon, peer, "it is no neighbour any more");
+    peer->rests_until = 0;
     peer->removed = true;
     peer->told = !peer->marked;
     peer->shut = false;
@@ -1330,7 +1381,8 @@ bool peer_give(struct daemon *daemon, struct peer *peer, struct in_addr address)
     name_peer(peer);
     peer->config.passive = false;
     peer->counters = (struct peer_counters){0};
-    peer->attempts = peer->faults = peer->shorts = 0;
+    peer->attempts = peer->faults = peer->shorts = peer->silences = 0;
+    peer->rests_until = 0;
     peer->stale = true;
     peer->over = now_ms();
     return done;

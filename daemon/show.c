@@ -278,8 +278,9 @@ static void show_neighbour(struct text *out, const struct peer *peer, int64_t no
         text_put(out, ", %s%s", peer->interface, peer->filtered ? " (filtered)" : "");
     if (peer->counters.left)
         text_put(out, ", %" PRIu64 " reports left", peer->counters.left);
-    if (now < peer->waits_until)
-        text_put(out, ", waits %" PRId64 " s", (peer->waits_until - now + 999) / 1000);
+    int64_t until = peer->waits_until > peer->rests_until ? peer->waits_until : peer->rests_until;
+    if (now < until)
+        text_put(out, ", waits %" PRId64 " s", (until - now + 999) / 1000);
     if (peer->former[0])
         text_put(out, ", its former secret serves still");
     if (peer->config.interface[0] && is_somebody(peer))

@@ -181,9 +181,11 @@ class Dualnetd(Daemons):
     def refusal(self, router: int) -> Path:
         return self.folder / f"r{router}.refuses"
 
-    def refuse(self, router: int) -> None:
-        """The kernel of the router takes no routes from now on."""
-        self.refusal(router).touch()
+    def refuse(self, router: int, instead: str = "") -> None:
+        """The kernel of the router takes no routes from now on, or `instead` what trials/block.c says."""
+        whole = self.refusal(router).with_suffix(".new")
+        whole.write_text(instead, encoding="utf-8")
+        whole.replace(self.refusal(router))
 
     def accept(self, router: int) -> None:
         self.refusal(router).unlink()
