@@ -211,8 +211,8 @@ bool netlink_read_link(const struct nlmsghdr *message, struct kernel_link *link)
     if (!is_link || !read_body(message, &body, sizeof body) || body.ifi_family != AF_UNSPEC)
         return false;
     bool gone = message->nlmsg_type == RTM_DELLINK;
-    *link = (struct kernel_link){.index = (unsigned)body.ifi_index, .gone = gone,
-                                 .works = !gone && (body.ifi_flags & IFF_UP) && (body.ifi_flags & IFF_RUNNING)};
+    bool up = !gone && (body.ifi_flags & IFF_UP), runs = body.ifi_flags & IFF_RUNNING;
+    *link = (struct kernel_link){.index = (unsigned)body.ifi_index, .gone = gone, .works = up && runs, .lost_carrier = up && !runs};
     each_attribute(message, sizeof body, link, take_of_link);
     return true;
 }

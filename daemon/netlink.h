@@ -36,7 +36,7 @@ struct kernel_rule {
 
 struct kernel_link {
     unsigned index;
-    bool works, gone; /* up, and with a carrier; removed */
+    bool works, lost_carrier, gone; /* up, and with a carrier; up, and without one; removed */
     char name[IF_NAMESIZE];
 };
 

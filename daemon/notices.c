@@ -22,6 +22,7 @@ static void link_changed(struct daemon *daemon, const struct kernel_link *link)
         if (!link->gone && link->name[0] && strcmp(link->name, peer->interface) != 0) {
             say(LOG_NOTICE, "%s: its interface %s is now %s", peer->name, peer->interface, link->name);
             memcpy(peer->interface, link->name, sizeof peer->interface);
+            daemon->kernel.check_due = true;
             daemon->marks.due |= peer->marked;
             peer_hang_up(daemon, peer, BY_LINK, "its interface has another name");
             if (peer->filtered)
@@ -62,7 +63,8 @@ void kernel_find_interfaces(struct daemon *daemon)
     }
 }
 
-/* Takes each change, and not only how interfaces are now. If some were lost, each may have been down. */
+/* Takes each change, and not only how interfaces are now. If some were lost, each may have been down. An interface that has lost
+ * its carrier alone keeps its routes, so the kernel need not be looked at for that before neighbours are told. */
 void kernel_read_links(struct daemon *daemon)
 {
     _Alignas(struct nlmsghdr) static unsigned char room[ROOM];
@@ -72,14 +74,15 @@ void kernel_read_links(struct daemon *daemon)
             return;
         size_t size = got > 0 ? (size_t)got : 0, place = 0;
         bool moved = got < 0;
-        daemon->kernel.check_due = true;
+        daemon->kernel.check_due |= moved;
         for (struct peer *peer = daemon->peers; got < 0 && peer < peers_end(daemon); peer++)
             if (peer->used && peer->state != PEER_IDLE)
                 peer_hang_up(daemon, peer, BY_LINK, "notices of its interface were lost");
         for (const struct nlmsghdr *at; (at = netlink_next(room, size, &place));) {
-            struct kernel_link link;
+            struct kernel_link link = {0};
             if (netlink_read_link(at, &link))
                 link_changed(daemon, &link);
+            daemon->kernel.check_due |= !link.lost_carrier;
             moved |= netlink_is_address(at);
         }
         if (moved) {
