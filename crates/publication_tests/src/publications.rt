@@ -65,6 +65,20 @@ const NOTHING: Answer = Answer {
     matched: None,
 };
 
+// Publishes three patches of one row, where nothing waits.
+fn publish_three<B: FabricName, R: Wait + Abort>(
+    rt: &R,
+    alloc: Global,
+    writer: &mut ImageWriter<B>,
+) -> Told<B>
+    requires { writer.old.waiting ≡ [] }
+    ensures { result.router ≡ writer.old.published.router }
+{
+    set(rt, alloc, writer, &[(ten(), via(0))]).expect(rt, "memory");
+    set(rt, alloc, writer, &[(ten(), via(1))]).expect(rt, "memory");
+    set(rt, alloc, writer, &[(ten(), Entry::Unreachable)]).expect(rt, "memory")
+}
+
 fn three_patches<B: FabricName, R: Wait + Abort>(
     rt: &R,
     alloc: Global,
@@ -75,9 +89,7 @@ fn three_patches<B: FabricName, R: Wait + Abort>(
     requires router { reader.old.router ≡ writer.old.published.router }
 {
     equal(rt, reader.lookup(ADDR), Ok(NOTHING));
-    set(rt, alloc, writer, &[(ten(), via(0))]).expect(rt, "memory");
-    set(rt, alloc, writer, &[(ten(), via(1))]).expect(rt, "memory");
-    let told = set(rt, alloc, writer, &[(ten(), Entry::Unreachable)]).expect(rt, "memory");
+    let told = publish_three(rt, alloc, writer);
     reader.learn(&told);
     assert!(rt; reader.is_at(&told));
     equal(rt, reader.lookup(ADDR), found(3, ten(), Entry::Unreachable));

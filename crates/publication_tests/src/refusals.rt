@@ -294,8 +294,62 @@ where
     equal(rt, gate.answered.load(Ordering::SeqCst), 6);
 }
 
+// A queue of six jobs, a stop message for each of two takers, and one more job: its takers.
+fn takers_of_six<'h, B, R>(
+    rt: &R,
+    memory: &'h Refusing<Global>,
+    told: &Told<B>,
+) -> Vec<Taker<B, &'h Refusing<Global>>, &'h Refusing<Global>>
+where
+    B: FabricName,
+    R: Wait + Abort,
+{
+    let (mut injector, takers) = PacketQueue::new::<B, _>(memory, 2).expect(rt, "memory");
+    put(rt, &mut injector, told, 6);
+    assert!(rt; injector.stop(rt));
+    put(rt, &mut injector, told, 1);
+    takers
+}
+
+// The seats of two workers.
+fn seated<'h, B: FabricName>(
+    rt: &impl Abort,
+    alloc: Global,
+    first: ForwardPort<B, &'h Refusing<Global>>,
+    second: ForwardPort<B, &'h Refusing<Global>>,
+    mut takers: Vec<Taker<B, &'h Refusing<Global>>, &'h Refusing<Global>>,
+) -> Vec<Seat<'h, B>> {
+    let mut seats = Vec::new(alloc);
+    for port in [first, second] {
+        let taker = takers.pop().expect(rt, "taker");
+        let seat = Seat {
+            has: Some((port, taker)),
+            end: Ok(0),
+        };
+        assert!(rt; seats.push(seat).is_ok());
+    }
+    seats
+}
+
+// One worker has one reply and the other five, or want of memory in their place. Where one allocation alone is
+// refused, one of them has its replies.
+fn are_ends(
+    rt: &impl Abort,
+    one: Result<usize, Refusal>,
+    other: Result<usize, Refusal>,
+    refused: Refused,
+) {
+    for end in [one, other] {
+        assert!(rt; end == Ok(1) || end == Ok(5) || end == Err(Refusal::NoMemory));
+    }
+    assert!(rt; one != other || one.is_err());
+    if let Refused::One(_) = refused {
+        assert!(rt; one.is_ok() || other.is_ok());
+    }
+}
+
 // Whether one of two workers has its list of replies refused. Both go on to their stop messages, behind
-// which there is one more job. Where one allocation alone is refused, the other has its replies.
+// which there is one more job.
 fn are_replies_refused<'h, B, R>(
     rt: &'h R,
     alloc: Global,
@@ -314,35 +368,16 @@ where
     requires second { second.router ≡ 0 }
 {
     let (first, second) = (port_of(rt, memory, first), port_of(rt, memory, second));
-    let (mut injector, mut takers) = PacketQueue::new::<B, _>(memory, 2).expect(rt, "memory");
-    put(rt, &mut injector, told, 6);
-    assert!(rt; injector.stop(rt));
-    put(rt, &mut injector, told, 1);
-    drop(injector);
-    let mut seats = Vec::new(alloc);
-    for port in [first, second] {
-        let taker = takers.pop().expect(rt, "taker");
-        let seat = Seat {
-            has: Some((port, taker)),
-            end: Ok(0),
-        };
-        assert!(rt; seats.push(seat).is_ok());
-    }
+    let takers = takers_of_six(rt, memory, told);
+    let mut seats = seated(rt, alloc, first, second, takers);
     memory.refuse(refused);
     work_beside(rt, memory, gate, &mut seats);
     let other = seats.pop().expect(rt, "seat").end;
     let one = seats.pop().expect(rt, "seat").end;
-    let was_met = memory
+    are_ends(rt, one, other, refused);
+    memory
         .was_met(one.is_err() || other.is_err())
-        .expect(rt, "refusal");
-    for end in [one, other] {
-        assert!(rt; end == Ok(1) || end == Ok(5) || end == Err(Refusal::NoMemory));
-    }
-    assert!(rt; one != other || one.is_err());
-    if let Refused::One(_) = refused {
-        assert!(rt; one.is_ok() || other.is_ok());
-    }
-    was_met
+        .expect(rt, "refusal")
 }
 
 // Whether a queue for two workers meets a refusal of these.
