@@ -294,12 +294,17 @@ static bool send_batch(struct daemon *daemon, struct tables *tables, uint32_t la
     }
 }
 
+static void name_table(const struct daemon *daemon, const char *end_of_name, char name[NAME_ROOM])
+{
+    snprintf(name, NAME_ROOM, "dualnetd%u%s", (unsigned)daemon->config.protocol, end_of_name);
+}
+
 static bool write_table(struct daemon *daemon, const char *end_of_name)
 {
     static struct tables tables;
     tables.size = 0;
     tables.number = daemon->kernel.table_number;
-    snprintf(tables.name, sizeof tables.name, "dualnetd%u%s", (unsigned)daemon->config.protocol, end_of_name);
+    name_table(daemon, end_of_name, tables.name);
     end_message(&tables, begin_message(&tables, NFNL_MSG_BATCH_BEGIN, 0, AF_UNSPEC, NFNL_SUBSYS_NFTABLES));
     put_table(&tables, NFT_MSG_NEWTABLE, NLM_F_CREATE);
     put_table(&tables, NFT_MSG_DELTABLE, 0);
@@ -361,11 +366,14 @@ void sharing_close(struct daemon *daemon)
     daemon->kernel.tables = daemon->kernel.table_notices = -1;
 }
 
-/* Whoever loads a firewall anew takes all tables away. Ours is written again at once. */
+/* Whoever loads a firewall anew takes all tables away. Ours is written again at once; for other tables it is not, or two daemons
+ * would do so for each other without end. */
 void sharing_read(struct daemon *daemon)
 {
     _Alignas(struct nlmsghdr) static unsigned char bytes[1 << 16];
     bool changed = false;
+    char own[NAME_ROOM];
+    name_table(daemon, "", own);
     for (int i = 0; i < NOTICES; i++) {
         ssize_t got = recv(daemon->kernel.table_notices, bytes, sizeof bytes, 0);
         if (got <= 0 && errno != ENOBUFS)
@@ -375,7 +383,8 @@ void sharing_read(struct daemon *daemon)
         for (const struct nlmsghdr *at; (at = netlink_next(bytes, size, &place));) {
             uint16_t kind = at->nlmsg_type & 0xff;
             bool is_end = kind == NFT_MSG_DELTABLE || kind == NFT_MSG_DELCHAIN || kind == NFT_MSG_DELRULE;
-            changed = changed || (is_end && at->nlmsg_pid != daemon->kernel.table_port);
+            changed = changed || (is_end && at->nlmsg_pid != daemon->kernel.table_port
+                                  && memmem(at, at->nlmsg_len, own, strlen(own) + 1));
         }
     }
     if (changed)
