@@ -10,6 +10,7 @@
 #include "text.h"
 #include "tuhvondi_router.h"
 
+#include <ifaddrs.h>
 #include <net/if.h>
 #include <netinet/in.h>
 #include <sys/stat.h>
@@ -347,8 +348,9 @@ extern const char *const kernel_no_interface;
 const char *kernel_find_interface(struct daemon *daemon, struct peer *peer);
 /* Finds those of neighbours whose interface is not known yet. */
 void kernel_find_interfaces(struct daemon *daemon);
-/* Whether the neighbour's subnet is at another interface now, and no more at the one by which it is reached. */
-bool kernel_has_moved(const struct daemon *daemon, const struct peer *peer);
+/* Whether, by the addresses of this host, the neighbour's subnet is at another interface now, and no more at the one by which it is
+ * reached. */
+bool kernel_has_moved(const struct daemon *daemon, const struct peer *peer, const struct ifaddrs *list);
 bool kernel_filter(struct daemon *daemon, struct peer *peer, bool drops);
 /* Has the kernel keep in mind that the neighbour had a session, also when this process is gone, or forget it. */
 bool kernel_mark(struct daemon *daemon, struct peer *peer, bool stands);

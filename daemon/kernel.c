@@ -189,11 +189,10 @@ static unsigned find_interface(struct in_addr neighbour, char name[IF_NAMESIZE])
     return index && if_indextoname(index, name) ? index : 0;
 }
 
-bool kernel_has_moved(const struct daemon *daemon, const struct peer *peer)
+bool kernel_has_moved(const struct daemon *daemon, const struct peer *peer, const struct ifaddrs *list)
 {
-    struct ifaddrs *list;
     bool is_here = false, is_there = false;
-    if (!daemon->kernel.installs || !peer->index || peer->removed || peer->config.interface[0] || getifaddrs(&list))
+    if (!daemon->kernel.installs || !peer->index || peer->removed || peer->config.interface[0])
         return false;
     for (const struct ifaddrs *at = list; at; at = at->ifa_next) {
         if (!is_beside(at, peer->config.address))
@@ -203,7 +202,6 @@ bool kernel_has_moved(const struct daemon *daemon, const struct peer *peer)
         else
             is_there = true;
     }
-    freeifaddrs(list);
     return is_there && !is_here;
 }
 

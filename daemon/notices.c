@@ -12,13 +12,15 @@ enum {
     TAKEN = 256, /* pieces of notices that are read at a turn: others may change routes without end */
 };
 
-/* An interface of a neighbour changed. If it went down, packets and routes were lost, also if that was only for a
- * moment. The kernel's filter goes by the name, so a new name gets a filter of its own; the old one is left over. */
+/* If an interface of a neighbour went down, packets and routes were lost, also if that was only for a moment. The kernel's filter
+ * goes by the name, so a new name gets a filter of its own; the old one is left over. One that has lost its carrier alone keeps its
+ * routes, so the kernel need not be looked at for that before neighbours are told; nor for interfaces by which no row leads. */
 static void link_changed(struct daemon *daemon, const struct kernel_link *link)
 {
     for (struct peer *peer = daemon->peers; peer < peers_end(daemon); peer++) {
         if (!peer->used || !peer->index || peer->index != link->index)
             continue;
+        daemon->kernel.check_due |= !link->lost_carrier;
         if (!link->gone && link->name[0] && strcmp(link->name, peer->interface) != 0) {
             say(LOG_NOTICE, "%s: its interface %s is now %s", peer->name, peer->interface, link->name);
             memcpy(peer->interface, link->name, sizeof peer->interface);
@@ -40,13 +42,17 @@ static void link_changed(struct daemon *daemon, const struct kernel_link *link)
 /* An address of this host may stand at another interface now. What comes in by the old one is dropped as before. */
 static void leave_interfaces(struct daemon *daemon)
 {
+    struct ifaddrs *list;
+    if (getifaddrs(&list))
+        return;
     for (struct peer *peer = daemon->peers; peer < peers_end(daemon); peer++) {
-        if (!peer->used || !kernel_has_moved(daemon, peer))
+        if (!peer->used || !kernel_has_moved(daemon, peer, list))
             continue;
         peer_hang_up(daemon, peer, BY_LINK, "its subnet is at another interface now");
         peer->index = 0;
         peer_wake(peer);
     }
+    freeifaddrs(list);
 }
 
 /* What the kernel refuses may be done the next time. Nobody would lift a filter of one that is cleared. */
@@ -56,6 +62,7 @@ void kernel_find_interfaces(struct daemon *daemon)
         if (!peer->used || peer->index || peer->cleared)
             continue;
         const char *wrong = kernel_find_interface(daemon, peer);
+        sessions_keep_alive(daemon);
         if (!wrong)
             say(LOG_NOTICE, "%s: its interface is %s", peer->name, peer->interface);
         else if (wrong != kernel_no_interface)
@@ -63,35 +70,35 @@ void kernel_find_interfaces(struct daemon *daemon)
     }
 }
 
-/* Takes each change, and not only how interfaces are now. If some were lost, each may have been down. An interface that has lost
- * its carrier alone keeps its routes, so the kernel need not be looked at for that before neighbours are told. */
+/* Takes each change, and not only how interfaces are now. If some were lost, each may have been down. Where addresses are is looked
+ * up behind all of them, since a host may have very many interfaces, and change them again and again. */
 void kernel_read_links(struct daemon *daemon)
 {
     _Alignas(struct nlmsghdr) static unsigned char room[ROOM];
+    bool moved = false;
     for (int i = 0; i < TAKEN; i++) {
         ssize_t got = recv(daemon->kernel.links, room, sizeof room, 0);
         if (got <= 0 && errno != ENOBUFS)
-            return;
+            break;
         size_t size = got > 0 ? (size_t)got : 0, place = 0;
-        bool moved = got < 0;
-        daemon->kernel.check_due |= moved;
+        moved |= got < 0;
         for (struct peer *peer = daemon->peers; got < 0 && peer < peers_end(daemon); peer++)
             if (peer->used && peer->state != PEER_IDLE)
                 peer_hang_up(daemon, peer, BY_LINK, "notices of its interface were lost");
         for (const struct nlmsghdr *at; (at = netlink_next(room, size, &place));) {
-            struct kernel_link link = {0};
+            struct kernel_link link;
             if (netlink_read_link(at, &link))
                 link_changed(daemon, &link);
-            daemon->kernel.check_due |= !link.lost_carrier;
             moved |= netlink_is_address(at);
         }
-        if (moved) {
-            kernel_find_source(daemon);
-            leave_interfaces(daemon);
-        }
-        daemon->next_found = 0;
-        kernel_find_interfaces(daemon);
     }
+    daemon->kernel.check_due |= moved;
+    if (moved) {
+        kernel_find_source(daemon);
+        leave_interfaces(daemon);
+    }
+    daemon->next_found = 0;
+    kernel_find_interfaces(daemon);
 }
 
 static bool is_redistributed(const struct config *config, const struct kernel_route *route)
