@@ -1,5 +1,5 @@
-/* Prefixes to which the router is attached because of what the host has: subnets of interfaces that work, and routes that others
- * set in the kernel. */
+/* Prefixes to which the router is attached because of what the host has: subnets of interfaces that work, and routes by such that
+ * others set in the kernel. */
 #include "daemon.h"
 
 #include <arpa/inet.h>
@@ -88,7 +88,7 @@ struct origin {
 static void take_route(void *to, const struct kernel_route *route)
 {
     const struct origin *origin = to;
-    if (route->type == RTN_UNICAST && !route->tos && config_accepts(origin->config, origin->line->list, route->addr, route->len))
+    if (route->type == RTN_UNICAST && !route->tos && !route->lost && config_accepts(origin->config, origin->line->list, route->addr, route->len))
         add(origin->config, route->addr, route->len, origin->line->cost);
 }
 

@@ -268,6 +268,7 @@ void discover_tick(struct daemon *daemon, int64_t now)
             segment->told &= ~(1U << CANNOT_SEEK);
         else if (may_tell(segment, CANNOT_SEEK))
             say(LOG_WARNING, "%s: no neighbour is sought there: %s", segment->interface, wrong);
+        sessions_keep_alive(daemon);
     }
     for (struct peer *peer = daemon->peers; peer < peers_end(daemon); peer++)
         if (is_somebody(peer) && peer->config.interface[0])

@@ -167,7 +167,8 @@ bool netlink_read_route(const struct nlmsghdr *message, struct kernel_route *rou
     if (!is_route || !read_body(message, &body, sizeof body) || body.rtm_family != AF_INET || body.rtm_dst_len > 32)
         return false;
     *route = (struct kernel_route){.len = body.rtm_dst_len, .type = body.rtm_type, .protocol = body.rtm_protocol,
-                                   .tos = body.rtm_tos, .table = body.rtm_table};
+                                   .tos = body.rtm_tos, .table = body.rtm_table,
+                                   .lost = body.rtm_flags & (RTNH_F_LINKDOWN | RTNH_F_DEAD)};
     each_attribute(message, sizeof body, route, take_of_route);
     return true;
 }

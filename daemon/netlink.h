@@ -18,10 +18,12 @@ enum {
 /* The metric of the route behind each row: no other is worse. */
 #define WORST_METRIC UINT32_MAX
 
-/* A route of IPv4. By no neighbour (index 0) it is unreachable. Ours have no type of service (tos). */
+/* A route of IPv4. By no neighbour (index 0) it is unreachable. Ours have no type of service (tos). `lost`: its interface has no
+ * carrier, or is down. */
 struct kernel_route {
     uint32_t addr, table, metric;
     uint8_t len, type, protocol, tos;
+    bool lost;
     struct in_addr by, source;
     unsigned index;
 };
