@@ -2,6 +2,7 @@
 #include "daemon.h"
 
 #include <errno.h>
+#include <fcntl.h>
 #include <poll.h>
 #include <signal.h>
 #include <stdlib.h>
@@ -302,6 +303,16 @@ static const char USAGE[] = "usage: dualnetd CONFIG [--install] [--check]\n"
                             "\n"
                             "Example: dualnetd /etc/dualnetd.conf --check\n";
 
+/* Whoever starts a program may leave these three closed. A connection would get their numbers, and lines of the log. */
+static void keep_standard_files(void)
+{
+    int fd;
+    do
+        fd = open("/dev/null", O_RDWR);
+    while (fd >= 0 && fd <= STDERR_FILENO);
+    close(fd);
+}
+
 /* What the words ask for: the configuration's path, or NULL if they are not understood. */
 static const char *read_words(int count, char **words, bool *installs, bool *checks)
 {
@@ -332,6 +343,7 @@ int main(int count, char **words)
         return 2;
     }
     sigset_t mask;
+    keep_standard_files();
     take_signals(&mask);
     struct daemon *daemon = calloc(1, sizeof *daemon);
     if (!daemon) {
