@@ -39,6 +39,15 @@ static void link_changed(struct daemon *daemon, const struct kernel_link *link)
     }
 }
 
+/* Notices were lost, so the neighbour's interface may have been down, and may be gone or have another name. */
+static void look_anew(struct daemon *daemon, struct peer *peer)
+{
+    struct kernel_link link = {.index = peer->index};
+    link.gone = !if_indextoname(peer->index, link.name);
+    peer_hang_up(daemon, peer, BY_LINK, "notices of its interface were lost");
+    link_changed(daemon, &link);
+}
+
 /* An address of this host may stand at another interface now. What comes in by the old one is dropped as before. */
 static void leave_interfaces(struct daemon *daemon)
 {
@@ -70,8 +79,8 @@ void kernel_find_interfaces(struct daemon *daemon)
     }
 }
 
-/* Takes each change, and not only how interfaces are now. If some were lost, each may have been down. Where addresses are is looked
- * up behind all of them, since a host may have very many interfaces, and change them again and again. */
+/* Takes each change, and not only how interfaces are now. Where addresses are is looked up behind all of them, since a host may have
+ * very many interfaces, and change them again and again. */
 void kernel_read_links(struct daemon *daemon)
 {
     _Alignas(struct nlmsghdr) static unsigned char room[ROOM];
@@ -83,8 +92,8 @@ void kernel_read_links(struct daemon *daemon)
         size_t size = got > 0 ? (size_t)got : 0, place = 0;
         moved |= got < 0;
         for (struct peer *peer = daemon->peers; got < 0 && peer < peers_end(daemon); peer++)
-            if (peer->used && peer->state != PEER_IDLE)
-                peer_hang_up(daemon, peer, BY_LINK, "notices of its interface were lost");
+            if (peer->used && peer->index)
+                look_anew(daemon, peer);
         for (const struct nlmsghdr *at; (at = netlink_next(room, size, &place));) {
             struct kernel_link link;
             if (netlink_read_link(at, &link))
