@@ -20,13 +20,11 @@ enum { NOT_ASKED = 255 };
  * before this number the router came to know the prefix; zero: by nobody. */
 struct noted {
     uint32_t addr;
-    uint8_t len, asked, brought;
-    bool used, behind, via, foreign, found_behind, found_via, differs;
+    uint8_t len, asked, brought, excuses;
+    bool used, behind, via, foreign, found_behind, found_via, differs, told;
     struct in_addr by, source;
     unsigned index;
     uint32_t reported, excused, awaited;
-    uint8_t excuses;
-    bool told;
     int64_t active_since, judged_at, since;
 };
 

@@ -139,9 +139,12 @@ void router_tick(struct daemon *daemon, int64_t now)
 {
     uint32_t late = 0;
     unsigned lines = 0;
-    if (daemon->blocked || daemon->router.active == 0 || now < daemon->router.next_look)
+    int64_t next = now + (LOOK_MS < daemon->config.active_ms / 4 ? LOOK_MS : daemon->config.active_ms / 4);
+    if (daemon->router.active == 0)
+        daemon->router.next_look = next;
+    if (daemon->blocked || now < daemon->router.next_look)
         return;
-    daemon->router.next_look = now + (LOOK_MS < daemon->config.active_ms / 4 ? LOOK_MS : daemon->config.active_ms / 4);
+    daemon->router.next_look = next;
     for (size_t i = 0; i < daemon->prefixes.size; i++) {
         if (!daemon->prefixes.slots[i].active_since)
             continue;
