@@ -76,10 +76,10 @@ IsUnreadTimes bytes fault = (kind : FaultKind) × IsUnread bytes kind × (fault 
 
 -- why a text is no document of times. It is no TOML document, or none of times; or it has more than 10,000 changes
 abbrev pub IsNoTimes : Text → FaultKind → Type 0
-IsNoTimes text FaultKind.BadToml = parse_document text ≡ None
-IsNoTimes text FaultKind.BadKey = HasNoTimes (parse_document text)
-IsNoTimes text FaultKind.TooLarge = HasLists text (λ lists. 10000 < length lists.changes)
-IsNoTimes text _ = ⊥
+IsNoTimes text kind =
+    ((kind ≡ FaultKind.BadToml) × (parse_document text ≡ None))
+    ⊎ ((kind ≡ FaultKind.BadKey) × HasNoTimes (parse_document text))
+    ⊎ ((kind ≡ FaultKind.TooLarge) × HasLists text (λ lists. 10000 < length lists.changes))
 
 -- why a text says no times of a network, and where. It is no document of times; or one of its lines says no delay or no change; or memory runs out
 abbrev pub SaysNoTimes : Text → FaultKind → Option Where → Type 0

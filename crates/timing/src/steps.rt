@@ -4,7 +4,7 @@ ghost use Rattle.std.specs.Prelude.{◌≡◌, ◌++◌, ◌∷◌, [], All, IfO
 ghost use Rattle.coming_to_rest.specs.Worlds.{is_own};
 ghost use Rattle.timed_simulation.specs.{Due.IsDue, Due.NothingIsDue, Events.next_event, Runs.steps_of};
 ghost use Rattle.timed_reports.specs.Recordings.{timed_in};
-ghost use Rattle.timing.specs.Runs.{ComesNext};
+ghost use Rattle.timing.specs.Runs.{ComesNext, with_changes};
 ghost use Rattle.timing.specs.Steps.{Came, IsDoneAt, RunsInSteps, done_of, event_moments};
 
 use crate::run::{do_event, give};
@@ -13,7 +13,7 @@ use network_model::{Refusal, Step};
 use plans::Fault;
 use std::alloc::Global;
 use timed_reports::Recording;
-use timed_simulation::Event;
+use timed_simulation::{Change, Event};
 use world::Network;
 
 /// A run in simulated time: what it did.
@@ -33,6 +33,18 @@ impl SteppedRun {
     {
         self.recording.timed().simulation().network()
     }
+
+    // Gives the changes, and does all that is left to do then.
+    fn do_changes(&mut self, changes: &[Change]) -> Result<(), Fault>
+        requires begins { (self.old.steps.items ≡ []) × (self.old.moments.items ≡ []) }
+        requires changes { All (λ c. is_own c.step ≡ false) changes.now }
+        ensures done { OnOk result (IsDoneAt (with_changes changes.now (timed_in self.old.recording))
+            self.new.steps.items self.new.moments.items (timed_in self.new.recording)) }
+        ensures rest { OnOk result (NothingIsDue (timed_in self.new.recording)) }
+    {
+        give(&mut self.recording, changes)?;
+        do_all(&mut self.recording, &mut self.steps, &mut self.moments)
+    }
 }
 
 /// Runs a network with these delays and changes until nothing is left to do, and keeps each step with its moment. A
@@ -43,16 +55,14 @@ pub fn run_in_steps(alloc: Global, network: Network, times: &Times) -> Result<St
     requires changes { All (λ c. is_own c.step ≡ false) times.now.changes.items }
     ensures { IfOk result (λ r. RunsInSteps network times.now r.steps.items r.moments.items (timed_in r.recording)) }
 {
-    let mut recording = Recording::open(alloc, false, network, &times.links, &times.routers)?;
-    give(&mut recording, &times.changes)?;
-    let mut steps = Vec::new(alloc);
-    let mut moments = Vec::new(alloc);
-    do_all(&mut recording, &mut steps, &mut moments)?;
-    Ok(SteppedRun {
+    let recording = Recording::open(alloc, false, network, &times.links, &times.routers)?;
+    let mut run = SteppedRun {
         recording,
-        steps,
-        moments,
-    })
+        steps: Vec::new(alloc),
+        moments: Vec::new(alloc),
+    };
+    run.do_changes(&times.changes)?;
+    Ok(run)
 }
 
 // Does all that is left to do, and adds each step and its moment to the lists.

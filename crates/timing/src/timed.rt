@@ -3,7 +3,8 @@
 ghost use Rattle.std.specs.Prelude.{◌≡◌, All, IfErr, IfOk, OnOk, false, length};
 ghost use Rattle.coming_to_rest.specs.Worlds.{is_own};
 ghost use Rattle.plans.specs.Faults.{OfBytes};
-ghost use Rattle.timing.specs.{Ends.IsTimedToEnd, Ends.RunsTimes, Ends.StopsTime, Runs.IsOfEvents};
+ghost use Rattle.timed_reports.specs.Recordings.{timed_in};
+ghost use Rattle.timing.specs.{Ends.IsTimedToEnd, Ends.RunsChanges, Ends.RunsTimes, Ends.StopsTime, Runs.IsOfEvents};
 
 use crate::printing::print_changes;
 use crate::run::{give, run_changes};
@@ -64,9 +65,32 @@ fn run<W: Write>(
     ensures fault { IfErr result IsOfEvents }
 {
     let mut recording = Recording::open(alloc, spells, network, &times.links, &times.routers)?;
-    give(&mut recording, &times.changes)?;
+    run_opened(
+        alloc,
+        &mut recording,
+        directory,
+        &times.changes,
+        format,
+        out,
+    )
+}
+
+// Runs a network that was opened with these changes.
+fn run_opened<W: Write>(
+    alloc: Global,
+    recording: &mut Recording,
+    directory: &Directory,
+    changes: &[Change],
+    format: Format,
+    out: &mut W,
+) -> Result<(), Fault>
+    requires { All (λ c. is_own c.step ≡ false) changes.now }
+    ensures ok { OnOk result (RunsChanges (timed_in recording.old) changes.now) }
+    ensures fault { IfErr result IsOfEvents }
+{
+    give(recording, changes)?;
     let mut begun = Vec::new(alloc);
-    let ran = run_changes(&mut recording, &mut begun);
+    let ran = run_changes(recording, &mut begun);
     let end = Snapshot::of(recording.timed());
     let printer = Printer {
         directory,
