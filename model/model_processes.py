@@ -191,6 +191,14 @@ class Processes:
         far = self.far[near]
         return i != far.router and (i != near.router or session <= self.own_session(far))
 
+    def may_lack(self, router: Router, prefix: int) -> bool:
+        """Whether a half-written table may have no row of a prefix: where none was published."""
+        return prefix not in router.published
+
+    def goes_with(self, old: int, new: int) -> int:
+        """The feasible distance that goes with a row that has been chosen, where the old row went with the old one."""
+        return new
+
     def comes_in_order(self, end: End, session: int) -> bool:
         """Whether a packet that tells no session comes before each message of a session later than that of its row."""
         return self.heard[end] <= session

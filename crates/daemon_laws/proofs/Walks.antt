@@ -107,7 +107,18 @@ module _ (t : Topology) (p : Prefix) (pfd : ℕ → ℕ) (w : Processes) (I : In
       let cur : is_port_in p r q session ≡ true = and_from (is_up_at m q) (session_at r.ports q == session) up (eq-eqb (session_at r.ports q) session H.1) in
       record { up = up; seen = H.1; current = cur; chosen = and_from (is_port_in p r q session) (is_port q m.successor) cur (ap (is_port q) s ∙ eq-eqb q q refl) }
 
-  -- so they do along a chosen row
+  -- no chosen row is of a session that the router across has not been in
+  pub control_reached : (i q session : ℕ) → control_entry i ≡ Some (Via q session) → t.valid (at_port i q) ≡ true → session ≤ w.last (t.far (at_port i q))
+  control_reached i q session row v = elim (cases_lt (w.last (t.far (at_port i q))) session) [
+    | inr le ↦ le
+    | inl lt ↦
+        let f = t.far (at_port i q) in
+        let C = chosen_at i q session row in
+        let there : is_port_in p (router_at w f) f.port session ≡ true = (I.links (at_port i q) v session (inl C.current) (inr lt)).chosen_current C.chosen in
+        absurd (let a = in_session p (router_at w f) f.port session there in let l = I.last_is f in omega (arith, lt, a, l))
+  ]
+
+  -- feasible distances fall along one, too
   pub control_both : (i : ℕ) (entry : Entry) (k : ℕ) → control_entry i ≡ Some entry → Leads i entry k → ((machine_of (w.routers k) p).fd < (machine_of (w.routers i) p).fd) × (pfd k < (machine_of (w.routers i) p).fd)
   control_both i entry k row L =
       let C = chosen_at i L.port L.session (row ∙ ap Some L.is_via) in
@@ -215,12 +226,7 @@ module _ (t : Topology) (p : Prefix) (pfd : ℕ → ℕ) (w : Processes) (I : In
         let last_here = O.up_last e C.up in
         let heard_here = O.heard_past e v in
         let last_there = (let_in f h).last_is in
-        let reached : session ≤ w.last f = elim (cases_lt (w.last f) session) [
-          | inr le ↦ le
-          | inl lt ↦
-              let there : is_port_in p (router_at w f) f.port session ≡ true = (I.links e v session (inl C.current) (inr lt)).chosen_current C.chosen in
-              absurd (let a = in_session p (router_at w f) f.port session there in let l = I.last_is f in omega (arith, lt, a, l))
-        ] in
+        let reached = control_reached i q session row v in
         let seen = C.seen in
         omega (arith, last_here, heard_here, last_there, reached, seen)
 

@@ -1,18 +1,18 @@
--- A packet that moves between processes: matches get longer, or stay and published feasible distances fall, while it stays near.
-use Rattle.std.proofs.Common.{refl, sym, ap, subst, ◌∙◌, inl, inr, ◌<◌, ◌≤◌, ◌≡◌, ◌⊎◌, ℕ, Bool, true, false, ◌&&◌, ◌||◌, if◌then◌else◌, take, is_some, eq-eqb, ne_eqb, List, [], ◌∷◌, Option, Some}
-use Rattle.no_packet_loops.proofs.Common.{prefix_eq, Prefix, prefix_cmp, covers, infinity, Entry, Via, Topology, None_not_Some, Some_injective, or_parts, changed_rows, machine_of, is_sorted, longest_match-found}
-use Rattle.no_packet_loops.proofs.Walks.{match_is_row}
-use Rattle.all_packets.proofs.{Known.Fits, Matches.GoesBefore, Matches.found}
-use Rattle.moving_packets.proofs.Returns.{IsLow, stays_low as low_next, IsOn, Descends, first_on, goes_on, comes_back}
-use Rattle.daemon_laws.specs.{Processes.Processes, Packets.rows_in_force, Packets.session_leads, Packets.unmarked_leads, Facts.fd_then, Moments.fds_reached, Rest.entry_in_force}
+-- A packet that moves between processes: matches get longer, or stay and feasible distances fall, while it stays near.
+use Rattle.std.proofs.Common.{refl, sym, ap, subst, ◌∙◌, inl, inr, arith, ◌<◌, ◌≤◌, ◌≡◌, ◌⊎◌, ℕ, Bool, true, false, ◌&&◌, ◌||◌, if◌then◌else◌, take, is_some, eq-eqb, ne_eqb, List, [], ◌∷◌, ◌++◌, Option, Some, None, IsSome}
+use Rattle.no_packet_loops.proofs.Common.{false≢true, prefix_eq, Prefix, prefix_cmp, covers, infinity, Entry, Via, Topology, None_not_Some, Some_injective, or_parts, changed_rows, machine_of, longest_match-found}
+use Rattle.all_packets.proofs.{Known.Fits, Known.chosen_fits, Matches.GoesBefore, Matches.found}
+use Rattle.moving_packets.specs.Moving.{IsBetter}
+use Rattle.moving_packets.proofs.Returns.{IsLow, stays_low as low_next, meets_low, IsOn, Hop, first_on, goes_on, finds_better}
+use Rattle.daemon_laws.specs.{Processes.Processes, Packets.session_leads, Packets.unmarked_leads, Facts.fd_then}
 use Rattle.daemon_laws.specs.Happenings.{Happening, Publishes, PublishesSome, Forgets, BeginsAnew, CanHappen, MayRewire, AreReached}
 use Rattle.network_model.proofs.Common.{cases_eq, find as row_of}
 use Rattle.router_core.specs.Alone.{may_forget}
 use Rattle.single_router.specs.Openings.{made_router}
 use Rattle.daemon_laws.proofs.Always.{Always, always, always_next, always_rewired}
-use Rattle.daemon_laws.proofs.Ways.{in_order, falls, has_row}
+use Rattle.daemon_laws.proofs.Ways.{falls, has_row}
 use Rattle.daemon_laws.proofs.Walks.{unmarked}
-use Rattle.moving_daemon_packets.specs.Moving.{Moment, moment_next, moment_rewired, HoldsAtEveryMoment, DaemonEvent, Goes, Does, Rewires, daemon_at_end, moment_after, LeadsOn, Forwards, moment_fd, happening_raises, published_rises, loses_all, StaysNearAtDaemons, IsCalmAtDaemons, CalmStaysNearAtDaemons, HasBetterAtDaemons, ComesBackForBetterAtDaemons}
+use Rattle.moving_daemon_packets.specs.Moving.{Moment, moment_next, moment_rewired, now, HoldsAtEveryMoment, DaemonEvent, Goes, Does, Rewires, moment_after, LeadsOn, moment_fd, rows_shown, fd_shown, Met, Forwards, happening_raises, published_rises, loses_all, StaysNearAtDaemons, IsCalmAtDaemons, CalmStaysNearAtDaemons, ComesBackForBetterAtDaemons}
 
 -- what holds at each moment
 abbrev pub IsKept : Moment → Type 0
@@ -56,82 +56,109 @@ stays_low : (m : Moment) (h : Happening) (p : Prefix) (risen : Bool) (k g : ℕ)
 stays_low m h p risen k g = low_next (m.fd_published p k) (moment_fd m p k) ((moment_next m h).fd_published p k) (moment_fd (moment_next m h) p k) risen (risen || loses_all k h) g
     (λ e. (let none = or_parts risen (loses_all k h) e in (none.0, stays_or_chosen m h p k none.1)))
 
--- entries lead on to routers in the session of the row
+-- entries of rows, published or chosen, lead on to routers in the session of the row
 abbrev pub Sound : LeadsOn → Type 0
-Sound leads = (m : Moment) → IsKept m → (p : Prefix) (i k : ℕ) (e : Entry) → row_of prefix_cmp p (rows_in_force m.processes i) ≡ Some e → leads m.topology m.processes i e ≡ Some k → session_leads m.topology m.processes i e ≡ Some k
-
-module _ (leads : LeadsOn) (sound : Sound leads) where
-  module _ (m : Moment) (K : IsKept m) where
-    in_order_is : (i : ℕ) → is_sorted prefix_cmp (rows_in_force m.processes i) ≡ true
-    in_order_is i = in_order m.topology m.processes m.fd_published (λ x. (K x).invariant) (λ x. (K x).shown) false i
-
-    row_is : (addr i k : ℕ) (p : Prefix) (F : Forwards leads m addr p i k) → row_of prefix_cmp p (rows_in_force m.processes i) ≡ Some F.entry
-    row_is addr i k p F = match_is_row addr p F.entry (rows_in_force m.processes i) (in_order_is i) F.matched
-
-    covered : (addr i k : ℕ) (p : Prefix) → Forwards leads m addr p i k → covers p addr ≡ true
-    covered addr i k p F = (longest_match-found addr (rows_in_force m.processes i) (p, F.entry) F.matched).covered
-
-    goes_before : (addr i k : ℕ) (p q : Prefix) (e : Entry) → Forwards leads m addr p i k → covers q addr ≡ true → row_of prefix_cmp q (rows_in_force m.processes i) ≡ Some e → GoesBefore p q
-    goes_before addr i k p q e F c row =
-        let D = found addr q e (rows_in_force m.processes i) (in_order_is i) row c in
-        subst (λ (x : Prefix × Entry). GoesBefore x.0 q) (Some_injective (sym D.matched ∙ F.matched)) D.before
-
-    lower : (addr i k : ℕ) (p : Prefix) → Forwards leads m addr p i k → IsLow (m.fd_published p k) (moment_fd m p k) false (m.fd_published p i)
-    lower addr i k p F =
-        let row = row_is addr i k p F in
-        let lead = sound m K p i k F.entry row F.leads in
-        record {
-          published = falls m.topology m.processes m.fd_published (λ x. (K x).invariant) (λ x. (K x).shown) false false p i k F.entry row lead;
-          chosen = λ e. falls m.topology m.processes m.fd_published (λ x. (K x).invariant) (λ x. (K x).shown) false true p i k F.entry row lead;
-        }
-
-    finite : (addr i k : ℕ) (p : Prefix) → Forwards leads m addr p i k → m.fd_published p i < infinity
-    finite addr i k p F =
-        let row = row_is addr i k p F in
-        by_entry F.entry (subst (λ (o : Option Entry). Fits o (m.fd_published p i)) row ((K p).shown i).fits) (sound m K p i k F.entry row F.leads)
-      where
-        by_entry : (e : Entry) → Fits (Some e) (m.fd_published p i) → session_leads m.topology m.processes i e ≡ Some k → m.fd_published p i < infinity
-        by_entry (Via q session) below lead = below
-        by_entry _ f lead = absurd (None_not_Some lead)
-
-    row_there : (p : Prefix) (i : ℕ) → m.fd_published p i < infinity → (e : Entry) × (entry_in_force m.processes i p ≡ Some e)
-    row_there p i lt = has_row m.topology m.processes m.fd_published (λ x. (K x).invariant) (λ x. (K x).shown) false p i lt
-
-  -- along a packet's way feasible distances descend
-  pub descends : Descends IsKept (λ b (m : Moment). m.fd_published) (λ b (m : Moment). entry_in_force m.processes) (λ b. Forwards leads)
-  descends = record { covered = λ b. covered; goes_before = λ b. goes_before; finite = λ b. finite; lower = λ b c m K addr i k p F. (lower m K addr i k p F).published; has_row = λ b. row_there }
-
-  -- whatever happens before it comes back
-  module _ (m0 : Moment) (K0 : IsKept m0) (addr i k0 : ℕ) (p : Prefix) (F0 : Forwards leads m0 addr p i k0) where
-    returns : (m : Moment) → IsKept m → (q : Prefix) (k g : ℕ) (es : List DaemonEvent) → IsOn addr p (m0.fd_published p i) q g → StaysNearAtDaemons (λ x f. x ≤ f) leads m addr q g k es → (q' : Prefix) → Forwards leads (moment_after m es) addr q' (daemon_at_end k es) i → HasBetterAtDaemons addr i p m0 (moment_after m es)
-    returns m K q k g [] O C q' F = comes_back descends false m0 K0 addr i k0 p F0 false m K q k g O C q' F false
-    returns m K q k g (Goes l ∷ es) O C q' F = returns m K C.1 l (m.fd_published C.1 k) es (goes_on descends false m K addr p (m0.fd_published p i) q k g O C.0 C.1 l C.2) C.3 q' F
-    returns m K q k g (Does h ∷ es) O C q' F = returns (moment_next m h) (kept_next m h K C.0) q k g es O C.1 q' F
-    returns m K q k g (Rewires t ∷ es) O C q' F = returns (moment_rewired m t) (kept_rewired m t K C.0) q k g es O C.1 q' F
-
-  -- where no rise is published, it stays near
-  stays_near : (m : Moment) → IsKept m → (addr : ℕ) (q : Prefix) (risen : Bool) (k g : ℕ) (es : List DaemonEvent) → IsLow (m.fd_published q k) (moment_fd m q k) risen g → IsCalmAtDaemons leads m addr q risen k es → StaysNearAtDaemons (λ x f. x < f) leads m addr q g k es
-  stays_near m K addr q risen k g [] W C = W.published
-  stays_near m K addr q risen k g (Goes l ∷ es) W C = (W.published, C.0, C.1, stays_near m K addr C.0 false l (m.fd_published C.0 k) es (lower m K addr k l C.0 C.1) C.2)
-  stays_near m K addr q risen k g (Does h ∷ es) W C = (C.0, stays_near (moment_next m h) (kept_next m h K C.0) addr q (risen || happening_raises m h q k) k g es (stays_low m h q risen k g C.1 W) C.2)
-  stays_near m K addr q risen k g (Rewires t ∷ es) W C = (C.0, stays_near (moment_rewired m t) (kept_rewired m t K C.0) addr q risen k g es (record { published = W.published; chosen = W.chosen }) C.1)
-
-  pub for_better : (m : Moment) → IsKept m → (addr i k : ℕ) (p q : Prefix) (es : List DaemonEvent) → Forwards leads m addr p i k → StaysNearAtDaemons (λ x f. x ≤ f) leads m addr p (m.fd_published p i) k es
-      → Forwards leads (moment_after m es) addr q (daemon_at_end k es) i → HasBetterAtDaemons addr i p m (moment_after m es)
-  for_better m K addr i k p q es F C G = returns m K addr i k p F m K p k (m.fd_published p i) es (first_on descends false m K addr i k p F) C q G
-
--- ---- at every moment
+Sound leads = (m : Moment) → IsKept m → (b : Bool) (p : Prefix) (i k : ℕ) (e : Entry) → row_of prefix_cmp p (rows_shown b m i) ≡ Some e → leads m.topology m.processes i e ≡ Some k → session_leads m.topology m.processes i e ≡ Some k
 
 -- where packets carry the session of the row
 pub marked : Sound session_leads
-marked m K p i k e row lead = lead
+marked m K b p i k e row lead = lead
 
 -- and where they carry none
 pub unmarked_is : Sound unmarked_leads
-unmarked_is m K p i k e row lead = unmarked m.topology p (m.fd_published p) m.processes (K p).invariant (K p).orderly i k e (inl row) lead
+unmarked_is m K true p i k e row lead = unmarked m.topology p (m.fd_published p) m.processes (K p).invariant (K p).orderly i k e (inr row) lead
+unmarked_is m K false p i k e row lead = unmarked m.topology p (m.fd_published p) m.processes (K p).invariant (K p).orderly i k e (inl row) lead
 
-abbrev pub now : (t : Topology) (w : Processes) → AreReached t w → Moment
-now t w M = record { topology = t; processes = w; fd_published = fds_reached t w M }
+module _ (m : Moment) (K : IsKept m) where
+  -- a router whose feasible distance is below infinity has a row that goes with it
+  pub row_there : (c : Bool) (p : Prefix) (i : ℕ) → fd_shown c m p i < infinity → IsSome (row_of prefix_cmp p (rows_shown c m i))
+  row_there c p i lt =
+      let here = has_row m.topology m.processes m.fd_published (λ x. (K x).invariant) (λ x. (K x).shown) c p i lt in
+      subst IsSome (sym here.1) refl
+
+  -- the feasible distance fits the row
+  pub fits : (c : Bool) (p : Prefix) (i : ℕ) → Fits (row_of prefix_cmp p (rows_shown c m i)) (fd_shown c m p i)
+  fits true p i = chosen_fits p ((m.processes).routers i) ((K p).shown i).follows ((K p).invariant.sound i)
+  fits false p i = ((K p).shown i).fits
+
+-- a row by which a packet goes on is near, if it is of the prefix by which the packet came
+pub near_by : (m : Moment) (k : ℕ) (t : Met m k) (q q' : Prefix) (g : ℕ) → fd_shown (t.is_new q) m q k ≤ g → q' ≡ q → fd_shown (t.is_new q') m q' k ≤ g
+near_by m k t q q' g near same = subst (λ (x : Prefix). fd_shown (t.is_new x) m x k ≤ g) (sym same) near
+
+module _ (leads : LeadsOn) (sound : Sound leads) where
+  module _ (m : Moment) (K : IsKept m) (addr i k : ℕ) (t : Met m i) (p : Prefix) (F : Forwards leads m i t addr p k) where
+    -- the row leads to the other router in its session
+    pub leads_in : session_leads m.topology m.processes i (F.by).entry ≡ Some k
+    leads_in = sound m K (t.is_new p) p i k (F.by).entry F.is_row (F.by).leads
+
+    -- a packet that goes on makes a hop, along which feasible distances fall
+    pub hop : Hop addr p (fd_shown (t.is_new p) m p i) (λ q. row_of prefix_cmp q t.table) (λ d. fd_shown d m p k)
+    hop = record {
+      covered = (longest_match-found addr t.table (p, (F.by).entry) (F.by).matched).covered;
+      finite = by_entry (F.by).entry (subst (λ (o : Option Entry). Fits o (fd_shown (t.is_new p) m p i)) F.is_row (fits m K (t.is_new p) p i)) leads_in;
+      before = λ q c some. by_row q c (row_of prefix_cmp q t.table) refl some;
+      lower = λ d. falls m.topology m.processes m.fd_published (λ x. (K x).invariant) (λ x. (K x).shown) (t.is_new p) d p i k (F.by).entry F.is_row leads_in;
+    }
+      where
+        by_entry : (e : Entry) → Fits (Some e) (fd_shown (t.is_new p) m p i) → session_leads m.topology m.processes i e ≡ Some k → fd_shown (t.is_new p) m p i < infinity
+        by_entry (Via q session) below lead = below
+        by_entry _ f lead = absurd (None_not_Some lead)
+
+        by_row : (q : Prefix) → covers q addr ≡ true → (o : Option Entry) → row_of prefix_cmp q t.table ≡ o → IsSome o → GoesBefore p q
+        by_row q c None is none = absurd (false≢true none)
+        by_row q c (Some e) is some =
+            let D = found addr q e t.table (t.written).in_order is c in
+            subst (λ (x : Prefix × Entry). GoesBefore x.0 q) (Some_injective (sym D.matched ∙ (F.by).matched)) D.before
+
+  -- whatever happens before it comes back
+  module _ (m0 : Moment) (K0 : IsKept m0) (addr i k0 : ℕ) (t0 : Met m0 i) (p : Prefix) (F0 : Forwards leads m0 i t0 addr p k0) (d : Bool) where
+    abbrev f0 : ℕ
+    f0 = fd_shown (t0.is_new p) m0 p i
+
+    -- where it goes on, it is so at the next router
+    next_on : (m : Moment) → IsKept m → (k l : ℕ) (t : Met m k) (q' : Prefix) → Forwards leads m k t addr q' l → (q : Prefix) (g : ℕ) → IsOn addr p f0 q g → IsSome (row_of prefix_cmp q t.table) → fd_shown (t.is_new q) m q k ≤ g
+        → IsOn addr p f0 q' (fd_shown (t.is_new q') m q' k)
+    next_on m K k l t q' F q g O known near = goes_on (hop m K addr k l t q' F) p f0 q g O (λ top. known) (near_by m k t q q' g near)
+
+    returns : (m : Moment) → IsKept m → (q : Prefix) (k g : ℕ) (es : List DaemonEvent) → IsOn addr p f0 q g → StaysNearAtDaemons (λ x f. x ≤ f) leads m addr q g k (es ++ Goes i ∷ [])
+        → IsBetter addr p f0 (fd_shown d (moment_after m es) p i) (λ x. row_of prefix_cmp x t0.table) (λ x. row_of prefix_cmp x (rows_shown d (moment_after m es) i))
+    returns m K q k g [] O C =
+        let H = hop m K addr k i C.0 C.3 C.4 in
+        let low = H.lower d in
+        let top = H.finite in
+        finds_better (hop m0 K0 addr i k0 t0 p F0) C.3 (fd_shown ((C.0).is_new C.3) m C.3 k) (next_on m K k i C.0 C.3 C.4 q g O C.1 C.2)
+        (λ x. fd_shown d m x i) (λ x. row_of prefix_cmp x (rows_shown d m i)) low (row_there m K d C.3 i (omega (arith, low, top)))
+    returns m K q k g (Goes l ∷ es) O C = returns m K C.3 l (fd_shown ((C.0).is_new C.3) m C.3 k) es (next_on m K k l C.0 C.3 C.4 q g O C.1 C.2) C.5
+    returns m K q k g (Does h ∷ es) O C = returns (moment_next m h) (kept_next m h K C.0) q k g es O C.1
+    returns m K q k g (Rewires t ∷ es) O C = returns (moment_rewired m t) (kept_rewired m t K C.0) q k g es O C.1
+
+  pub for_better : (m : Moment) → IsKept m → ComesBackForBetterAtDaemons leads m
+  for_better m K addr i k t p d es C = returns m K addr i k t p C.0 d m K p k (fd_shown (t.is_new p) m p i) es (first_on (hop m K addr i k t p C.0)) C.1
+
+  -- ---- where no rise is shown, it stays near
+
+  -- where it comes, the feasible distances are below that of the row
+  comes_low : (m : Moment) (K : IsKept m) (addr i k : ℕ) (t : Met m i) (p : Prefix) → Forwards leads m i t addr p k → IsLow (m.fd_published p k) (moment_fd m p k) false (fd_shown (t.is_new p) m p i)
+  comes_low m K addr i k t p F = let H = hop m K addr i k t p F in record { published = H.lower false; chosen = λ e. H.lower true }
+
+  stays_near : (m : Moment) → IsKept m → (addr : ℕ) (q : Prefix) (risen : Bool) (k g : ℕ) (es : List DaemonEvent) → g < infinity → IsLow (m.fd_published q k) (moment_fd m q k) risen g → IsCalmAtDaemons leads m addr q risen k es
+      → StaysNearAtDaemons (λ x f. x < f) leads m addr q g k es
+  stays_near m K addr q risen k g [] top W C = W.published
+  stays_near m K addr q risen k g (Goes l ∷ es) top W C = (
+    C.0,
+    ((C.0).written).has_all q (row_there m K false q k (let low = W.published in omega (arith, low, top))),
+    meets_low risen ((C.0).is_new q) (m.fd_published q k) (moment_fd m q k) g C.1 W,
+    C.2,
+    C.3,
+    stays_near m K addr C.2 false l (fd_shown ((C.0).is_new C.2) m C.2 k) es (hop m K addr k l C.0 C.2 C.3).finite (comes_low m K addr k l C.0 C.2 C.3) C.4,
+  )
+  stays_near m K addr q risen k g (Does h ∷ es) top W C = (C.0, stays_near (moment_next m h) (kept_next m h K C.0) addr q (risen || happening_raises m h q k) k g es top (stays_low m h q risen k g C.1 W) C.2)
+  stays_near m K addr q risen k g (Rewires t ∷ es) top W C = (C.0, stays_near (moment_rewired m t) (kept_rewired m t K C.0) addr q risen k g es top (record { published = W.published; chosen = W.chosen }) C.1)
+
+  calm_near : (m : Moment) → IsKept m → CalmStaysNearAtDaemons leads m
+  calm_near m K addr i k t p es F C = stays_near m K addr p false k (fd_shown (t.is_new p) m p i) es (hop m K addr i k t p F).finite (comes_low m K addr i k t p F) C
+
+-- ---- at every moment
 
 pub kept : (t : Topology) (w : Processes) (M : AreReached t w) → IsKept (now t w M)
 kept t w M p = always p t w M
@@ -143,7 +170,7 @@ pub always_unmarked : HoldsAtEveryMoment (ComesBackForBetterAtDaemons unmarked_l
 always_unmarked t w M = for_better unmarked_leads unmarked_is (now t w M) (kept t w M)
 
 pub always_calm : HoldsAtEveryMoment (CalmStaysNearAtDaemons session_leads)
-always_calm t w M addr i k p es F C = stays_near session_leads marked (now t w M) (kept t w M) addr p false k ((now t w M).fd_published p i) es (lower session_leads marked (now t w M) (kept t w M) addr i k p F) C
+always_calm t w M = calm_near session_leads marked (now t w M) (kept t w M)
 
 pub always_unmarked_calm : HoldsAtEveryMoment (CalmStaysNearAtDaemons unmarked_leads)
-always_unmarked_calm t w M addr i k p es F C = stays_near unmarked_leads unmarked_is (now t w M) (kept t w M) addr p false k ((now t w M).fd_published p i) es (lower unmarked_leads unmarked_is (now t w M) (kept t w M) addr i k p F) C
+always_unmarked_calm t w M = calm_near unmarked_leads unmarked_is (now t w M) (kept t w M)

@@ -1,11 +1,11 @@
 -- A packet that is there while a port gets another neighbour, and comes back for a better way over the new link.
-use Rattle.std.proofs.Common.{refl, arith, ◌<◌, ◌≡◌, ℕ, Bool, true, false, not, ◌==◌, List, [], ◌∷◌, zero, suc}
-use Rattle.no_packet_loops.proofs.Common.{false≢true, Prefix, Via, IsCost, Topology, LinkEnd, at_port}
+use Rattle.std.proofs.Common.{refl, inl, inr, arith, ◌<◌, ◌≡◌, ℕ, Bool, true, false, not, cond, ◌==◌, List, [], ◌∷◌, ◌++◌, Some, None, IsSome, zero, suc}
+use Rattle.no_packet_loops.proofs.Common.{false≢true, Prefix, prefix_eq, Via, IsCost, Topology, LinkEnd, at_port, Some_injective}
 use Rattle.single_router.specs.declared.input.Input.TheVariants as input
 use Rattle.single_router.specs.{declared.opening.Attachment.Attachment, Openings.made_router}
-use Rattle.daemon_laws.specs.{Processes.Processes, Packets.is_in_session, Packets.session_leads, Moments.fds_reached}
+use Rattle.daemon_laws.specs.{Processes.Processes, Packets.is_in_session, Packets.session_leads}
 use Rattle.daemon_laws.specs.Happenings.{Happening, Tells, Takes, Publishes, Releases, AllCanHappen, IsMade, IsOpening, AreReached, Begun, Happened, MayRewire, is_new_link, after_happening, after_happenings}
-use Rattle.moving_daemon_packets.specs.Moving.{Moment, moment_next, moment_rewired, moment_after, LeadsOn, StaysNearAtDaemons, doing, SomeComesBack}
+use Rattle.moving_daemon_packets.specs.Moving.{Moment, moment_next, moment_rewired, moment_after, now, Goes, rows_shown, fd_shown, Met, StaysNearAtDaemons, doing, SomeComesBack}
 
 -- ---- links
 
@@ -117,12 +117,12 @@ reached t w [] M can = M
 reached t w (h ∷ hs) M can = reached t (after_happening t w h) hs (Happened t w h M can.0) can.1
 
 abbrev moment : Moment
-moment = record { topology = links false; processes = then_are; fd_published = fds_reached (links false) then_are (reached (links false) first told (Begun (links false) first begins) can_tell) }
+moment = now (links false) then_are (reached (links false) first told (Begun (links false) first begins) can_tell)
 
--- router 1 gets a link to router 0, finds its way by that, and tells router 2, which turns round
+-- router 1 gets a link to router 0, finds its way by that, and tells router 2, which turns round, and has yet to publish that
 abbrev found : List Happening
 found = Tells 0 (input.Up 1 1 1) ∷ Tells 1 (input.Up 1 1 1)
-    ∷ Publishes 0 ∷ Releases 0 ∷ Releases 0 ∷ Takes (at_port 1 1) ∷ Publishes 1 ∷ Releases 1 ∷ Releases 1 ∷ Releases 1 ∷ Takes (at_port 2 0) ∷ Takes (at_port 2 0) ∷ Publishes 2 ∷ []
+    ∷ Publishes 0 ∷ Releases 0 ∷ Releases 0 ∷ Takes (at_port 1 1) ∷ Publishes 1 ∷ Releases 1 ∷ Releases 1 ∷ Releases 1 ∷ Takes (at_port 2 0) ∷ Takes (at_port 2 0) ∷ []
 
 may_at : (i q : ℕ) → is_new_link (links false) (links true) (at_port i q) ≡ true → (session : ℕ) → is_in_session then_are (at_port i q) session ≡ false
 may_at zero zero new session = absurd (false≢true new)
@@ -141,23 +141,45 @@ may : MayRewire (links false) (links true) then_are
 may e new session = may_at e.router e.port new session
 
 can_find : AllCanHappen (links true) (moment_rewired moment (links true)).processes found
-can_find = ((omega arith, one), ((omega arith, one), (tt, (tt, (tt, (tt, (tt, (tt, (tt, (tt, (tt, (tt, (tt, tt)))))))))))))
-
--- where a packet waits it stays near, if it is near at the end
-waits_near : (leads : LeadsOn) (m : Moment) (addr : ℕ) (p : Prefix) (f k : ℕ) (hs : List Happening) → AllCanHappen m.topology m.processes hs → (moment_after m (doing hs)).fd_published p k < f → StaysNearAtDaemons (λ x g. x < g) leads m addr p f k (doing hs)
-waits_near leads m addr p f k [] can lt = lt
-waits_near leads m addr p f k (h ∷ hs) can lt = (can.0, waits_near leads (moment_next m h) addr p f k hs can.1 lt)
+can_find = ((omega arith, one), ((omega arith, one), (tt, (tt, (tt, (tt, (tt, (tt, (tt, (tt, (tt, (tt, tt))))))))))))
 
 abbrev everywhere : Prefix
 everywhere = record { addr = 0; len = 0 }
 
-near : (moment_after (moment_rewired moment (links true)) (doing found)).fd_published everywhere 2 < moment.fd_published everywhere 1
+abbrev found_then : Moment
+found_then = moment_after (moment_rewired moment (links true)) (doing found)
+
+-- where a packet waits it stays near, if it does when it goes on
+waits_near : (m : Moment) (addr : ℕ) (p : Prefix) (f k i : ℕ) (hs : List Happening) → AllCanHappen m.topology m.processes hs → StaysNearAtDaemons (λ x g. x < g) session_leads (moment_after m (doing hs)) addr p f k (Goes i ∷ [])
+    → StaysNearAtDaemons (λ x g. x < g) session_leads m addr p f k (doing hs ++ Goes i ∷ [])
+waits_near m addr p f k i [] can goes = goes
+waits_near m addr p f k i (h ∷ hs) can goes = (can.0, waits_near (moment_next m h) addr p f k i hs can.1 goes)
+
+-- it leaves router 1 by a published row, and router 2 by one that is yet to be published
+before_that : Met moment 1
+before_that = record { table = rows_shown false moment 1; written = record { in_order = refl; is_known = λ p e row. inl row; has_all = λ p some. some }; is_new = λ p. false }
+
+after_that : Met found_then 2
+after_that = record { table = rows_shown true found_then 2; written = record { in_order = refl; is_known = λ p e row. inr (inl row); has_all = λ p some. as_many (prefix_eq p everywhere) some }; is_new = λ p. true }
+  where
+    as_many : (b : Bool) → IsSome (cond b (Some (Via 1 1)) None) → IsSome (cond b (Some (Via 0 1)) None)
+    as_many true some = refl
+    as_many false some = some
+
+near : fd_shown true found_then everywhere 2 < fd_shown false moment everywhere 1
 near =
-    let now : (moment_after (moment_rewired moment (links true)) (doing found)).fd_published everywhere 2 ≡ 3 = refl in
-    let was : moment.fd_published everywhere 1 ≡ 7 = refl in
-    omega (arith, now, was)
+    let here : fd_shown true found_then everywhere 2 ≡ 3 = refl in
+    let was : fd_shown false moment everywhere 1 ≡ 7 = refl in
+    omega (arith, here, was)
+
+end : fd_shown false found_then everywhere 1 < fd_shown true found_then everywhere 2
+end =
+    let here : fd_shown false found_then everywhere 1 ≡ 2 = refl in
+    let was : fd_shown true found_then everywhere 2 ≡ 3 = refl in
+    omega (arith, here, was)
 
 pub some_comes_back : SomeComesBack
+unfolding before_that after_that
 some_comes_back = record {
   before = links false;
   processes = then_are;
@@ -172,7 +194,8 @@ some_comes_back = record {
   was_linked = refl;
   is_linked = refl;
   new = refl;
-  goes = record { entry = Via 0 1; matched = refl; leads = refl };
-  near = (may, waits_near session_leads (moment_rewired moment (links true)) 5 everywhere 7 2 found can_find near);
-  goes_back = record { entry = Via 0 1; matched = refl; leads = refl };
+  met = before_that;
+  goes = record { by = record { entry = Via 0 1; matched = refl; leads = refl }; is_row = refl };
+  near = (may, waits_near (moment_rewired moment (links true)) 5 everywhere 7 2 1 found can_find (after_that, refl, near, everywhere, record { by = record { entry = Via 0 1; matched = refl; leads = refl }; is_row = refl }, end));
+  unpublished = λ e. (let other : 0 ≡ 1 = Some_injective e in omega (arith, other));
 }

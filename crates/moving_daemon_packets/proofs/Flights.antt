@@ -1,18 +1,18 @@
 -- A packet that is long on a link went when it left: the other end was in the session of its row then.
 use Rattle.std.proofs.Common.{refl, sym, ap, subst, ◌∙◌, inl, inr, arith, ◌<◌, ◌≤◌, ◌≡◌, ◌≢◌, ◌⊎◌, ℕ, zero, suc, Bool, true, false, ◌&&◌, ◌==◌, if◌then◌else◌, is_none, eq-eqb, eqb-true, List, [], ◌∷◌, Some, None, slice_get, option_and_then}
-use Rattle.no_packet_loops.proofs.Common.{option_map_or, false≢true, and_parts, and_from, Prefix, Via, Port, Router, Topology, LinkEnd, at_port, None_not_Some, session_at, next_hop, next_hop_at, is_next_hop, router_publishing, router_releasing, changed_at}
-use Rattle.network_model.proofs.Common.{cases_eq}
+use Rattle.no_packet_loops.proofs.Common.{option_map_or, false≢true, and_parts, and_from, Prefix, prefix_cmp, Via, Port, Router, Topology, LinkEnd, at_port, None_not_Some, session_at, next_hop, is_next_hop, router_publishing, router_releasing, changed_at}
+use Rattle.network_model.proofs.Common.{cases_eq, find as row_of}
 use Rattle.router_core.specs.Alone.{router_publishing_some}
 use Rattle.single_router.specs.{declared.input.Input.Input, Inputs.told_fault, Inputs.router_after, Openings.made_router}
 use Rattle.single_router.specs.declared.input.Input.TheVariants as input
 use Rattle.daemon_laws.specs.{Processes.Processes, Packets.is_in_session, Packets.session_leads, Packets.lets_in}
 use Rattle.daemon_laws.specs.Happenings.{Happening, Tells, Takes, Loses, Publishes, PublishesSome, Forgets, Releases, BeginsAnew, CanHappen, with_process, told_router, forgotten, after_happening, link_stays, MayRewire}
 use Rattle.daemon_laws.proofs.Anew.{Anew, Here, Across, Away, anew_at}
-use Rattle.daemon_laws.proofs.{Cases.by_take, Cases.by_release, Numbers.forgotten_ports, Steps.router_here, Steps.router_away, Walks.row_reached, Walks.let_in}
+use Rattle.daemon_laws.proofs.{Cases.by_take, Cases.by_release, Numbers.forgotten_ports, Steps.router_here, Steps.router_away, Walks.control_reached, Walks.row_reached, Walks.let_in}
 use Rattle.daemon_laws.proofs.Rewiring.{Stays, stays_far, stays_at, same_at}
-use Rattle.moving_daemon_packets.specs.Moving.{Moment, moment_next, moment_rewired, moment_after, HoldsAtEveryMoment, DaemonEvent, Goes, Does, Rewires}
+use Rattle.moving_daemon_packets.specs.Moving.{Moment, moment_next, moment_rewired, moment_after, now, HoldsAtEveryMoment, rows_shown, DaemonEvent, Goes, Does, Rewires}
 use Rattle.moving_daemon_packets.specs.Flights.{Survives, IsOnLink, HopsAtOnce, UnmarkedHopsAtOnce}
-use Rattle.moving_daemon_packets.proofs.Calm.{IsKept, kept_next, kept_rewired, now, kept}
+use Rattle.moving_daemon_packets.proofs.Calm.{IsKept, kept_next, kept_rewired, kept}
 
 -- ---- ports
 
@@ -188,27 +188,29 @@ kept_after m K e session (Goes k ∷ es) on = absurd on
 kept_after m K e session (Does h ∷ es) on = kept_after (moment_next m h) (kept_next m h K on.0) e session es on.2
 kept_after m K e session (Rewires t ∷ es) on = kept_after (moment_rewired m t) (kept_rewired m t K on.0) e session es on.2
 
+-- no row is of a session that the other end has not been in
+reached : (m : Moment) → IsKept m → (i q session : ℕ) (p : Prefix) (b : Bool) → row_of prefix_cmp p (rows_shown b m i) ≡ Some (Via q session) → (m.topology).valid (at_port i q) ≡ true → session ≤ (m.processes).last ((m.topology).far (at_port i q))
+reached m K i q session p true row v = control_reached m.topology p (m.fd_published p) m.processes (K p).invariant i q session row v
+reached m K i q session p false row v = row_reached m.topology p (m.fd_published p) m.processes (K p).invariant (K p).orderly (at_port i q) v session
+    (ap (λ o. is_next_hop q session o) (ap (option_and_then next_hop) row) ∙ and_from (q == q) (session == session) (eq-eqb q q refl) (eq-eqb session session refl))
+
 -- so the row led there
 at_once : (m : Moment) → IsKept m → HopsAtOnce m
-at_once m K i k q session p es row on leads = by_test (((moment_after m es).topology).valid (at_port i q) && is_in_session (moment_after m es).processes (((moment_after m es).topology).far (at_port i q)) session) refl leads
+at_once m K i k q session p b es row on leads = by_test (((moment_after m es).topology).valid (at_port i q) && is_in_session (moment_after m es).processes (((moment_after m es).topology).far (at_port i q)) session) refl leads
   where
-    shown : is_next_hop q session (next_hop_at p ((m.processes).routers i)) ≡ true
-    shown = ap (λ o. is_next_hop q session o) (ap (option_and_then next_hop) row) ∙ and_from (q == q) (session == session) (eq-eqb q q refl) (eq-eqb session session refl)
-
-    by_test : (b : Bool) → (((moment_after m es).topology).valid (at_port i q) && is_in_session (moment_after m es).processes (((moment_after m es).topology).far (at_port i q)) session) ≡ b
-        → (if b then Some (((moment_after m es).topology).far (at_port i q)).router else None) ≡ Some k → session_leads m.topology m.processes i (Via q session) ≡ Some k
+    by_test : (c : Bool) → (((moment_after m es).topology).valid (at_port i q) && is_in_session (moment_after m es).processes (((moment_after m es).topology).far (at_port i q)) session) ≡ c
+        → (if c then Some (((moment_after m es).topology).far (at_port i q)).router else None) ≡ Some k → session_leads m.topology m.processes i (Via q session) ≡ Some k
     by_test false is g = absurd (None_not_Some g)
     by_test true is g =
         let parts = and_parts (((moment_after m es).topology).valid (at_port i q)) (is_in_session (moment_after m es).processes (((moment_after m es).topology).far (at_port i q)) session) is in
         let L = same_link m K (at_port i q) session es on parts.0 in
-        let le = row_reached m.topology p (m.fd_published p) m.processes (K p).invariant (K p).orderly (at_port i q) L.valid session shown in
-        let there = was_there m K (at_port i q) session es L.valid le on parts.1 in
-        ap (λ b. if b then Some ((m.topology).far (at_port i q)).router else None) (and_from ((m.topology).valid (at_port i q)) (is_in_session m.processes ((m.topology).far (at_port i q)) session) L.valid there)
+        let there = was_there m K (at_port i q) session es L.valid (reached m K i q session p b row L.valid) on parts.1 in
+        ap (λ c. if c then Some ((m.topology).far (at_port i q)).router else None) (and_from ((m.topology).valid (at_port i q)) (is_in_session m.processes ((m.topology).far (at_port i q)) session) L.valid there)
         ∙ ap (λ (f : LinkEnd). Some f.router) (sym L.far_is) ∙ g
 
 -- a router that lets in what tells no session is in that of the row then, if no message of a later one came before
 in_order : (m : Moment) → IsKept m → UnmarkedHopsAtOnce m
-in_order m K i k q session p es row on before leads = by_test (n.valid (at_port i q)) refl (lets_in v (n.far (at_port i q))) refl leads
+in_order m K i k q session p b es row on before leads = by_test (n.valid (at_port i q)) refl (lets_in v (n.far (at_port i q))) refl leads
   where
     n : Topology
     n = (moment_after m es).topology
@@ -216,20 +218,16 @@ in_order m K i k q session p es row on before leads = by_test (n.valid (at_port 
     v : Processes
     v = (moment_after m es).processes
 
-    shown : is_next_hop q session (next_hop_at p ((m.processes).routers i)) ≡ true
-    shown = ap (λ o. is_next_hop q session o) (ap (option_and_then next_hop) row) ∙ and_from (q == q) (session == session) (eq-eqb q q refl) (eq-eqb session session refl)
-
-    by_test : (b : Bool) → n.valid (at_port i q) ≡ b → (d : Bool) → lets_in v (n.far (at_port i q)) ≡ d → (if b && d then Some (n.far (at_port i q)).router else None) ≡ Some k → session_leads m.topology m.processes i (Via q session) ≡ Some k
-    by_test true a true b g =
+    by_test : (c : Bool) → n.valid (at_port i q) ≡ c → (d : Bool) → lets_in v (n.far (at_port i q)) ≡ d → (if c && d then Some (n.far (at_port i q)).router else None) ≡ Some k → session_leads m.topology m.processes i (Via q session) ≡ Some k
+    by_test true a true h g =
         let L = same_link m K (at_port i q) session es on a in
-        let le = row_reached m.topology p (m.fd_published p) m.processes (K p).invariant (K p).orderly (at_port i q) L.valid session shown in
-        let then_le = last_along m K (at_port i q) session es L.valid le on in
+        let then_le = last_along m K (at_port i q) session es L.valid (reached m K i q session p b row L.valid) on in
         let A = kept_after m K (at_port i q) session es on p in
-        let is = (let_in n p ((moment_after m es).fd_published p) v A.invariant A.orderly (n.far (at_port i q)) b).last_is in
+        let is = (let_in n p ((moment_after m es).fd_published p) v A.invariant A.orderly (n.far (at_port i q)) h).last_is in
         let same : v.heard (n.far (at_port i q)) ≡ session = omega (arith, then_le, is, before) in
-        at_once m K i k q session p es row on
-        (ap (λ c. if c then Some (n.far (at_port i q)).router else None) (and_from (n.valid (at_port i q)) (is_in_session v (n.far (at_port i q)) session) a (ap (is_in_session v (n.far (at_port i q))) (sym same) ∙ b)) ∙ g)
-    by_test _ a _ b g = absurd (None_not_Some g)
+        at_once m K i k q session p b es row on
+        (ap (λ c. if c then Some (n.far (at_port i q)).router else None) (and_from (n.valid (at_port i q)) (is_in_session v (n.far (at_port i q)) session) a (ap (is_in_session v (n.far (at_port i q))) (sym same) ∙ h)) ∙ g)
+    by_test _ a _ h g = absurd (None_not_Some g)
 
 pub always_at_once : HoldsAtEveryMoment HopsAtOnce
 always_at_once t w M = at_once (now t w M) (kept t w M)

@@ -1,13 +1,13 @@
 -- Between two happenings a packet goes along a way of one moment: so its hops end once what happens alone does.
-use Rattle.std.proofs.Common.{refl, ap, ◌∙◌, arith, ◌≤◌, ◌≡◌, ℕ, suc, ◌+◌, ◌*◌, Bool, true, false, ◌&&◌, if◌then◌else◌, List, [], ◌∷◌, length, Some, None, option_and_then}
-use Rattle.no_packet_loops.proofs.Common.{Prefix, Entry, None_not_Some, Some_injective, Topology, LinkEnd, at_port, and_parts, is_met, meets_twice, or_parts, Via, suc-mul, mul-le-mul_right}
+use Rattle.std.proofs.Common.{refl, arith, ◌<◌, ◌≤◌, ◌≡◌, ℕ, suc, ◌+◌, ◌*◌, Bool, true, false, ◌&&◌, if◌then◌else◌, List, [], ◌∷◌, length, Option, Some, None, option_and_then}
+use Rattle.no_packet_loops.proofs.Common.{Prefix, longest_match, Entry, None_not_Some, Some_injective, Topology, LinkEnd, at_port, and_parts, is_met, meets_twice, or_parts, Via, suc-mul, mul-le-mul_right}
 use Rattle.no_packet_loops.proofs.Traces.{AllBelow, few}
 use Rattle.all_packets.specs.Packets.{IsWayBy}
 use Rattle.coming_to_rest.specs.Rest.{IsFinite}
 use Rattle.daemon_laws.specs.Processes.{Processes}
-use Rattle.daemon_laws.specs.Packets.{is_in_session, session_leads, unmarked_leads, lets_in, MayGoOnBy}
+use Rattle.daemon_laws.specs.Packets.{is_in_session, session_leads, unmarked_leads, lets_in, GoesHalfWritten}
 use Rattle.daemon_laws.specs.Happenings.{Happening, after_happening, AreReached, Happened, HoldsAlways}
-use Rattle.daemon_laws.proofs.Always.{always_no_circles, always_no_unmarked_circles}
+use Rattle.daemon_laws.proofs.Always.{always_no_written_circles, always_no_unmarked_written_circles}
 use Rattle.daemons_come_to_rest.specs.Rest.{AllAlone, HasMostHappenings}
 use Rattle.daemons_come_to_rest.proofs.{Bounds.alone_can, Resting.always_bounded}
 use Rattle.moving_daemon_packets.specs.Moving.{DaemonEvent, Goes, Does, Rewires, LeadsOn}
@@ -31,24 +31,25 @@ LeadsAcross leads = (t : Topology) (w : Processes) (i k : ℕ) (e : Entry) → l
 
 -- and no packet meets a router twice along them
 abbrev NeverTwice : LeadsOn → Type 0
-NeverTwice leads = (t : Topology) (w : Processes) → AreReached t w → (addr : ℕ) (way : List ℕ) → IsWayBy (MayGoOnBy (leads t w) w addr) way → meets_twice way ≡ false
+NeverTwice leads = (t : Topology) (w : Processes) → AreReached t w → (addr : ℕ) (way : List ℕ) → IsWayBy (GoesHalfWritten (leads t w) w addr) way → meets_twice way ≡ false
 
 module _ (leads : LeadsOn) (across : LeadsAcross leads) (once : NeverTwice leads) (t : Topology) (F : IsFinite t) (addr : ℕ) where
   -- before the first happening the packet goes along a way
-  way : (w : Processes) (i : ℕ) (es : List DaemonEvent) → IsMoving leads t F.routers w addr i es → IsWayBy (MayGoOnBy (leads t w) w addr) (i ∷ before es)
-  way w i (Goes k ∷ es) h =
-      let G = (h.0).1 in
-      ((false, ap (λ o. option_and_then (λ (r : Prefix × Entry). leads t w i r.1) o) G.matched ∙ G.leads), way w k es h.1)
+  way : (w : Processes) (i : ℕ) (es : List DaemonEvent) → IsMoving leads t F.routers w addr i es → IsWayBy (GoesHalfWritten (leads t w) w addr) (i ∷ before es)
+  way w i (Goes k ∷ es) h = (h.0, way w k es h.1)
   way w i _ h = tt
 
   -- at routers of the network
   below : (w : Processes) (i : ℕ) (es : List DaemonEvent) → IsMoving leads t F.routers w addr i es → AllBelow F.routers (before es)
-  below w i (Goes k ∷ es) h =
-      let G = (h.0).1 in
-      let A = across t w i k G.entry G.leads in
-      let in_it = (F.within A.0 A.1).0 in
-      let same = A.2 in
-      (omega (arith, in_it, same), below w k es h.1)
+  below w i (Goes k ∷ es) h = (by_row (longest_match addr (h.0).table) (h.0).goes, below w k es h.1)
+    where
+      by_row : (o : Option (Prefix × Entry)) → option_and_then (λ (r : Prefix × Entry). leads t w i r.1) o ≡ Some k → k < F.routers
+      by_row None goes = absurd (None_not_Some goes)
+      by_row (Some r) goes =
+          let A = across t w i k r.1 goes in
+          let in_it = (F.within A.0 A.1).0 in
+          let same = A.2 in
+          omega (arith, in_it, same)
   below w i _ h = tt
 
   -- so it comes to few
@@ -105,7 +106,7 @@ unmarked_across t w i k (Via q session) h = across_link t (at_port i q) session 
 unmarked_across t w i k _ h = absurd (None_not_Some h)
 
 pub marked_end : HoldsAlways (HopsEnd session_leads)
-marked_end = hops_end session_leads marked_across always_no_circles
+marked_end = hops_end session_leads marked_across always_no_written_circles
 
 pub unmarked_end : HoldsAlways (HopsEnd unmarked_leads)
-unmarked_end = hops_end unmarked_leads unmarked_across always_no_unmarked_circles
+unmarked_end = hops_end unmarked_leads unmarked_across always_no_unmarked_written_circles

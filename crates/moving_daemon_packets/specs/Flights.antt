@@ -1,11 +1,11 @@
 -- A packet that is long on a link: it leaves in one moment, and is let in in a later one.
-use Rattle.std.specs.Prelude.{◌≡◌, ◌≢◌, ℕ, ◌≤◌, true, List, [], ◌∷◌, Some, ⊤}
+use Rattle.std.specs.Prelude.{◌≡◌, ◌≢◌, ℕ, ◌≤◌, Bool, true, List, [], ◌∷◌, Some, ⊤}
 use Rattle.std.specs.FinMap.{find as row_of}
 use Rattle.ipv4_prefix.specs.Prefix.{Prefix, prefix_cmp}
 use Rattle.network_model.specs.{declared.route.Entry.Entry, View.LinkEnd, View.at_port}
-use Rattle.daemon_laws.specs.Packets.{rows_in_force, session_leads, unmarked_leads}
+use Rattle.daemon_laws.specs.Packets.{session_leads, unmarked_leads}
 use Rattle.daemon_laws.specs.Happenings.{Happening, BeginsAnew, CanHappen, own_session, MayRewire, link_stays}
-use Rattle.moving_daemon_packets.specs.Moving.{Moment, moment_next, moment_rewired, moment_after, DaemonEvent, Goes, Does, Rewires}
+use Rattle.moving_daemon_packets.specs.Moving.{Moment, moment_next, moment_rewired, moment_after, rows_shown, DaemonEvent, Goes, Does, Rewires}
 
 -- a packet that left by this end of a link in this session is not lost by what happens. What is on its way to a process ends with it, and so does what is on
 -- its way from one, but in sessions that the process at the other end has come into
@@ -20,13 +20,13 @@ IsOnLink e session m (Goes k ∷ es) = ⊥
 IsOnLink e session m (Does h ∷ es) = CanHappen m.processes h × Survives e session m h × IsOnLink e session (moment_next m h) es
 IsOnLink e session m (Rewires t ∷ es) = MayRewire m.topology t m.processes × (link_stays m.topology t e ≡ true) × IsOnLink e session (moment_rewired m t) es
 
--- where its row leads when the packet is let in, it led when the packet left: so the hop may count as made then
+-- where its row, published or chosen, leads when the packet is let in, it led when the packet left: so the hop may count as made then
 abbrev pub HopsAtOnce : Moment → Type 0
-HopsAtOnce m = (i k q session : ℕ) (p : Prefix) (es : List DaemonEvent) → row_of prefix_cmp p (rows_in_force m.processes i) ≡ Some (Entry.Via q session) → IsOnLink (at_port i q) session m es
+HopsAtOnce m = (i k q session : ℕ) (p : Prefix) (b : Bool) (es : List DaemonEvent) → row_of prefix_cmp p (rows_shown b m i) ≡ Some (Entry.Via q session) → IsOnLink (at_port i q) session m es
     → session_leads (moment_after m es).topology (moment_after m es).processes i (Entry.Via q session) ≡ Some k → session_leads m.topology m.processes i (Entry.Via q session) ≡ Some k
 
 -- the same where packets tell no session, if the packet comes before each message of a later session
 abbrev pub UnmarkedHopsAtOnce : Moment → Type 0
-UnmarkedHopsAtOnce m = (i k q session : ℕ) (p : Prefix) (es : List DaemonEvent) → row_of prefix_cmp p (rows_in_force m.processes i) ≡ Some (Entry.Via q session) → IsOnLink (at_port i q) session m es
+UnmarkedHopsAtOnce m = (i k q session : ℕ) (p : Prefix) (b : Bool) (es : List DaemonEvent) → row_of prefix_cmp p (rows_shown b m i) ≡ Some (Entry.Via q session) → IsOnLink (at_port i q) session m es
     → ((moment_after m es).processes).heard (((moment_after m es).topology).far (at_port i q)) ≤ session
     → unmarked_leads (moment_after m es).topology (moment_after m es).processes i (Entry.Via q session) ≡ Some k → session_leads m.topology m.processes i (Entry.Via q session) ≡ Some k

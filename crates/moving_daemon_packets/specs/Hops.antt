@@ -1,16 +1,16 @@
 -- How far a packet goes between routers in processes of their own, once these are left alone.
 use Rattle.std.specs.Prelude.{ℕ, suc, ◌≤◌, List, [], ◌∷◌, ⊤}
-use Rattle.ipv4_prefix.specs.Prefix.{Prefix}
 use Rattle.loop_freedom.specs.Network.{Topology}
 use Rattle.coming_to_rest.specs.Rest.{IsFinite}
-use Rattle.daemon_laws.specs.{Processes.Processes, Packets.IsForwardedByRows, Packets.rows_in_force, Happenings.after_happening}
+use Rattle.daemon_laws.specs.{Processes.Processes, Packets.GoesHalfWritten, Happenings.after_happening}
 use Rattle.daemons_come_to_rest.specs.Rest.{HappensAlone}
 use Rattle.moving_daemon_packets.specs.Moving.{DaemonEvent, Goes, Does, Rewires, LeadsOn}
 
--- a packet goes on along the rows in force at each moment, and nothing happens but what happens alone among the first n routers
+-- a packet goes on along rows of half-written tables at each moment, or of any table of a router that lets nothing in, and nothing happens but what happens
+-- alone among the first n routers
 abbrev pub IsMoving : LeadsOn → Topology → ℕ → Processes → ℕ → ℕ → List DaemonEvent → Type 0
 IsMoving leads t n w addr i [] = ⊤
-IsMoving leads t n w addr i (Goes k ∷ es) = ((p : Prefix) × IsForwardedByRows (leads t w) (rows_in_force w) addr p i k) × IsMoving leads t n w addr k es
+IsMoving leads t n w addr i (Goes k ∷ es) = GoesHalfWritten (leads t w) w addr i k × IsMoving leads t n w addr k es
 IsMoving leads t n w addr i (Does h ∷ es) = HappensAlone n w h × IsMoving leads t n (after_happening t w h) addr i es
 IsMoving leads t n w addr i (Rewires t' ∷ es) = ⊥
 

@@ -1,6 +1,6 @@
 -- What holds of each history that lawful steps make, and of one more step.
-use Rattle.std.proofs.Common.{refl, sym, ap, subst, ◌∙◌, inl, inr, arith, ◌<◌, ◌≡◌, ◌⊎◌, ℕ, zero, suc, Bool, true, false, ◌==◌, if◌then◌else◌, List, [], ◌∷◌, ◌++◌, Option, Some, None, slice_get, slice_set, option_and_then, eq-eqb}
-use Rattle.no_packet_loops.proofs.Common.{option_map_or, cases_eq, Prefix, prefix_cmp, covers, infinity, Entry, Router, World, Network, opening, machine_of, Lawful, Runs, History, history, history_from, with_step, with_steps, published_after, fd_in, Some_injective, IsNetwork, find as row_of, is_sorted, longest_match-found, Item, Notice, changed_at, changed_link, router_publishing, router_releasing, router_accepting, router_at_home, with_cost, with_front_taken, with_message, with_delivered, with_noticed, with_released, front_at, notice_at, release_at, next, option_map_or-ind, routers-changed_link, Step, SetCost, Deliver, Publish, Release}
+use Rattle.std.proofs.Common.{refl, sym, ap, subst, ◌∙◌, inl, inr, arith, ◌<◌, ◌≡◌, ◌⊎◌, ℕ, zero, suc, Bool, true, false, ◌==◌, if◌then◌else◌, List, [], ◌∷◌, ◌++◌, Option, Some, None, IsSome, slice_get, slice_set, option_and_then, eq-eqb}
+use Rattle.no_packet_loops.proofs.Common.{option_map_or, cases_eq, false≢true, Prefix, prefix_cmp, covers, infinity, Entry, Router, World, Network, opening, machine_of, Lawful, Runs, History, history, history_from, with_step, with_steps, published_after, fd_in, Some_injective, IsNetwork, find as row_of, is_sorted, longest_match-found, Item, Notice, changed_at, changed_link, router_publishing, router_releasing, router_accepting, router_at_home, with_cost, with_front_taken, with_message, with_delivered, with_noticed, with_released, front_at, notice_at, release_at, next, option_map_or-ind, routers-changed_link, Step, SetCost, Deliver, Publish, Release}
 use Rattle.no_packet_loops.specs.Packets.{DistancesFall, mixture_rows}
 use Rattle.no_packet_loops.proofs.{Wiring.IsWired, Wiring.wired, View.on_router-miss, View.on_router-same, Publishing.control_sorted, Runs.Reached, Runs.reached, Runs.history_world, Walks.distances_fall, Walks.match_is_row, WorldLaws.runs_more}
 use Rattle.all_packets.proofs.{Matches.GoesBefore, Matches.found, Known.Fits, Known.fits_leads, Known.always_fits, Ways.rows_by}
@@ -74,10 +74,14 @@ module _ (h : History) (M : IsMade h) where
   row_is c addr i k p F = sym (is_entry c h i p) ∙ match_is_row addr p F.entry (rows c i) (in_order c i) F.matched
 
   -- the prefix of the row goes before each that the router has a row of
-  pub goes_before : (c : Bool) (addr i k : ℕ) (p q : Prefix) (e : Entry) → IsSent c h addr p i k → covers q addr ≡ true → entry_shown c h i q ≡ Some e → GoesBefore p q
-  goes_before c addr i k p q e F covered_is row =
-      let D = found addr q e (rows c i) (in_order c i) (is_entry c h i q ∙ row) covered_is in
-      subst (λ (x : Prefix × Entry). GoesBefore x.0 q) (Some_injective (sym D.matched ∙ F.matched)) D.before
+  pub goes_before : (c : Bool) (addr i k : ℕ) (p q : Prefix) → IsSent c h addr p i k → covers q addr ≡ true → IsSome (entry_shown c h i q) → GoesBefore p q
+  goes_before c addr i k p q F covered_is some = by_row (entry_shown c h i q) refl some
+    where
+      by_row : (o : Option Entry) → entry_shown c h i q ≡ o → IsSome o → GoesBefore p q
+      by_row None is none = absurd (false≢true none)
+      by_row (Some e) is one =
+          let D = found addr q e (rows c i) (in_order c i) (is_entry c h i q ∙ is) covered_is in
+          subst (λ (x : Prefix × Entry). GoesBefore x.0 q) (Some_injective (sym D.matched ∙ F.matched)) D.before
 
   -- where a packet goes on, both feasible distances of the router that it comes to are below that of the row
   pub lower : (c d : Bool) (addr i k : ℕ) (p : Prefix) → IsSent c h addr p i k → fd_shown d h p k < fd_shown c h p i
@@ -94,12 +98,12 @@ module _ (h : History) (M : IsMade h) where
       (subst (λ (x : History). Fits (row_of prefix_cmp p (mixture_rows (λ j. false) x.world i)) (fd_in x.published p i)) M.is (always_fits M.network wired_is M.steps h.world M.runs p i false))
 
   -- so a router whose feasible distance is below infinity has a row that goes with it
-  pub has_row : (c : Bool) (p : Prefix) (i : ℕ) → fd_shown c h p i < infinity → (e : Entry) × (entry_shown c h i p ≡ Some e)
+  pub has_row : (c : Bool) (p : Prefix) (i : ℕ) → fd_shown c h p i < infinity → IsSome (entry_shown c h i p)
   has_row c p i lt = by_row (entry_shown c h i p) (fits c p i)
     where
-      by_row : (o : Option Entry) → Fits o (fd_shown c h p i) → (e : Entry) × (o ≡ Some e)
+      by_row : (o : Option Entry) → Fits o (fd_shown c h p i) → IsSome o
       by_row None top = absurd (omega (arith, top, lt))
-      by_row (Some e) f = (e, refl)
+      by_row (Some e) f = refl
 
   -- and one that leads on has one below infinity
   pub finite : (c : Bool) (addr i k : ℕ) (p : Prefix) → IsSent c h addr p i k → fd_shown c h p i < infinity
