@@ -1,17 +1,15 @@
 /*
- * Times and bytes of tables with the same rows: the proved image, a tree bitmap in C, a binary trie in C,
- * and, where bench/run finds DPDK, its rte_lpm and rte_fib.
+ * Times and bytes of tables with the same rows: the proved image by rows and by words, a tree bitmap in C, and,
+ * where bench/run finds DPDK, its rte_lpm and rte_fib.
  *
- *     lookup [internet] [PREFIXES [LOOKUPS [SEED]]]
+ *     lookup [PREFIXES [ROUNDS [SEED]]]
  *
- * Of the rows, 55 percent are /24, 30 percent /16 to /22, the others /8 to /32; those drawn twice are left
- * out. With `internet` lengths are nearly those of today's Internet tables: 60 percent /24, 20 percent /22
- * and /23, 15 percent /16 to /21, 4.5 percent /25 to /32 and 0.5 percent /8 to /15; and rows are drawn until
- * there are as many as asked for. A third lie inside an earlier row. Half of the addresses lie inside a row,
- * the others are any.
+ * bench/tables.c says how rows lie, and which addresses a mix has. In each round each way looks up all addresses
+ * of the mix, one way after another, and its time is compared with that of the first way of DPDK, or else of the
+ * tree bitmap, in the same round. So other work on the machine counts as little as it can.
  *
- * Every answer is compared with the proved image's, and after the patches again; the image's first answers
- * are compared with a scan of all rows.
+ * Every answer is compared with the proved image's, and after the patches again; the image's first answers are
+ * compared with a scan of all rows.
  */
 #define _GNU_SOURCE
 #include "lookup.h"
@@ -19,20 +17,18 @@
 #include <inttypes.h>
 #include <malloc.h>
 #include <stdarg.h>
-#include <stdbool.h>
 #include <stdio.h>
 #include <stdlib.h>
 #include <string.h>
 #include <time.h>
-#include <unistd.h>
-
-static const uint64_t TRIED = UINT64_C(1) << 34; /* rows that scans try at most */
 
 enum {
-    SCANNED = 100000, /* addresses whose answers are compared with a scan, at most */
-    PATCHES = 100000, /* patches of one row, at most */
-    AGAIN = 1000000,  /* addresses looked up after the patches, at most */
-    STRIDE = 4,       /* address bits a node of a tree bitmap */
+    SCANNED = 1 << 28,   /* rows that scans try at most */
+    PATCHES = 100000,    /* patches of one row whose mean is taken, at most */
+    MOST_ROUNDS = 100,
+    COLD_ROUNDS = 21,
+    STRIDE = 4,          /* address bits a node of a tree bitmap */
+    NONE = UINT32_MAX,   /* no node, no row */
 };
 
 void stop(const char *format, ...)
@@ -53,124 +49,14 @@ static void *granted(void *room)
     return room;
 }
 
-static void *ample(size_t count, size_t size)
+void *ample(size_t count, size_t size)
 {
     return granted(calloc(count ? count : 1, size));
-}
-
-/* Random numbers: splitmix64. */
-static uint64_t random_state;
-
-static uint64_t next_random(void)
-{
-    uint64_t z = (random_state += 0x9e3779b97f4a7c15u);
-    z = (z ^ (z >> 30)) * 0xbf58476d1ce4e5b9u;
-    z = (z ^ (z >> 27)) * 0x94d049bb133111ebu;
-    return z ^ (z >> 31);
-}
-
-static uint32_t below(uint32_t limit)
-{
-    return (uint32_t)(next_random() % limit);
-}
-
-static uint32_t mask(uint8_t len)
-{
-    return len == 0 ? 0 : UINT32_MAX << (32 - len);
 }
 
 static bool covers(const table_row *row, uint32_t addr)
 {
     return (addr & mask(row->len)) == row->addr;
-}
-
-/* Rows. */
-
-static int compare_rows(const void *left, const void *right)
-{
-    const table_row *a = left, *b = right;
-    if (a->addr != b->addr)
-        return a->addr < b->addr ? -1 : 1;
-    return (int)a->len - (int)b->len;
-}
-
-static uint8_t random_length(void)
-{
-    uint32_t percent = below(100);
-    if (percent < 55)
-        return 24;
-    if (percent < 85)
-        return (uint8_t)(16 + below(7));
-    return (uint8_t)(8 + below(25));
-}
-
-/* Of /8 to /15, each is drawn twice as often as the one before. */
-static uint8_t internet_length(void)
-{
-    uint32_t thousandth = below(1000);
-    if (thousandth < 600)
-        return 24;
-    if (thousandth < 800)
-        return (uint8_t)(22 + below(2));
-    if (thousandth < 950)
-        return (uint8_t)(16 + below(6));
-    if (thousandth < 995)
-        return (uint8_t)(25 + below(8));
-    return (uint8_t)(39 - __builtin_clz(1 + below(255)));
-}
-
-/* A row, after `count` others. */
-static table_row random_row(const table_row *rows, size_t count, bool internet)
-{
-    uint8_t len = internet ? internet_length() : random_length();
-    uint32_t addr = (uint32_t)next_random();
-    if (count > 0 && below(3) == 0) {
-        const table_row *outer = &rows[below((uint32_t)count)];
-        for (int tries = 0; outer->len >= len && tries < 100; tries++)
-            outer = &rows[below((uint32_t)count)];
-        if (outer->len < len)
-            addr = outer->addr | (addr & ~mask(outer->len));
-    }
-    return (table_row){
-        .addr = addr & mask(len),
-        .len = len,
-        .kind = TUHVONDI_VIA,
-        .port = (uint8_t)below(32),
-        .session = 1,
-    };
-}
-
-/* Fewer rows than asked for where some were drawn twice, but for `internet`. */
-static table make_table(size_t wanted, bool internet)
-{
-    table t = { .rows = ample(2 * wanted, sizeof *t.rows) };
-    do {
-        for (size_t i = t.count; i < wanted; i++)
-            t.rows[i] = random_row(t.rows, i, internet);
-        qsort(t.rows, wanted, sizeof *t.rows, compare_rows);
-        t.count = 0;
-        for (size_t i = 0; i < wanted; i++)
-            if (t.count == 0 || compare_rows(&t.rows[t.count - 1], &t.rows[i]) != 0)
-                t.rows[t.count++] = t.rows[i];
-    } while (internet && t.count < wanted);
-    for (size_t i = 0; i < t.count; i++) {
-        t.rows[t.count + i] = t.rows[i];
-        t.rows[t.count + i].port ^= 1;
-    }
-    return t;
-}
-
-static uint32_t *make_addresses(const table *t, size_t count)
-{
-    uint32_t *addrs = ample(count, sizeof *addrs);
-    for (size_t i = 0; i < count; i++) {
-        addrs[i] = (uint32_t)next_random();
-        if (i % 2 == 0) {
-            const table_row *row = &t->rows[below((uint32_t)t->count)];
-            addrs[i] = row->addr | (addrs[i] & ~mask(row->len));
-        }
-    }
-    return addrs;
 }
 
 /* The longest match by trying each row. */
@@ -183,12 +69,6 @@ static table_row scan(const table *t, uint32_t addr)
             best = *row;
     }
     return best;
-}
-
-/* A table in C has rows of its own. */
-static table_row *copy_rows(const table *t)
-{
-    return memcpy(ample(t->count, sizeof *t->rows), t->rows, t->count * sizeof *t->rows);
 }
 
 /* The proved image. */
@@ -242,111 +122,85 @@ static void image_end(void)
 }
 
 static const way IMAGE = {
-    .name = "proved image",
+    .name = "proved image, rows",
     .make = image_make,
     .patch = image_patch,
     .held = image_held,
-    .calls = { image_one_by_one, image_by_bursts, image_look_up },
+    .calls = { image_one_by_one, image_by_bursts },
     .end = image_end,
 };
 
-/* A binary trie: a node for each bit. */
+/* The proved image with words. */
 
-typedef struct {
-    uint32_t child[2];
-    uint32_t row;
-} trie_node;
+static struct tuhvondi_image worded = TUHVONDI_NO_IMAGE;
+static const table *numbered; /* the rows by their numbers */
+static uint32_t hops[BATCH];
 
-static struct {
-    trie_node *nodes;
-    uint32_t node_count;
-    uint32_t node_room;
-    table_row *rows;
-    size_t row_count;
-} trie;
-
-static void trie_resize(uint32_t room)
+uint32_t *numbers(size_t count)
 {
-    trie.nodes = granted(realloc(trie.nodes, room * sizeof *trie.nodes));
-    trie.node_room = room;
+    uint32_t *all = ample(count, sizeof *all);
+    for (size_t i = 0; i < count; i++)
+        all[i] = (uint32_t)i;
+    return all;
 }
 
-static uint32_t trie_add(void)
+static void words_make(const table *t)
 {
-    if (trie.node_count == trie.node_room)
-        trie_resize(trie.node_room ? 2 * trie.node_room : 1024);
-    trie.nodes[trie.node_count] = (trie_node){ { NONE, NONE }, NONE };
-    return trie.node_count++;
+    uint32_t *all = numbers(t->count);
+    numbered = t;
+    image_done(tuhvondi_image_new_words(t->rows, t->count, all, t->count, &worded));
+    free(all);
 }
 
-static void trie_make(const table *t)
+static void words_patch(const table *t, uint32_t n)
 {
-    trie.rows = copy_rows(t);
-    trie.row_count = t->count;
-    trie_add();
-    for (size_t i = 0; i < t->count; i++) {
-        uint32_t at = 0;
-        for (int depth = 0; depth < t->rows[i].len; depth++) {
-            int bit = t->rows[i].addr >> (31 - depth) & 1;
-            if (trie.nodes[at].child[bit] == NONE) {
-                uint32_t child = trie_add();
-                trie.nodes[at].child[bit] = child;
-            }
-            at = trie.nodes[at].child[bit];
-        }
-        trie.nodes[at].row = (uint32_t)i;
-    }
-    trie_resize(trie.node_count);
+    uint32_t hop = (uint32_t)t->count + n;
+    image_done(tuhvondi_image_apply_words(&worded, ++generation, &t->rows[hop], 1, &hop, 1));
 }
 
-static void trie_patch(const table *t, uint32_t n)
+static void words_one_by_one(const uint32_t *addrs, table_row *answers, size_t count)
 {
-    const table_row *row = &t->rows[t->count + n];
-    uint32_t at = 0;
-    for (int depth = 0; depth < row->len; depth++)
-        at = trie.nodes[at].child[row->addr >> (31 - depth) & 1];
-    trie.rows[trie.nodes[at].row] = *row;
+    (void)answers;
+    for (size_t i = 0; i < count; i++)
+        image_done(tuhvondi_image_lookup_words(&worded, &addrs[i], 1, &hops[i], 1));
 }
 
-static size_t trie_held(void)
+static void words_by_bursts(const uint32_t *addrs, table_row *answers, size_t count)
 {
-    return trie.node_room * sizeof *trie.nodes + trie.row_count * sizeof *trie.rows;
-}
-
-static void trie_look_up(const uint32_t *addrs, table_row *answers, size_t count)
-{
-    const trie_node *nodes = trie.nodes;
-    const table_row *rows = trie.rows;
-    for (size_t i = 0; i < count; i++) {
-        uint32_t at = 0, best = NONE;
-        for (int depth = 0;; depth++) {
-            const trie_node *node = &nodes[at];
-            if (node->row != NONE)
-                best = node->row;
-            if (depth == 32)
-                break;
-            at = node->child[addrs[i] >> (31 - depth) & 1];
-            if (at == NONE)
-                break;
-        }
-        answers[i] = best == NONE ? NO_MATCH : rows[best];
+    (void)answers;
+    for (size_t done = 0; done < count; done += BURST) {
+        size_t some = least(count - done, BURST);
+        image_done(tuhvondi_image_lookup_words(&worded, &addrs[done], some, &hops[done], some));
     }
 }
 
-static void trie_end(void)
+static void words_read(table_row *answers, size_t count)
 {
-    free(trie.nodes);
-    free(trie.rows);
+    for (size_t i = 0; i < count; i++)
+        answers[i] = hops[i] == TUHVONDI_NO_WORD ? NO_MATCH : numbered->rows[hops[i]];
+    memset(hops, 0, count * sizeof *hops);
 }
 
-static const way TRIE = {
-    .name = "binary trie in C",
-    .make = trie_make,
-    .patch = trie_patch,
-    .held = trie_held,
-    .calls = { trie_look_up },
-    .end = trie_end,
+static void words_end(void)
+{
+    tuhvondi_image_free(&worded);
+}
+
+static const way WORDS = {
+    .name = "proved image, words",
+    .make = words_make,
+    .patch = words_patch,
+    .held = image_held,
+    .calls = { words_one_by_one, words_by_bursts },
+    .read = words_read,
+    .end = words_end,
 };
+
+/* A table in C has rows of its own. */
+static table_row *copy_rows(const table *t)
+{
+    return memcpy(ample(t->count, sizeof *t->rows), t->rows, t->count * sizeof *t->rows);
+}
 
 /*
  * A tree bitmap: four address bits a node. Bit 2^n - 1 + v of `internal` is the prefix of the
@@ -500,13 +354,14 @@ static const way BITMAP = {
 };
 
 static const way *const WAYS[] = {
-    &IMAGE,
-    &BITMAP,
-    &TRIE,
 #ifdef LOOKUP_DPDK
     &LPM,
     &FIB,
+    &WIDE_FIB,
 #endif
+    &BITMAP,
+    &IMAGE,
+    &WORDS,
 };
 
 enum { WAY_COUNT = sizeof WAYS / sizeof *WAYS };
@@ -515,65 +370,47 @@ enum { WAY_COUNT = sizeof WAYS / sizeof *WAYS };
 
 static table_row found[BATCH];
 
-static uint64_t word(const table_row *row)
-{
-    return (uint64_t)row->addr << 32 | (uint64_t)row->len << 24 | (uint64_t)row->kind << 16
-        | (uint64_t)row->port << 8 | row->session;
-}
-
-static uint64_t sum(uint64_t before, const table_row *row)
-{
-    return (before ^ word(row)) * 0x100000001b3u;
-}
-
 static void expect(const table_row *expected, const uint32_t *addrs, size_t count, const char *name)
 {
     for (size_t i = 0; i < count; i++)
-        if (word(&found[i]) != word(&expected[i]))
+        if (found[i].addr != expected[i].addr || found[i].len != expected[i].len || found[i].kind != expected[i].kind
+            || found[i].port != expected[i].port || found[i].session != expected[i].session)
             stop("%s: another answer than expected for the address %08" PRIx32, name, addrs[i]);
 }
 
 /* Compares each answer of each call with that of the proved image. */
-static void compare_ways(const uint32_t *addrs, size_t lookups)
+static void compare_ways(const uint32_t *addrs)
 {
     static table_row expected[BATCH];
-    for (size_t done = 0; done < lookups; done += BATCH) {
-        size_t count = least(lookups - done, BATCH);
-        image_look_up(&addrs[done], expected, count);
-        for (size_t k = 0; k < WAY_COUNT * CALLS; k++) {
-            const way *w = WAYS[k / CALLS];
-            look_up *call = w->calls[k % CALLS];
-            if (!call)
-                continue;
+    for (size_t k = 0; k < WAY_COUNT * CALLS; k++) {
+        const way *w = WAYS[k / CALLS];
+        look_up *call = w->calls[k % CALLS];
+        if (!call)
+            continue;
+        if (w->choose)
+            w->choose();
+        for (size_t done = 0; done < ADDRESSES; done += BATCH) {
+            image_look_up(&addrs[done], expected, BATCH);
             memset(found, 0xff, sizeof found); /* no answer of the call before counts */
-            call(&addrs[done], found, count);
+            call(&addrs[done], found, BATCH);
             if (w->read)
-                w->read(found, count);
-            expect(expected, &addrs[done], count, w->name);
+                w->read(found, BATCH);
+            expect(expected, &addrs[done], BATCH, w->name);
         }
     }
 }
 
-/* Compares the first answers of the proved image with a scan, and says how many. */
-static size_t compare_scan(const table *t, const uint32_t *addrs, size_t lookups)
+/* Compares the first answers of the proved image with a scan. */
+static void compare_scan(const table *t, const uint32_t *addrs)
 {
-    size_t scanned = least(least(lookups, SCANNED), TRIED / t->count);
-    for (size_t i = 0; i < scanned; i++) {
+    for (size_t i = 0; i < least(ADDRESSES, SCANNED / t->count); i++) {
         table_row expected = scan(t, addrs[i]);
         image_look_up(&addrs[i], found, 1);
         expect(&expected, &addrs[i], 1, "proved image beside a scan");
     }
-    return scanned;
 }
 
-/* Times and bytes. */
-
-typedef struct {
-    double times[CALLS], made, patched; /* nanoseconds */
-    double held, resident;              /* bytes */
-} figures;
-
-/* Of this thread's processor time, so that other work on the machine counts as little as it can. */
+/* Times, in nanoseconds of this thread's processor time. */
 static double now(void)
 {
     struct timespec time;
@@ -581,86 +418,114 @@ static double now(void)
     return (double)time.tv_sec * 1e9 + (double)time.tv_nsec;
 }
 
-/* The bytes of this process that are in memory, without what malloc keeps for later. */
-static double resident(void)
+static int compare_numbers(const void *left, const void *right)
 {
-    unsigned long pages;
-    malloc_trim(0);
-    FILE *file = fopen("/proc/self/statm", "r");
-    if (!file || fscanf(file, "%*u %lu", &pages) != 1)
-        stop("/proc/self/statm cannot be read");
-    fclose(file);
-    return (double)pages * (double)sysconf(_SC_PAGESIZE);
+    const double *a = left, *b = right;
+    return *a < *b ? -1 : *a > *b;
 }
+
+static double median(double *of, size_t count)
+{
+    qsort(of, count, sizeof *of, compare_numbers);
+    return of[count / 2];
+}
+
+/* What a look-up takes. */
+static double time_call(const way *w, look_up *call, const uint32_t *addrs)
+{
+    if (w->choose)
+        w->choose();
+    double begin = now();
+    for (size_t done = 0; done < ADDRESSES; done += BATCH)
+        call(&addrs[done], found, BATCH);
+    return (now() - begin) / ADDRESSES;
+}
+
+/* The call of a way that is compared with others of so many addresses: the C tree has one for all. */
+static look_up *call_of(const way *w, int call)
+{
+    return w->calls[call] ? w->calls[call] : w->calls[1 - call];
+}
+
+/* The median times of all ways, and the medians of their ratios to the first way. */
+static void print_mix(const char *name, const uint32_t *addrs, size_t rounds)
+{
+    static double times[WAY_COUNT][CALLS][MOST_ROUNDS], ratios[WAY_COUNT][CALLS][MOST_ROUNDS];
+    for (size_t round = 0; round < rounds; round++)
+        for (int call = 0; call < CALLS; call++)
+            for (size_t k = 0; k < WAY_COUNT; k++) {
+                times[k][call][round] = time_call(WAYS[k], call_of(WAYS[k], call), addrs);
+                ratios[k][call][round] = times[k][call][round] / times[0][call][round];
+            }
+    for (size_t k = 0; k < WAY_COUNT; k++)
+        printf("%-12s %-24s %10.1f %10.1f %10.2f %10.2f\n", k ? "" : name, WAYS[k]->name,
+               median(times[k][ONE_BY_ONE], rounds), median(times[k][BY_BURSTS], rounds),
+               median(ratios[k][ONE_BY_ONE], rounds), median(ratios[k][BY_BURSTS], rounds));
+}
+
+/* A burst after other memory has taken the caches. */
+static void print_cold(const uint32_t *addrs)
+{
+    enum { OTHER = 80 << 20, LINE = 64 };
+    static double times[WAY_COUNT][COLD_ROUNDS];
+    uint8_t *other = ample(OTHER, 1);
+    for (size_t round = 0; round < COLD_ROUNDS; round++)
+        for (size_t k = 0; k < WAY_COUNT; k++) {
+            if (WAYS[k]->choose)
+                WAYS[k]->choose();
+            for (size_t i = 0; i < OTHER; i += LINE)
+                other[i]++;
+            double begin = now();
+            call_of(WAYS[k], BY_BURSTS)(&addrs[round * BURST], found, BURST);
+            times[k][round] = (now() - begin) / BURST;
+        }
+    for (size_t k = 0; k < WAY_COUNT; k++)
+        printf("%-12s %-24s %10s %10.1f\n", k ? "" : "cold hits", WAYS[k]->name, "", median(times[k], COLD_ROUNDS));
+    free(other);
+}
+
+/* Tables made and patched. */
+
+typedef struct {
+    double held, made, patched, longest;
+} figures;
 
 static void make(const way *w, const table *t, figures *f)
 {
+    if (!w->make)
+        return;
     size_t held = w->held();
-    f->resident = -resident();
     double begin = now();
     w->make(t);
     f->made = now() - begin;
-    f->resident += resident();
     f->held = (double)(w->held() - held);
 }
 
-/* The time of a look-up, and a checksum of all answers. */
-static double measure_call(const way *w, look_up *call, const uint32_t *addrs, size_t lookups, uint64_t *checksum)
-{
-    double time = 0;
-    *checksum = 0xcbf29ce484222325u;
-    for (size_t done = 0; done < lookups; done += BATCH) {
-        size_t count = least(lookups - done, BATCH);
-        double begin = now();
-        call(&addrs[done], found, count);
-        time += now() - begin;
-        if (w->read)
-            w->read(found, count);
-        for (size_t i = 0; i < count; i++)
-            *checksum = sum(*checksum, &found[i]);
-    }
-    return time / (double)lookups;
-}
-
-/* The times of all calls, and the checksum of each. */
-static uint64_t measure_look_ups(const uint32_t *addrs, size_t lookups, figures *all)
-{
-    uint64_t checksum = 0, other;
-    for (size_t k = 0; k < WAY_COUNT * CALLS; k++) {
-        const way *w = WAYS[k / CALLS];
-        look_up *call = w->calls[k % CALLS];
-        if (!call)
-            continue;
-        all[k / CALLS].times[k % CALLS] = measure_call(w, call, addrs, lookups, &other);
-        if (k > 0 && other != checksum)
-            stop("%s: the checksum of its answers is another than the proved image's", w->name);
-        checksum = other;
-    }
-    return checksum;
-}
-
-/* The number of a row that does not cover the last address. When such a row is set again, rte_fib of DPDK
- * 22.11 may answer every address by it from then on. */
-static uint32_t patched_row(const table *t)
-{
-    uint32_t n = below((uint32_t)t->count);
-    while (n > 0 && covers(&t->rows[n], UINT32_MAX))
-        n--;
-    return n;
-}
-
-/* Patches of one row each: the time goes by the nodes on its path. */
+/* Patches of one row each: first their mean, and then the longest of so many that an image with words is made anew,
+ * for at most five seconds. */
 static void measure_patches(const table *t, figures *all)
 {
     size_t patches = least(t->count, PATCHES);
     uint32_t *drawn = ample(patches, sizeof *drawn);
     for (size_t i = 0; i < patches; i++)
-        drawn[i] = patched_row(t);
+        drawn[i] = below((uint32_t)t->count);
     for (size_t k = 0; k < WAY_COUNT; k++) {
+        if (!WAYS[k]->patch)
+            continue;
         double begin = now();
         for (size_t i = 0; i < patches; i++)
             WAYS[k]->patch(t, drawn[i]);
         all[k].patched = (now() - begin) / (double)patches;
+        begin = now();
+        for (size_t i = 0; i < 2 * t->count; i++) {
+            double from = now();
+            WAYS[k]->patch(t, drawn[i % patches]);
+            double to = now();
+            if (to - from > all[k].longest)
+                all[k].longest = to - from;
+            if (to - begin > 5e9)
+                break;
+        }
     }
     free(drawn);
 }
@@ -684,23 +549,13 @@ static void print_short_patches(void)
     printf("\n");
 }
 
-static void print(const figures *all, double rows)
+static void print_tables(const figures *all, double rows)
 {
-    _Static_assert(BURST == 32 && BATCH == 4096, "the names of columns");
-    printf("%-18s %32s %25s %11s %11s\n", "", "ns a look-up", "bytes a row", "ms", "ns");
-    printf("%-18s %10s %10s %10s %12s %12s %11s %11s\n", "", "one by one", "by 32", "by 4,096", "held", "resident",
-           "to make", "a patch");
-    for (size_t k = 0; k < WAY_COUNT; k++) {
-        const figures *f = &all[k];
-        printf("%-18s", WAYS[k]->name);
-        for (size_t c = 0; c < CALLS; c++)
-            if (WAYS[k]->calls[c])
-                printf(" %10.1f", f->times[c]);
-            else
-                printf(" %10s", "-");
-        printf(" %12.1f %12.1f %11.2f %11.0f\n", f->held / rows, f->resident / rows, f->made / 1e6, f->patched);
-    }
-    printf("proved image by 4,096 / tree bitmap in C = %.2f\n", all[0].times[BY_BATCHES] / all[1].times[ONE_BY_ONE]);
+    printf("%-24s %12s %12s %12s %12s\n", "", "bytes a row", "ms to make", "ns a patch", "us longest");
+    for (size_t k = 0; k < WAY_COUNT; k++)
+        if (WAYS[k]->make)
+            printf("%-24s %12.1f %12.2f %12.0f %12.0f\n", WAYS[k]->name, all[k].held / rows, all[k].made / 1e6,
+                   all[k].patched, all[k].longest / 1e3);
 }
 
 static size_t argument(int argc, char **argv, int at, size_t otherwise, size_t most)
@@ -718,44 +573,49 @@ static size_t argument(int argc, char **argv, int at, size_t otherwise, size_t m
 
 int main(int argc, char **argv)
 {
-    bool internet = argc > 1 && strcmp(argv[1], "internet") == 0;
-    int at = internet ? 2 : 1;
-    size_t wanted = argument(argc, argv, at, internet ? 1000000 : 4096, 1 << 20);
-    size_t lookups = argument(argc, argv, at + 1, 10000000, 1 << 30);
-    random_state = argument(argc, argv, at + 2, 1, UINT32_MAX);
-    if (argc > at + 3) {
-        fprintf(stderr, "lookup: usage: lookup [internet] [PREFIXES [LOOKUPS [SEED]]]\n");
+    size_t wanted = argument(argc, argv, 1, 64000, 1 << 20);
+    size_t rounds = argument(argc, argv, 2, 7, MOST_ROUNDS);
+    begin_random(argument(argc, argv, 3, 1, UINT32_MAX));
+    if (argc > 4) {
+        fprintf(stderr, "lookup: usage: lookup [PREFIXES [ROUNDS [SEED]]]\n");
         return 2;
     }
 
-    table t = make_table(wanted, internet);
-    uint32_t *addrs = make_addresses(&t, lookups);
+    static uint32_t addrs[MIXES][ADDRESSES];
+    table t = make_table(wanted);
     figures all[WAY_COUNT] = { 0 };
 #ifdef LOOKUP_DPDK
     dpdk_begin(&t);
 #endif
     for (size_t k = 0; k < WAY_COUNT; k++)
         make(WAYS[k], &t, &all[k]);
-    compare_ways(addrs, lookups); /* warms up too */
-    size_t scanned = compare_scan(&t, addrs, lookups);
-    uint64_t checksum = measure_look_ups(addrs, lookups, all);
+    printf("%zu rows, %d addresses of each mix, medians of %zu rounds\n", t.count, ADDRESSES, rounds);
+    printf("%-12s %-24s %21s   ratio to %s\n", "", "", "ns a look-up", WAYS[0]->name);
+    printf("%-12s %-24s %10s %10s %10s %10s\n", "", "", "one by one", "by 32", "one by one", "by 32");
+    for (int mix = 0; mix < MIXES; mix++) {
+        draw_addresses(&t, mix, addrs[mix], ADDRESSES);
+        compare_ways(addrs[mix]); /* warms up too */
+        compare_scan(&t, addrs[mix]);
+        print_mix(MIX_NAMES[mix], addrs[mix], rounds);
+    }
+    print_cold(addrs[HITS]);
     measure_patches(&t, all);
-    compare_ways(addrs, least(lookups, AGAIN));
-
-    printf("rows %zu, look-ups %zu\n", t.count, lookups);
-    print(all, (double)t.count);
+    compare_ways(addrs[HITS]);
+    print_tables(all, (double)t.count);
+    print_short_patches();
+    printf("every answer was compared\n");
+    print_readers(&WRITER, &t, addrs[HITS]);
 #ifdef LOOKUP_DPDK
+    print_readers(&SHARED_LPM, &t, addrs[HITS]);
     dpdk_print();
 #endif
-    print_short_patches();
-    printf("checksum %016" PRIx64 ", every answer compared, the first %zu with a scan too\n", checksum, scanned);
 
     for (size_t k = 0; k < WAY_COUNT; k++)
-        WAYS[k]->end();
+        if (WAYS[k]->end)
+            WAYS[k]->end();
 #ifdef LOOKUP_DPDK
     dpdk_end();
 #endif
-    free(addrs);
     free(t.rows);
     return 0;
 }
