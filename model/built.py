@@ -2,6 +2,7 @@
 
 import atexit
 import os
+import re
 import subprocess
 import tempfile
 from pathlib import Path
@@ -22,3 +23,8 @@ def built(name: str = "dualnet") -> str:
     link = Path(folder.name) / name
     link.symlink_to(Path(program).resolve())
     return str(link)
+
+
+def without_notice(stderr: bytes) -> bytes:
+    """What a run says on its standard error, but for the line that a program built without proofs begins with."""
+    return re.sub(rb"\A\S+: built without proofs; .*\n", b"", stderr)
