@@ -2,6 +2,7 @@
 
 ghost use Rattle.std.specs.Prelude.{◌≡◌, ◌+◌, ◌<◌, ◌≤◌, ◌⊎◌, Err, IsTrue, IfErr, MatchResult, OnErr, OnOk, false, sum_by, vec_len};
 ghost use Rattle.network_model.specs.{declared.step.Refusal.TheVariants.NoMemory as OutOfMemory, declared.step.Refusal.TheVariants.WrongTicket as WithWrongTicket, Forwarding.is_quiet};
+ghost use Rattle.network_model.specs.Journal.{Fits};
 ghost use Rattle.network_model.specs.Turns as turns;
 ghost use Rattle.fabric.specs.{Fabric.Fabric as FabricState, Fabric.count_lent, Headline.HasBestRows};
 ghost use Rattle.guarded.specs.Names.{IsNamed};
@@ -14,8 +15,7 @@ use crate::crowd::Crowd;
 use crate::progress::{Progress, STEPS_BETWEEN};
 use crate::serve::{TurnGate, first_refusal};
 use core::mem::replace_with;
-use course::{Order, Turns};
-use fabric::Fabric;
+use fabric::{Fabric, MOST_STEPS};
 use guarded::{ControlName, Errand, MOST_TICKETS, Opening, Pass, Share, Thresholds, rows_due};
 use network_model::{NoMemory, Refusal, Step};
 use publication::FabricName;
@@ -161,29 +161,41 @@ where
     ensures alone { IfErr result (IsFabricStopped fabric.new) }
     ensures lent { (fabric.new).lent ≡ (fabric.old).lent }
 {
-    let mut turns = Turns::new(Order::Cyclic, fabric.network().routers());
-    for _ in rt.forever() {
+    let mut from = 0;
+    // A turn takes a place of the journal, and without one it is refused.
+    for steps in fabric.journal().len()..MOST_STEPS + 1 {
         if fabric.is_settled() {
             return Ok(());
         }
-        let Some((router, step)) = fabric.turn_from(turns.from()) else {
+        let Some((router, step)) = fabric.turn_from(from) else {
             return Ok(());
         };
-        if crew.threads > 1 && is_worth_threads(fabric, crew.thresholds, &step) {
-            return Ok(());
+        if 1 < crew.threads {
+            let due = step;
+            if is_worth_threads(fabric, crew.thresholds, &due) {
+                return Ok(());
+            }
         }
-        // It tells that the step fits its number.
-        let _number = step.number();
+        // The call takes the step.
+        let again = step;
+        fits(again);
         match fabric.step(rt, step) {
             Ok(()) => {
-                turns.after(router);
-                report_steps(fabric, progress);
+                from = router.wrapping_add(1);
+                if (steps + 1) % STEPS_BETWEEN == 0 {
+                    progress.steps(steps + 1);
+                }
             }
             Err(refusal) => return Err(refusal),
         }
     }
-    unreachable!()
+    Ok(())
 }
+
+// It does nothing. A step fits its number.
+fn fits(step: Step)
+    ensures { Fits step }
+{}
 
 // Reports how many steps were done, after every so many.
 pub(crate) fn report_steps<B: FabricName, P: Progress>(fabric: &Fabric<B>, progress: &mut P) {
