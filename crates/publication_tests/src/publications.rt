@@ -4,7 +4,7 @@ ghost use Rattle.std.specs.Prelude.{◌≡◌, ◌⊎◌, ◌∷◌, [], All, ma
 ghost use Rattle.std.specs.Thread.{IsSend, IsSync};
 ghost use Rattle.publication.specs.Lists.{opening_of, patched_prefixes};
 
-use crate::equal_to::equal;
+use crate::equal_to::{equal, holds};
 use publication::{
     Answer, Entry, FabricName, ImageReader, ImageWriter, Job, NoImage, NoMemory, Patch, Prefix,
     ReadGate, Told, Unnamed, close_all, open, open_all,
@@ -17,7 +17,7 @@ use std::sync::atomic::{AtomicBool, AtomicU64, Ordering};
 use std::thread;
 use std::thread::{Threads, join};
 use std::time::{Clock, Duration};
-use test_support::ten;
+use test_support::{gets_to, ten};
 use tree_bitmap::Image;
 use tree_bitmap::parts::empty;
 
@@ -47,23 +47,36 @@ pub(crate) fn set<B: FabricName, A: Allocator + Copy, R: Wait>(
     ensures err { OnErr result ((writer.new.waiting ≡ [])
         ⊎ (patched_prefixes writer.new.waiting ≡ map (λ r. r.0) rows.now)) }
 {
-    let rows = Vec::from_slice(alloc, rows)?;
-    let generation = writer.generation();
-    if generation == u64::MAX {
+    let Some(generation) = writer.generation().checked_add(1) else {
         return Err(NoMemory);
-    }
-    let generation = generation + 1;
+    };
+    let rows = Vec::from_slice(alloc, rows)?;
     writer.publish(rt, Patch { generation, rows })
 }
 
 // An address of 10.0.0.0/8.
-const ADDR: u32 = 0x0A00_0001;
+pub(crate) const ADDR: u32 = 0x0A00_0001;
 
 // What a reader answers from an opening image without rows.
-const NOTHING: Answer = Answer {
+pub(crate) const NOTHING: Answer = Answer {
     generation: 0,
     matched: None,
 };
+
+// Publishes a row of 10.0.0.0/8, where nothing waits.
+pub(crate) fn set_ten<B: FabricName, R: Wait + Abort>(
+    rt: &R,
+    alloc: Global,
+    writer: &mut ImageWriter<B>,
+    entry: Entry,
+) -> Told<B>
+    requires { writer.old.waiting ≡ [] }
+    ensures told { result ≡ writer.new.published }
+    ensures router { writer.new.published.router ≡ writer.old.published.router }
+    ensures empty { writer.new.waiting ≡ [] }
+{
+    set(rt, alloc, writer, &[(ten(), entry)]).expect(rt, "memory")
+}
 
 // Publishes three patches of one row, where nothing waits.
 fn publish_three<B: FabricName, R: Wait + Abort>(
@@ -74,9 +87,9 @@ fn publish_three<B: FabricName, R: Wait + Abort>(
     requires { writer.old.waiting ≡ [] }
     ensures { result.router ≡ writer.old.published.router }
 {
-    set(rt, alloc, writer, &[(ten(), via(0))]).expect(rt, "memory");
-    set(rt, alloc, writer, &[(ten(), via(1))]).expect(rt, "memory");
-    set(rt, alloc, writer, &[(ten(), Entry::Unreachable)]).expect(rt, "memory")
+    set_ten(rt, alloc, writer, via(0));
+    set_ten(rt, alloc, writer, via(1));
+    set_ten(rt, alloc, writer, Entry::Unreachable)
 }
 
 fn three_patches<B: FabricName, R: Wait + Abort>(
@@ -91,9 +104,9 @@ fn three_patches<B: FabricName, R: Wait + Abort>(
     equal(rt, reader.lookup(ADDR), Ok(NOTHING));
     let told = publish_three(rt, alloc, writer);
     reader.learn(&told);
-    assert!(rt; reader.is_at(&told));
+    holds(rt, reader.is_at(&told));
     equal(rt, reader.lookup(ADDR), found(3, ten(), Entry::Unreachable));
-    assert!(rt; !writer.waits_for(ten()));
+    holds(rt, !writer.waits_for(ten()));
     let job = Job {
         number: 1,
         addr: ADDR,
@@ -115,13 +128,11 @@ fn at_second<B: FabricName, R: Wait + Abort>(
     requires each { vec_len unnamed ≡ 2 }
     requires two { vec_len images ≡ 2 }
 {
-    let Ok((mut writers, mut lists)) = open_all::<B, _, R>(rt, alloc, unnamed, images, 1) else {
-        panic!(rt; "open");
-    };
-    match lists[1].pop() {
-        None => panic!(rt; "reader"),
-        Some(mut reader) => three_patches(rt, alloc, &mut writers[1], &mut reader),
-    }
+    let (mut writers, mut lists) = open_all::<B, _, R>(rt, alloc, unnamed, images, 1).expect(
+        rt, "open",
+    );
+    let mut reader = lists[1].pop().expect(rt, "reader");
+    three_patches(rt, alloc, &mut writers[1], &mut reader);
     close_all(rt, writers);
 }
 
@@ -177,9 +188,9 @@ fn race<B: FabricName + Send + Sync, R: Threads + Wait + Abort + Sync>(
 {
     let (wide, narrow) = (ten(), Prefix::covering(0x0A01_0000, 16));
     let addr = 0x0A01_0001;
-    let Ok((mut writer, mut readers)) = open::<B, _, R>(rt, alloc, unnamed, 0, image, 1) else {
-        panic!(rt; "open");
-    };
+    let (mut writer, mut readers) = open::<B, _, R>(rt, alloc, unnamed, 0, image, 1).expect(
+        rt, "open",
+    );
     let reader = readers.pop().expect(rt, "reader");
     let (_, (reader, wrong)) = join(
         rt,
@@ -205,10 +216,10 @@ fn a_reader_never_sees_an_older_generation(rt: HostRuntime) {
 // which changes the copy that is held.
 struct Hold<'a, R> {
     rt: &'a R,
-    held: AtomicBool,
-    publishes: AtomicBool,
-    published: AtomicBool,
+    held: AtomicU64,
+    publishes: AtomicU64,
     looked: AtomicU64,
+    published: AtomicBool,
     late: AtomicBool,
 }
 
@@ -218,40 +229,30 @@ impl<R> Drop for Hold<'_, R> {
             rt: _,
             held: _,
             publishes: _,
-            published: _,
             looked: _,
+            published: _,
             late: _,
         } = self;
     }
 }
 
 impl<R: Clock> Hold<'_, R> {
-    // Waits until it is so: 1000 polls at most.
-    fn wait_for(&self, flag: &AtomicBool) {
-        for _ in 0..1_000u32 {
-            if flag.load(Ordering::SeqCst) {
-                return;
-            }
-            thread::sleep(self.rt, Duration::from_millis(1));
+    // Waits until it is so great: 1000 polls at most.
+    fn wait_for(&self, number: &AtomicU64, wanted: u64) {
+        if !gets_to(self.rt, number, wanted) {
+            self.late.store(true, Ordering::SeqCst);
         }
-        self.late.store(true, Ordering::SeqCst);
     }
 }
 
 impl<R: Clock> ReadGate for Hold<'_, R> {
     fn inside(&self) {
-        self.held.store(true, Ordering::SeqCst);
-        for _ in 0..1_000u32 {
-            if self.looked.load(Ordering::SeqCst) >= 1_000 {
-                thread::sleep(self.rt, Duration::from_millis(20));
-                if self.published.load(Ordering::SeqCst) {
-                    self.late.store(true, Ordering::SeqCst);
-                }
-                return;
-            }
-            thread::sleep(self.rt, Duration::from_millis(1));
+        self.held.store(1, Ordering::SeqCst);
+        self.wait_for(&self.looked, 1_000);
+        thread::sleep(self.rt, Duration::from_millis(20));
+        if self.published.load(Ordering::SeqCst) {
+            self.late.store(true, Ordering::SeqCst);
         }
-        self.late.store(true, Ordering::SeqCst);
     }
 }
 
@@ -264,17 +265,17 @@ fn set_while_held<B: FabricName, R: Wait + Clock + Abort>(
 ) -> Told<B>
     requires { writer.old.waiting ≡ [] }
 {
-    gate.wait_for(&gate.held);
-    gate.publishes.store(true, Ordering::SeqCst);
-    set(rt, alloc, writer, &[(ten(), via(0))]).expect(rt, "memory");
-    let last = set(rt, alloc, writer, &[(ten(), via(1))]).expect(rt, "memory");
+    gate.wait_for(&gate.held, 1);
+    gate.publishes.store(1, Ordering::SeqCst);
+    set_ten(rt, alloc, writer, via(0));
+    let last = set_ten(rt, alloc, writer, via(1));
     gate.published.store(true, Ordering::SeqCst);
     last
 }
 
 // Once a reader has learned what was told at its router, it answers by the second row.
 fn has_learned<B: FabricName>(rt: &impl Abort, mut reader: ImageReader<B>, told: &Told<B>) {
-    assert!(rt; reader.view().router() == told.router());
+    holds(rt, reader.view().router() == told.router());
     reader.learn(told);
     equal(rt, reader.lookup(ADDR), found(2, ten(), via(1)));
 }
@@ -286,7 +287,7 @@ fn look_while_held<B: FabricName, R: Clock>(
     gate: &Hold<'_, R>,
 ) -> (ImageReader<B>, u32) {
     let (mut last, mut wrong) = (0, 0u32);
-    gate.wait_for(&gate.publishes);
+    gate.wait_for(&gate.publishes, 1);
     for _ in 0..1_000u32 {
         match reader.lookup(ADDR) {
             Ok(answer) => {
@@ -327,17 +328,17 @@ fn publish_while_held<B: FabricName + Send + Sync, R: Threads + Wait + Clock + A
     requires generation { image.generation ≡ 0 }
     requires rows { image.rows ≡ opening_of B.openings 0 }
 {
-    let Ok((mut writer, mut readers)) = open::<B, _, R>(rt, alloc, unnamed, 0, image, 2) else {
-        panic!(rt; "open");
-    };
+    let (mut writer, mut readers) = open::<B, _, R>(rt, alloc, unnamed, 0, image, 2).expect(
+        rt, "open",
+    );
     let mut first = readers.pop().expect(rt, "reader");
     let second = readers.pop().expect(rt, "reader");
     let gate = Hold {
         rt,
-        held: AtomicBool::new(false),
-        publishes: AtomicBool::new(false),
-        published: AtomicBool::new(false),
+        held: AtomicU64::new(0),
+        publishes: AtomicU64::new(0),
         looked: AtomicU64::new(0),
+        published: AtomicBool::new(false),
         late: AtomicBool::new(false),
     };
     let ((told, answer), (second, wrong)) = join(
@@ -352,7 +353,7 @@ fn publish_while_held<B: FabricName + Send + Sync, R: Threads + Wait + Clock + A
     has_learned(rt, first, &told);
     has_learned(rt, second, &told);
     writer.close(rt);
-    assert!(rt; !gate.late.load(Ordering::SeqCst));
+    holds(rt, !gate.late.load(Ordering::SeqCst));
     equal(rt, (answer, wrong), (Ok(NOTHING), 0));
 }
 

@@ -5,7 +5,7 @@ ghost use Rattle.publication.specs.{declared.job.Job.Job, Lists.opening_of};
 ghost use Rattle.packet_queue.specs.Ends.{puts_into, takes_from, put_by, taken_by, parts_of, AreAllEnds, IsSameInjector};
 ghost use Rattle.packet_queue.specs.Jobs.{jobs_of};
 
-use crate::equal_to::equal;
+use crate::equal_to::{equal, holds};
 use packet_queue::{FabricName, Injector, Job, PacketQueue, Taken, Taker, reckon};
 use publication::{Told, Unnamed, open};
 use std::alloc::{AllocError, Global};
@@ -63,51 +63,71 @@ fn puts<B: FabricName, R: Wait + Abort>(
     equal(rt, back(injector.inject(rt, asked(number, told))), wanted);
 }
 
+// Puts so many jobs, and a stop message for each worker.
+fn fill<B: FabricName, R: Wait + Abort>(
+    rt: &R,
+    injector: &mut Injector<B>,
+    told: &Told<B>,
+    jobs: u64,
+)
+    ensures { IsSameInjector injector.old injector.new }
+{
+    for number in 0..jobs {
+        puts(rt, injector, told, number, None);
+    }
+    holds(rt, injector.stop(rt));
+}
+
 // What comes out of the queue next.
 fn gives<B: FabricName, R: Wait + Abort>(rt: &R, taker: &mut Taker<B>, wanted: Sight) {
     equal(rt, seen_as(taker.next(rt)), wanted);
 }
 
+// Three jobs and two stop messages come out as they were put in, whoever takes them.
+fn give_all<B: FabricName, R: Wait + Abort>(rt: &R, first: &mut Taker<B>, second: &mut Taker<B>) {
+    gives(rt, first, Sight::Job(0));
+    gives(rt, second, Sight::Job(1));
+    gives(rt, second, Sight::Job(2));
+    gives(rt, second, Sight::Stop);
+    gives(rt, first, Sight::Stop);
+}
+
 fn in_order<B: FabricName, R: Wait + Abort>(rt: &R, alloc: Global, told: &Told<B>) {
     let (mut injector, mut takers) = PacketQueue::new::<B, _>(alloc, 2).expect(rt, "memory");
-    equal(rt, injector.workers(), 2);
+    equal(rt, (injector.workers(), takers.len()), (2, 2));
+    fill(rt, &mut injector, told, 3);
     let mut second = takers.pop().expect(rt, "two");
     let mut first = takers.pop().expect(rt, "two");
-    assert!(rt; takers.is_empty());
-    for number in 0..3 {
-        puts(rt, &mut injector, told, number, None);
-    }
-    assert!(rt; injector.stop(rt));
-    gives(rt, &mut first, Sight::Job(0));
-    gives(rt, &mut second, Sight::Job(1));
-    gives(rt, &mut second, Sight::Job(2));
-    gives(rt, &mut second, Sight::Stop);
-    gives(rt, &mut first, Sight::Stop);
+    give_all(rt, &mut first, &mut second);
     drop(injector);
     gives(rt, &mut first, Sight::Closed);
 }
 
-// Puts so many jobs, takes so many messages, and counts what is left.
+// Takes so many messages.
+fn take_some<B: FabricName, R: Wait + Abort>(rt: &R, taker: &mut Taker<B>, count: u64)
+    ensures { takes_from taker.new ≡ takes_from taker.old }
+{
+    for _ in 0..count {
+        holds(rt, taker.next(rt).is_some());
+    }
+}
+
+// Puts so many jobs, takes so many messages by the last taker, and counts what is left.
 fn left_of<B: FabricName, R: Wait + Abort>(
     rt: &R,
-    alloc: Global,
     told: &Told<B>,
+    mut injector: Injector<B>,
+    mut takers: Vec<Taker<B>>,
     put: u64,
     take: u64,
-) -> u64 {
-    let Ok((mut injector, mut takers)) = PacketQueue::new::<B, _>(alloc, 3) else {
-        panic!(rt; "memory");
-    };
-    for number in 0..put {
-        puts(rt, &mut injector, told, number, None);
-    }
-    assert!(rt; injector.stop(rt));
+) -> u64
+    requires { AreAllEnds injector takers.items }
+{
+    fill(rt, &mut injector, told, put);
     let Some(mut taker) = takers.pop() else {
         panic!(rt; "three");
     };
-    for _ in 0..take {
-        assert!(rt; taker.next(rt).is_some());
-    }
+    take_some(rt, &mut taker, take);
     let Ok(()) = takers.push(taker) else {
         panic!(rt; "memory");
     };
@@ -116,7 +136,8 @@ fn left_of<B: FabricName, R: Wait + Abort>(
 
 fn counted<B: FabricName, R: Wait + Abort>(rt: &R, alloc: Global, told: &Told<B>) {
     for (put, take, left) in [(0, 0, 0), (5, 0, 5), (61, 20, 41), (5, 5, 0), (5, 7, 0)] {
-        equal(rt, left_of(rt, alloc, told, put, take), left);
+        let (injector, takers) = PacketQueue::new::<B, _>(alloc, 3).expect(rt, "memory");
+        equal(rt, left_of(rt, told, injector, takers, put, take), left);
     }
 }
 
@@ -124,7 +145,7 @@ fn counted<B: FabricName, R: Wait + Abort>(rt: &R, alloc: Global, told: &Told<B>
 fn closed_from_the_first<B: FabricName, R: Wait + Abort>(rt: &R, alloc: Global, told: &Told<B>) {
     let (mut injector, takers) = PacketQueue::new::<B, _>(alloc, 0).expect(rt, "memory");
     puts(rt, &mut injector, told, 1, Some(1));
-    assert!(rt; injector.stop(rt));
+    holds(rt, injector.stop(rt));
     equal(rt, reckon(injector, takers), 0);
 }
 
@@ -134,7 +155,7 @@ fn closed_by_takers<B: FabricName, R: Wait + Abort>(rt: &R, alloc: Global, told:
     puts(rt, &mut injector, told, 2, None);
     drop(takers);
     puts(rt, &mut injector, told, 3, Some(3));
-    assert!(rt; !injector.stop(rt));
+    holds(rt, !injector.stop(rt));
 }
 
 // What is in a queue whose injector is gone comes out.
@@ -303,10 +324,7 @@ where
     requires nothing { All (λ t. taken_by t ≡ []) takers.items }
 {
     let running = start_all::<B, R>(rt, alloc, &injector, takers).expect(&rt, "memory");
-    for number in 0..100 {
-        puts(&rt, &mut injector, told, number, None);
-    }
-    assert!(rt; injector.stop(&rt));
+    fill(&rt, &mut injector, told, 100);
     let (jobs, left) = finish::<B, R>(&rt, alloc, injector, running).expect(&rt, "memory");
     equal(&rt, left, 0);
     equal(&rt, bits_of(&jobs), Some((1 << 100) - 1));
@@ -346,9 +364,7 @@ where
     requires generation { image.generation ≡ 0 }
     requires rows { image.rows ≡ opening_of B.openings 0 }
 {
-    let Ok((writer, _)) = open::<B, _, R>(&rt, alloc, unnamed, 0, image, 0) else {
-        panic!(rt; "open");
-    };
+    let (writer, _) = open::<B, _, R>(&rt, alloc, unnamed, 0, image, 0).expect(&rt, "open");
     tried(rt, alloc, &writer.tell(), trial);
     writer.close(&rt);
 }

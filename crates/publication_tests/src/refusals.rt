@@ -1,13 +1,13 @@
 //! A publication and a queue of which one allocation after another is refused, and which are done again
 //! then; and a worker whose replies are refused so, beside another.
 
-ghost use Rattle.std.specs.Prelude.{◌≡◌, ◌∷◌, [], length};
-ghost use Rattle.publication.specs.Lists.{opening_of};
+ghost use Rattle.std.specs.Prelude.{◌≡◌, ◌⊎◌, ◌∷◌, [], length, map};
+ghost use Rattle.publication.specs.Lists.{opening_of, patched_prefixes};
 
-use crate::equal_to::equal;
+use crate::equal_to::{equal, holds};
 use crate::publications::{found, set, via};
-use crate::workers::{port_of, put};
-use forwarder::{ForwardPort, JobGate, Reply, work};
+use crate::workers::{port_of, takers_of, work_both};
+use forwarder::{ForwardPort, JobGate, Reply};
 use network_model::Refusal;
 use packet_queue::{PacketQueue, Taker};
 use publication::{
@@ -18,10 +18,9 @@ use std::marker::Brand;
 use std::process::Abort;
 use std::sync::Wait;
 use std::sync::atomic::{AtomicBool, AtomicU64, Ordering};
-use std::thread;
 use std::thread::Threads;
-use std::time::{Clock, Duration};
-use test_support::{Refused, Refusing, ten};
+use std::time::Clock;
+use test_support::{Refused, Refusing, gets_to, ten};
 use tree_bitmap::Image;
 use tree_bitmap::parts::empty;
 
@@ -61,7 +60,8 @@ where
         }
         last = nth;
     }
-    assert!(rt; last > 0 && last < MOST - 1);
+    holds(rt, last > 0);
+    holds(rt, last < MOST - 1);
 }
 
 fn is_refused_to_one_router<R>(rt: &R, alloc: Global, call: Call, refused: Refused) -> bool
@@ -69,25 +69,13 @@ where
     R: Threads + Wait + Clock + Abort + Sync,
 {
     let memory = Refusing::new(alloc);
-    let gate = Beside::new(rt);
     let image = empty(&memory).expect(rt, "memory");
-    with_readers::<Brand, R>(
-        rt,
-        alloc,
-        &memory,
-        &gate,
-        Unnamed::new(),
-        image,
-        call,
-        refused,
-    )
+    with_readers::<Brand, R>(rt, &memory, Unnamed::new(), image, call, refused)
 }
 
 fn with_readers<'h, B, R>(
-    rt: &'h R,
-    alloc: Global,
+    rt: &R,
     memory: &'h Refusing<Global>,
-    gate: &'h Beside<'h, R>,
     unnamed: Unnamed,
     image: Image<&'h Refusing<Global>>,
     call: Call,
@@ -100,22 +88,13 @@ where
     requires generation { image.generation ≡ 0 }
     requires rows { image.rows ≡ opening_of B.openings 0 }
 {
-    let Ok((mut writer, mut readers)) = open::<B, _, R>(rt, memory, unnamed, 0, image, 2) else {
-        panic!(rt; "open");
-    };
+    let (mut writer, mut readers) = open::<B, _, R>(rt, memory, unnamed, 0, image, 2).expect(
+        rt, "open",
+    );
     let mut first = readers.pop().expect(rt, "reader");
     let second = readers.pop().expect(rt, "reader");
     let end = match call {
-        Call::Work => are_replies_refused(
-            rt,
-            alloc,
-            memory,
-            gate,
-            &writer.tell(),
-            first,
-            second,
-            refused,
-        ),
+        Call::Work => are_replies_refused(rt, memory, &writer.tell(), first, second, refused),
         _ => is_publication_refused(rt, memory, &mut writer, &mut first, refused),
     };
     writer.close(rt);
@@ -163,29 +142,38 @@ fn is_publication_refused<'h, B: FabricName, R: Wait + Abort>(
     let (wide, narrow) = (ten(), Prefix::covering(0x0A01_0000, 16));
     let told = set(rt, memory, writer, &[(wide, via(0))]).expect(rt, "memory");
     reader.learn(&told);
-    let last = [(wide, Entry::Unreachable), (narrow, via(2))];
-    let rows = Vec::from_slice(memory, &last).expect(rt, "memory");
     memory.refuse(refused);
-    let second = set(rt, memory, writer, &[(wide, via(1)), (narrow, via(1))]);
-    let was_met = memory.was_met(second.is_err()).expect(rt, "refusal");
-    let Err(NoMemory) = second else {
-        return was_met;
+    let is_refused = set(rt, memory, writer, &[(wide, via(1)), (narrow, via(1))]).is_err();
+    let was_met = memory.was_met(is_refused).expect(rt, "refusal");
+    if is_refused {
+        let last = [(wide, Entry::Unreachable), (narrow, via(2))];
+        publishes_again(rt, memory, writer, reader, &last);
+    }
+    was_met
+}
+
+// A reader sees the first publication until rows of the same prefixes as those that were refused are published.
+fn publishes_again<'h, B: FabricName, R: Wait + Abort>(
+    rt: &R,
+    memory: &'h Refusing<Global>,
+    writer: &mut ImageWriter<B, &'h Refusing<Global>>,
+    reader: &mut ImageReader<B, &'h Refusing<Global>>,
+    rows: &[(Prefix, Entry); 2],
+)
+    requires waits { (writer.old.waiting ≡ [])
+        ⊎ (patched_prefixes writer.old.waiting ≡ map (λ r. r.0) rows.now) }
+    requires router { reader.old.router ≡ writer.old.published.router }
+{
+    holds(rt, writer.generation() == 1);
+    let shown = [(ten(), via(0)), (ten(), via(0))];
+    answers(rt, reader, &writer.tell(), 1, &shown);
+    let patch = Patch {
+        generation: 2,
+        rows: Vec::from_slice(memory, rows).expect(rt, "memory"),
     };
-    assert_eq!(rt; writer.generation(), 1);
-    answers(
-        rt,
-        reader,
-        &writer.tell(),
-        1,
-        &[(wide, via(0)), (wide, via(0))],
-    );
-    let generation = 2;
-    let told = writer
-        .publish(rt, Patch { generation, rows })
-        .expect(rt, "memory");
+    let told = writer.publish(rt, patch).expect(rt, "memory");
     equal(rt, writer.generation(), 2);
-    answers(rt, reader, &told, 2, &last);
-    true
+    answers(rt, reader, &told, 2, rows);
 }
 
 // Two workers beside each other: the one that takes the first job waits until the other has answered five,
@@ -195,17 +183,6 @@ struct Beside<'a, R> {
     taken: AtomicU64,
     answered: AtomicU64,
     late: AtomicBool,
-}
-
-impl<'a, R> Beside<'a, R> {
-    fn new(rt: &'a R) -> Beside<'a, R> {
-        Beside {
-            rt,
-            taken: AtomicU64::new(0),
-            answered: AtomicU64::new(0),
-            late: AtomicBool::new(false),
-        }
-    }
 }
 
 impl<R> Drop for Beside<'_, R> {
@@ -221,16 +198,9 @@ impl<R> Drop for Beside<'_, R> {
 
 impl<R: Clock> JobGate for Beside<'_, R> {
     fn before(&self, _job: u64) {
-        if self.taken.fetch_add(1, Ordering::SeqCst) > 0 {
-            return;
+        if self.taken.fetch_add(1, Ordering::SeqCst) == 0 && !gets_to(self.rt, &self.answered, 5) {
+            self.late.store(true, Ordering::SeqCst);
         }
-        for _ in 0..1_000u32 {
-            if self.answered.load(Ordering::SeqCst) >= 5 {
-                return;
-            }
-            thread::sleep(self.rt, Duration::from_millis(1));
-        }
-        self.late.store(true, Ordering::SeqCst);
     }
 
     fn after(&self, _job: u64) {
@@ -245,90 +215,38 @@ fn count_of<B: FabricName, A: Allocator>(
     Ok(replies?.len())
 }
 
-// What a worker has, and how many replies it had at its end.
-#[derive(Drop)]
-struct Seat<'h, B: FabricName> {
-    has: Option<
-        (
-            ForwardPort<B, &'h Refusing<Global>>,
-            Taker<B, &'h Refusing<Global>>,
-        ),
-    >,
-    end: Result<usize, Refusal>,
-}
-
-// The worker of a seat goes on to its stop message.
-fn sit<'h, B, R>(
-    rt: &'h R,
-    memory: &'h Refusing<Global>,
-    gate: &'h Beside<'h, R>,
-    seat: &mut Seat<'h, B>,
-)
-where
-    B: FabricName,
-    R: Wait + Clock,
-{
-    if let Some((port, taker)) = seat.has.take() {
-        seat.end = count_of(work(rt, memory, port, taker, gate).replies);
-    }
-}
-
 // How many replies two workers have, of which one answers a job and the other five.
 fn work_beside<'h, B, R>(
-    rt: &'h R,
+    rt: &R,
     memory: &'h Refusing<Global>,
-    gate: &'h Beside<'h, R>,
-    seats: &mut Vec<Seat<'h, B>>,
-)
+    first: (
+        ForwardPort<B, &'h Refusing<Global>>,
+        Taker<B, &'h Refusing<Global>>,
+    ),
+    second: (
+        ForwardPort<B, &'h Refusing<Global>>,
+        Taker<B, &'h Refusing<Global>>,
+    ),
+) -> (Result<usize, Refusal>, Result<usize, Refusal>)
 where
     B: FabricName + Send + Sync,
     R: Threads + Wait + Clock + Abort + Sync,
 {
-    thread::for_each_mut(
+    let gate = Beside {
         rt,
-        seats.as_mut_slice(),
-        2,
-        &|_place, seat| { sit(rt, memory, gate, seat) },
-    );
-    assert!(rt; !gate.late.load(Ordering::SeqCst));
+        taken: AtomicU64::new(0),
+        answered: AtomicU64::new(0),
+        late: AtomicBool::new(false),
+    };
+    let (one, other) = work_both(rt, memory, &gate, first, second);
+    holds(rt, !gate.late.load(Ordering::SeqCst));
     equal(rt, gate.answered.load(Ordering::SeqCst), 6);
+    (count_of(one), count_of(other))
 }
 
-// A queue of six jobs, a stop message for each of two takers, and one more job: its takers.
-fn takers_of_six<'h, B, R>(
-    rt: &R,
-    memory: &'h Refusing<Global>,
-    told: &Told<B>,
-) -> Vec<Taker<B, &'h Refusing<Global>>, &'h Refusing<Global>>
-where
-    B: FabricName,
-    R: Wait + Abort,
-{
-    let (mut injector, takers) = PacketQueue::new::<B, _>(memory, 2).expect(rt, "memory");
-    put(rt, &mut injector, told, 6);
-    assert!(rt; injector.stop(rt));
-    put(rt, &mut injector, told, 1);
-    takers
-}
-
-// The seats of two workers.
-fn seated<'h, B: FabricName>(
-    rt: &impl Abort,
-    alloc: Global,
-    first: ForwardPort<B, &'h Refusing<Global>>,
-    second: ForwardPort<B, &'h Refusing<Global>>,
-    mut takers: Vec<Taker<B, &'h Refusing<Global>>, &'h Refusing<Global>>,
-) -> Vec<Seat<'h, B>> {
-    let mut seats = Vec::new(alloc);
-    for port in [first, second] {
-        let taker = takers.pop().expect(rt, "taker");
-        let seat = Seat {
-            has: Some((port, taker)),
-            end: Ok(0),
-        };
-        assert!(rt; seats.push(seat).is_ok());
-    }
-    seats
+// There is one reply, or five, or want of memory in their place.
+fn is_end(rt: &impl Abort, end: Result<usize, Refusal>) {
+    holds(rt, matches!(end, Ok(1 | 5) | Err(Refusal::NoMemory)));
 }
 
 // One worker has one reply and the other five, or want of memory in their place. Where one allocation alone is
@@ -339,22 +257,19 @@ fn are_ends(
     other: Result<usize, Refusal>,
     refused: Refused,
 ) {
-    for end in [one, other] {
-        assert!(rt; end == Ok(1) || end == Ok(5) || end == Err(Refusal::NoMemory));
-    }
-    assert!(rt; one != other || one.is_err());
+    is_end(rt, one);
+    is_end(rt, other);
+    holds(rt, one != other || one.is_err());
     if let Refused::One(_) = refused {
-        assert!(rt; one.is_ok() || other.is_ok());
+        holds(rt, one.is_ok() || other.is_ok());
     }
 }
 
 // Whether one of two workers has its list of replies refused. Both go on to their stop messages, behind
 // which there is one more job.
 fn are_replies_refused<'h, B, R>(
-    rt: &'h R,
-    alloc: Global,
+    rt: &R,
     memory: &'h Refusing<Global>,
-    gate: &'h Beside<'h, R>,
     told: &Told<B>,
     first: ImageReader<B, &'h Refusing<Global>>,
     second: ImageReader<B, &'h Refusing<Global>>,
@@ -367,13 +282,14 @@ where
     requires first { first.router ≡ 0 }
     requires second { second.router ≡ 0 }
 {
-    let (first, second) = (port_of(rt, memory, first), port_of(rt, memory, second));
-    let takers = takers_of_six(rt, memory, told);
-    let mut seats = seated(rt, alloc, first, second, takers);
+    let mut takers = takers_of(rt, memory, told, 2, 6, true);
+    let first = (port_of(rt, memory, first), takers.pop().expect(rt, "taker"));
+    let second = (
+        port_of(rt, memory, second),
+        takers.pop().expect(rt, "taker"),
+    );
     memory.refuse(refused);
-    work_beside(rt, memory, gate, &mut seats);
-    let other = seats.pop().expect(rt, "seat").end;
-    let one = seats.pop().expect(rt, "seat").end;
+    let (one, other) = work_beside(rt, memory, first, second);
     are_ends(rt, one, other, refused);
     memory
         .was_met(one.is_err() || other.is_err())

@@ -3,7 +3,7 @@
 ghost use Rattle.std.specs.Prelude.{◌≡◌, ◌≤◌, All, IfOk, length, map, vec_len};
 ghost use Rattle.network_model.specs.Network.{most_workers};
 
-use crate::equal_to::equal;
+use crate::equal_to::{equal, holds};
 use crate::publications::via;
 use forwarder::{Answer, GatherFault, ImageReader};
 use network_model::{NoMemory, Refusal};
@@ -38,8 +38,8 @@ fn port_of<B: FabricName>(
 ) -> ForwardPort<B>
     requires { length B.books ≡ 2 }
 {
-    let (one, two) = (first.view().router(), second.view().router());
-    assert!(rt; one == 0 && two == 1);
+    holds(rt, first.view().router() == 0);
+    holds(rt, second.view().router() == 1);
     ForwardPort::new(vec![in alloc; first, second].expect(rt, "memory"))
 }
 
@@ -48,18 +48,17 @@ fn ports_of<B: FabricName>(
     rt: &impl Abort,
     alloc: Global,
     workers: u8,
-    firsts: Vec<ImageReader<B>>,
-    seconds: Vec<ImageReader<B>>,
+    mut lists: Vec<Vec<ImageReader<B>>>,
 ) -> Vec<ForwardPort<B>>
     requires { length B.books ≡ 2 }
 {
-    let (mut firsts, mut seconds) = (firsts, seconds);
+    let mut seconds = lists.pop().expect(rt, "readers");
+    let mut firsts = lists.pop().expect(rt, "readers");
     let mut ports = Vec::new(alloc);
     for _ in 0..workers {
         let first = firsts.pop().expect(rt, "reader");
         let second = seconds.pop().expect(rt, "reader");
-        let pushed = ports.push(port_of(rt, alloc, first, second));
-        assert!(rt; pushed.is_ok());
+        holds(rt, ports.push(port_of(rt, alloc, first, second)).is_ok());
     }
     ports
 }
@@ -97,24 +96,40 @@ fn ask<B: FabricName, R: Wait + Abort>(rt: &R, pool: &mut WorkerPool<B>, tolds: 
     }
 }
 
+// This is the reply to the job of a number, from its router.
+fn is_right<B: FabricName>(rt: &impl Abort, reply: &Reply<B>, number: u8) {
+    let (job, router) = (reply.job(), number % 2);
+    let asked = (u64::from(number), u16::from(router));
+    equal(rt, (job.number, job.router()), asked);
+    let answer = Answer {
+        generation: 0,
+        matched: Some((ten(), via(router))),
+    };
+    equal(rt, reply.answer(), answer);
+}
+
 // There is one reply to each of so many jobs, in order of their numbers, from the router of each.
-fn are_right<B: FabricName, R: Abort>(rt: &R, replies: &[Reply<B>], jobs: u8) {
+fn are_right<B: FabricName>(rt: &impl Abort, replies: &[Reply<B>], jobs: u8) {
     equal(rt, replies.len(), usize::from(jobs));
     for number in 0..jobs {
-        let reply = replies.get(usize::from(number)).expect(rt, "reply");
-        let router = number % 2;
-        let job = reply.job();
-        equal(
+        is_right(
             rt,
-            (job.number, job.router()),
-            (u64::from(number), u16::from(router)),
+            replies.get(usize::from(number)).expect(rt, "reply"),
+            number,
         );
-        let answer = Answer {
-            generation: 0,
-            matched: Some((ten(), via(router))),
-        };
-        equal(rt, reply.answer(), answer);
     }
+}
+
+// The ports of a pool that has answered so many jobs.
+fn drained<B, R>(rt: &R, alloc: Global, pool: WorkerPool<B>, jobs: u8) -> Vec<ForwardPort<B>>
+where
+    B: FabricName + Send + Sync + 'static,
+    R: Threads + Wait + Abort,
+    ensures { vec_len result ≡ pool.workers }
+{
+    let (ports, replies) = pool.drain(rt, alloc);
+    are_right(rt, &replies.expect(rt, "replies"), jobs);
+    ports
 }
 
 // The workers of these ports answer so many jobs, and give the ports back.
@@ -133,12 +148,7 @@ where
 {
     let mut pool = WorkerPool::new(rt, alloc, ports).expect(&rt, "workers");
     ask(&rt, &mut pool, tolds, jobs);
-    let (ports, replies) = pool.drain(&rt, alloc);
-    let Ok(replies) = replies else {
-        panic!(rt; "replies");
-    };
-    are_right(&rt, &replies, jobs);
-    ports
+    drained(&rt, alloc, pool, jobs)
 }
 
 // How many jobs were taken, and how many of them waited in vain for another to be taken.
@@ -190,11 +200,7 @@ where
     let gate = Meeting { rt, jobs };
     let mut pool = WorkerPool::watched(rt, alloc, ports, &gate).expect(&rt, "workers");
     ask(&rt, &mut pool, tolds, 2);
-    let (_ports, replies) = pool.drain(&rt, alloc);
-    let Ok(replies) = replies else {
-        panic!(rt; "replies");
-    };
-    are_right(&rt, &replies, 2);
+    drained(&rt, alloc, pool, 2);
     equal(&rt, gate.jobs.taken.load(Ordering::SeqCst), 2);
     equal(&rt, gate.jobs.missed.load(Ordering::SeqCst), 0);
 }
@@ -275,7 +281,7 @@ where
         Err(refused) => refused,
     };
     equal(&rt, refused.fault, PoolFault::Memory(NoMemory));
-    assert_eq!(rt; refused.ports.len(), many);
+    holds(&rt, refused.ports.len() == many);
     drop(answers(rt, alloc, refused.ports, tolds, 3));
 }
 
@@ -288,14 +294,10 @@ where
     let mut pool = WorkerPool::new(rt, alloc, Vec::new(alloc)).expect(&rt, "workers");
     let early = pool.inject(&rt, tolds.job(0));
     equal(&rt, early, Err(PoolFault::Closed));
-    let (ports, replies) = pool.drain(&rt, alloc);
-    assert!(rt; ports.is_empty());
-    let Ok(replies) = replies else {
-        panic!(rt; "replies");
-    };
-    are_right(&rt, &replies, 0);
+    let ports = drained(&rt, alloc, pool, 0);
+    holds(&rt, ports.is_empty());
     let pool = WorkerPool::new(rt, alloc, ports).expect(&rt, "workers");
-    assert!(rt; pool.end(&rt).is_empty());
+    holds(&rt, pool.end(&rt).is_empty());
 }
 
 // What is done with ports of two routers.
@@ -305,8 +307,8 @@ enum Trial {
     Meets,
     AnswersLater,
     AnswersAfterARefusal,
-    Doubles,
-    HasNoImage,
+    // Without an image, if that is the fault.
+    Fails(PoolFault),
     Refuses,
 }
 
@@ -315,20 +317,13 @@ where
     B: FabricName + Send + Sync + 'static,
     R: Threads + Wait + Abort + Clock + Copy + Send + 'static,
 {
-    assert!(rt; ports.len() <= 16);
+    holds(&rt, ports.len() <= 16);
     match trial {
         Trial::Answers(jobs) => drop(answers(rt, alloc, ports, tolds, jobs)),
         Trial::Meets => meets(rt, alloc, ports, tolds),
         Trial::AnswersLater => answers_later(rt, alloc, ports, tolds),
         Trial::AnswersAfterARefusal => answers_after_a_refusal(rt, alloc, ports, tolds),
-        Trial::Doubles => {
-            let fault = PoolFault::Gather(GatherFault::Doubled);
-            has_fault(rt, alloc, ports, tolds, fault);
-        }
-        Trial::HasNoImage => {
-            let fault = PoolFault::Refused(Refusal::NoImage);
-            has_fault(rt, alloc, ports, tolds, fault);
-        }
+        Trial::Fails(fault) => has_fault(rt, alloc, ports, tolds, fault),
         Trial::Refuses => refuses(rt, alloc, tolds),
     }
 }
@@ -352,17 +347,15 @@ where
     requires each { vec_len unnamed ≡ 2 }
     requires two { vec_len images ≡ 2 }
 {
-    let Ok((writers, mut lists)) = open_all::<B, _, R>(&rt, alloc, unnamed, images, workers) else {
-        panic!(rt; "open");
-    };
+    let (writers, lists) = open_all::<B, _, R>(&rt, alloc, unnamed, images, workers).expect(
+        &rt, "open",
+    );
     let tolds = Tolds {
         first: writers[0].tell(),
         second: writers[1].tell(),
     };
-    let seconds = lists.pop().expect(&rt, "readers");
-    let firsts = lists.pop().expect(&rt, "readers");
-    let ports = ports_of(&rt, alloc, workers, firsts, seconds);
-    if let Trial::HasNoImage = trial {
+    let ports = ports_of(&rt, alloc, workers, lists);
+    if let Trial::Fails(PoolFault::Refused(_)) = trial {
         close_all(&rt, writers);
         tried(rt, alloc, ports, &tolds, trial);
     } else {
@@ -413,12 +406,14 @@ fn the_ports_of_a_refused_pool_come_back(rt: HostRuntime) {
 
 #[test]
 fn a_number_that_two_jobs_have_is_found(rt: HostRuntime) {
-    pooled(rt, rt.alloc(), 2, Trial::Doubles);
+    let fault = PoolFault::Gather(GatherFault::Doubled);
+    pooled(rt, rt.alloc(), 2, Trial::Fails(fault));
 }
 
 #[test]
 fn workers_without_an_image(rt: HostRuntime) {
-    pooled(rt, rt.alloc(), 2, Trial::HasNoImage);
+    let fault = PoolFault::Refused(Refusal::NoImage);
+    pooled(rt, rt.alloc(), 2, Trial::Fails(fault));
 }
 
 #[test]

@@ -1,23 +1,21 @@
 //! Jobs that are answered, by one worker and by two, and replies that are gathered.
 
 ghost use Rattle.std.specs.Prelude.{◌≡◌, ◌∷◌, [], length};
-ghost use Rattle.publication.specs.Lists.{new_writing};
 
-use crate::equal_to::equal;
-use crate::publications::via;
+use crate::equal_to::{equal, holds};
+use crate::publications::{ADDR, NOTHING, set_ten, via};
 use forwarder::{ForwardPort, GatherFault, JobGate, Reply, gather, work};
 use network_model::{Answer, Refusal};
 use packet_queue::{Injector, PacketQueue, Taker};
-use publication::{FabricName, ImageReader, ImageWriter, Job, Patch, Told, Unnamed, open};
+use publication::{FabricName, ImageReader, ImageWriter, Job, Told, Unnamed, open};
 use std::alloc::{Allocator, Global};
 use std::marker::Brand;
 use std::process::Abort;
 use std::sync::Wait;
 use std::sync::atomic::{AtomicBool, AtomicU64, Ordering};
-use std::thread;
 use std::thread::{Threads, join};
-use std::time::{Clock, Duration};
-use test_support::ten;
+use std::time::Clock;
+use test_support::{gets_to, ten};
 use tree_bitmap::Image;
 use tree_bitmap::parts::empty;
 
@@ -52,18 +50,15 @@ fn replies_to<B: FabricName>(
 ) -> Vec<Reply<B>> {
     let mut replies = Vec::new(alloc);
     for number in numbers {
-        let Ok(reply) = port.answer(&asked(*number, 9, told)) else {
-            panic!(rt; "image");
-        };
-        let pushed = replies.push(reply);
-        assert!(rt; pushed.is_ok());
+        let reply = port.answer(&asked(*number, 9, told)).expect(rt, "image");
+        holds(rt, replies.push(reply).is_ok());
     }
     replies
 }
 
 // The numbers of the jobs of three replies.
 fn numbers_of<B: FabricName>(rt: &impl Abort, replies: &[Reply<B>]) -> [u64; 3] {
-    assert!(rt; replies.len() == 3);
+    holds(rt, replies.len() == 3);
     [
         replies[0].job().number,
         replies[1].job().number,
@@ -80,13 +75,25 @@ fn gathers_as<B: FabricName>(
     numbers: &[u64],
     wanted: Result<[u64; 3], GatherFault>,
 ) {
-    let jobs = [asked(1, 9, told), asked(2, 9, told), asked(3, 9, told)];
-    let gathered = match gather(&jobs, replies_to(rt, alloc, port, told, numbers)) {
-        Ok(replies) => Ok(numbers_of(rt, &replies)),
-        Err(fault) => Err(fault),
-    };
-    equal(rt, gathered, wanted);
+    let replies = replies_to(rt, alloc, port, told, numbers);
+    equal(rt, gathered(rt, told, replies), wanted);
 }
+
+fn gathered<B: FabricName>(
+    rt: &impl Abort,
+    told: &Told<B>,
+    replies: Vec<Reply<B>>,
+) -> Result<[u64; 3], GatherFault> {
+    let jobs = [asked(1, 9, told), asked(2, 9, told), asked(3, 9, told)];
+    Ok(numbers_of(rt, &gather(&jobs, replies)?))
+}
+
+static GATHERED: [(&[u64], Result<[u64; 3], GatherFault>); 4] = [
+    (&[3, 1, 2], Ok([1, 2, 3])),
+    (&[1, 4, 1], Err(GatherFault::Stranger)),
+    (&[1, 1, 4], Err(GatherFault::Doubled)),
+    (&[1, 3], Err(GatherFault::Missing)),
+];
 
 fn gathers<B: FabricName, R: Abort>(
     rt: &R,
@@ -94,18 +101,10 @@ fn gathers<B: FabricName, R: Abort>(
     told: &Told<B>,
     port: &mut ForwardPort<B>,
 ) {
-    for (numbers, wanted) in [
-        ([3, 1, 2].as_slice(), Ok([1, 2, 3])),
-        (&[1, 4, 1], Err(GatherFault::Stranger)),
-        (&[1, 1, 4], Err(GatherFault::Doubled)),
-        (&[1, 3], Err(GatherFault::Missing)),
-    ] {
-        gathers_as(rt, alloc, port, told, numbers, wanted);
+    for (numbers, wanted) in &GATHERED {
+        gathers_as(rt, alloc, port, told, numbers, *wanted);
     }
 }
-
-// An address of 10.0.0.0/8.
-const ADDR: u32 = 0x0a00_0001;
 
 // The port answers the job so, and the reply keeps the job.
 fn is_answered<B: FabricName>(
@@ -114,9 +113,7 @@ fn is_answered<B: FabricName>(
     job: &Job<B>,
     want: Answer,
 ) {
-    let Ok(reply) = port.answer(job) else {
-        panic!(rt; "image");
-    };
+    let reply = port.answer(job).expect(rt, "image");
     let (kept, generation) = (reply.job(), want.generation);
     equal(rt, reply.answer(), want);
     equal(
@@ -133,20 +130,12 @@ fn answers<B: FabricName, R: Wait + Abort>(
     writer: &mut ImageWriter<B>,
     port: &mut ForwardPort<B>,
 )
-    requires new { writer.old ≡ new_writing 0 }
+    requires { writer.old.waiting ≡ [] }
 {
-    let nothing = Answer {
-        generation: 0,
-        matched: None,
-    };
-    is_answered(rt, port, &asked(1, ADDR, &writer.tell()), nothing);
-    let rows = vec![in alloc; (ten(), via(0))].expect(rt, "memory");
-    let generation = 1;
-    let told = writer
-        .publish(rt, Patch { generation, rows })
-        .expect(rt, "memory");
+    is_answered(rt, port, &asked(1, ADDR, &writer.tell()), NOTHING);
+    let told = set_ten(rt, alloc, writer, via(0));
     let found = Answer {
-        generation,
+        generation: 1,
         matched: Some((ten(), via(0))),
     };
     is_answered(rt, port, &asked(2, ADDR, &told), found);
@@ -170,7 +159,7 @@ impl JobGate for Met {
 }
 
 // Puts jobs 1 to the last into a queue.
-pub fn put<B: FabricName, A: Allocator, R: Wait + Abort>(
+fn put<B: FabricName, A: Allocator, R: Wait + Abort>(
     rt: &R,
     injector: &mut Injector<B, A>,
     told: &Told<B>,
@@ -178,17 +167,39 @@ pub fn put<B: FabricName, A: Allocator, R: Wait + Abort>(
 ) {
     for number in 0..last {
         let job = asked(number + 1, ADDR, told);
-        assert!(rt; injector.inject(rt, job).is_ok());
+        holds(rt, injector.inject(rt, job).is_ok());
     }
 }
 
-// A worker of this port takes what is in a queue, and meets jobs 1 to 5.
-pub fn work_five<B: FabricName, A: Allocator, R: Wait + Abort>(
+// The takers of a queue of so many jobs, for so many workers. If it stops, a stop message for each of them and one more
+// job come behind.
+pub fn takers_of<B: FabricName, A: Allocator + Copy, R: Wait + Abort>(
     rt: &R,
     alloc: A,
-    port: ForwardPort<B, A>,
-    taker: Taker<B, A>,
-) -> Result<Vec<Reply<B>, A>, Refusal> {
+    told: &Told<B>,
+    workers: u8,
+    jobs: u64,
+    stops: bool,
+) -> Vec<Taker<B, A>, A> {
+    let (mut injector, takers) = PacketQueue::new::<B, _>(alloc, workers).expect(rt, "memory");
+    put(rt, &mut injector, told, jobs);
+    if stops {
+        holds(rt, injector.stop(rt));
+        put(rt, &mut injector, told, 1);
+    }
+    takers
+}
+
+// A worker of this port takes what is in a queue, until a stop message or the end of the queue, and meets jobs 1 to 5.
+fn work_five<B: FabricName, R: Wait + Abort>(
+    rt: &R,
+    alloc: Global,
+    told: &Told<B>,
+    port: ForwardPort<B>,
+    stops: bool,
+) -> Result<Vec<Reply<B>>, Refusal> {
+    let mut takers = takers_of(rt, alloc, told, 1, 5, stops);
+    let taker = takers.pop().expect(rt, "taker");
     let gate = Met {
         before: AtomicU64::new(0),
         after: AtomicU64::new(0),
@@ -199,8 +210,7 @@ pub fn work_five<B: FabricName, A: Allocator, R: Wait + Abort>(
     replies
 }
 
-// One worker answers five jobs, until a stop message, behind which there is one more, or the end of the
-// queue.
+// One worker answers five jobs.
 fn works<B: FabricName, R: Wait + Abort>(
     rt: &R,
     alloc: Global,
@@ -208,23 +218,13 @@ fn works<B: FabricName, R: Wait + Abort>(
     port: ForwardPort<B>,
     stops: bool,
 ) {
-    let (mut injector, mut takers) = PacketQueue::new::<B, _>(alloc, 1).expect(rt, "memory");
-    put(rt, &mut injector, told, 5);
-    if stops {
-        assert!(rt; injector.stop(rt));
-        put(rt, &mut injector, told, 1);
-    }
-    drop(injector);
-    let taker = takers.pop().expect(rt, "taker");
-    let Ok(replies) = work_five(rt, alloc, port, taker) else {
-        panic!(rt; "replies");
-    };
+    let replies = work_five(rt, alloc, told, port, stops).expect(rt, "replies");
     are_one_to_five(rt, &replies);
 }
 
 // There are replies to jobs 1 to 5, in order.
 fn are_one_to_five<B: FabricName>(rt: &impl Abort, replies: &[Reply<B>]) {
-    assert!(rt; replies.len() == 5);
+    holds(rt, replies.len() == 5);
     for place in 0..5usize {
         equal(rt, replies[place].job().number, place as u64 + 1);
     }
@@ -250,13 +250,9 @@ impl<R> Drop for Meeting<'_, R> {
 impl<R: Clock> JobGate for Meeting<'_, R> {
     fn before(&self, _job: u64) {
         self.taken.fetch_add(1, Ordering::SeqCst);
-        for _ in 0..1_000u32 {
-            if self.taken.load(Ordering::SeqCst) == 2 {
-                return;
-            }
-            thread::sleep(self.rt, Duration::from_millis(1));
+        if !gets_to(self.rt, &self.taken, 2) {
+            self.late.store(true, Ordering::SeqCst);
         }
-        self.late.store(true, Ordering::SeqCst);
     }
 
     fn after(&self, _job: u64) {}
@@ -269,39 +265,37 @@ fn are_one_each<B: FabricName>(
     first: Result<Vec<Reply<B>>, Refusal>,
     second: Result<Vec<Reply<B>>, Refusal>,
 ) {
-    let (Ok(mut replies), Ok(mut others)) = (first, second) else {
-        panic!(rt; "replies");
-    };
+    let mut replies = first.expect(rt, "replies");
+    let mut others = second.expect(rt, "replies");
     equal(rt, (replies.len(), others.len()), (1, 1));
     replies.append(&mut others).expect(rt, "memory");
     let jobs = [asked(1, ADDR, told), asked(2, ADDR, told)];
-    assert!(rt; gather(&jobs, replies).is_ok());
+    holds(rt, gather(&jobs, replies).is_ok());
 }
 
-// Two workers take a job each from their takers.
-fn meet<B, R>(
+// What two workers reply that work at the same time.
+pub fn work_both<B, A, R, G>(
     rt: &R,
-    alloc: Global,
-    told: &Told<B>,
-    first: (ForwardPort<B>, Taker<B>),
-    second: (ForwardPort<B>, Taker<B>),
+    alloc: A,
+    gate: &G,
+    first: (ForwardPort<B, A>, Taker<B, A>),
+    second: (ForwardPort<B, A>, Taker<B, A>),
+) -> (
+    Result<Vec<Reply<B>, A>, Refusal>,
+    Result<Vec<Reply<B>, A>, Refusal>,
 )
 where
     B: FabricName + Send + Sync,
-    R: Threads + Wait + Clock + Abort + Sync,
+    A: Allocator + Copy + Send + Sync,
+    R: Threads + Wait + Sync,
+    G: JobGate + Sync,
 {
-    let gate = Meeting {
+    let (one, other) = join(
         rt,
-        taken: AtomicU64::new(0),
-        late: AtomicBool::new(false),
-    };
-    let (first, second) = join(
-        rt,
-        || work(rt, alloc, first.0, first.1, &gate),
-        || work(rt, alloc, second.0, second.1, &gate),
+        || work(rt, alloc, first.0, first.1, gate),
+        || work(rt, alloc, second.0, second.1, gate),
     );
-    assert!(rt; !gate.late.load(Ordering::SeqCst));
-    are_one_each(rt, told, first.replies, second.replies);
+    (one.replies, other.replies)
 }
 
 // Two workers answer a job each.
@@ -310,12 +304,17 @@ where
     B: FabricName + Send + Sync,
     R: Threads + Wait + Clock + Abort + Sync,
 {
-    let (mut injector, mut takers) = PacketQueue::new::<B, _>(alloc, 2).expect(rt, "memory");
-    put(rt, &mut injector, told, 2);
-    assert!(rt; injector.stop(rt));
-    let one = takers.pop().expect(rt, "taker");
-    let other = takers.pop().expect(rt, "taker");
-    meet(rt, alloc, told, (first, one), (second, other));
+    let mut takers = takers_of(rt, alloc, told, 2, 2, true);
+    let first = (first, takers.pop().expect(rt, "taker"));
+    let second = (second, takers.pop().expect(rt, "taker"));
+    let gate = Meeting {
+        rt,
+        taken: AtomicU64::new(0),
+        late: AtomicBool::new(false),
+    };
+    let (one, other) = work_both(rt, alloc, &gate, first, second);
+    holds(rt, !gate.late.load(Ordering::SeqCst));
+    are_one_each(rt, told, one, other);
 }
 
 // A worker without an image takes all jobs, answers none, and says why.
@@ -325,22 +324,19 @@ fn goes_on<B: FabricName, R: Wait + Abort>(
     told: &Told<B>,
     port: ForwardPort<B>,
 ) {
-    let (mut injector, mut takers) = PacketQueue::new::<B, _>(alloc, 1).expect(rt, "memory");
-    put(rt, &mut injector, told, 5);
-    drop(injector);
-    let taker = takers.pop().expect(rt, "taker");
-    let refusal = work_five(rt, alloc, port, taker).err();
+    let refusal = work_five(rt, alloc, told, port, false).err();
     equal(rt, refusal, Some(Refusal::NoImage));
 }
 
-// What is done with a writer of one router and two of its readers.
+// What is done with a writer of one router and ports of two of its readers.
 #[derive(Clone, Copy)]
 enum Trial {
     Gathers,
     Answers,
-    WorksToAStop,
-    WorksToTheEnd,
+    // Until a stop message, or to the end of the queue.
+    Works(bool),
     Meets,
+    // Once the writer is closed.
     GoesOn,
 }
 
@@ -348,26 +344,21 @@ fn tried<B, R>(
     rt: &R,
     alloc: Global,
     writer: &mut ImageWriter<B>,
-    first: ImageReader<B>,
-    second: ImageReader<B>,
+    mut first: ForwardPort<B>,
+    second: ForwardPort<B>,
     trial: Trial,
 )
 where
     B: FabricName + Send + Sync,
     R: Threads + Wait + Clock + Abort + Sync,
-    requires one { length B.books ≡ 1 }
-    requires new { writer.old ≡ new_writing 0 }
-    requires first { first.router ≡ 0 }
-    requires second { second.router ≡ 0 }
+    requires { writer.old.waiting ≡ [] }
 {
     let told = writer.tell();
-    let mut first = port_of(rt, alloc, first);
     match trial {
         Trial::Gathers => gathers(rt, alloc, &told, &mut first),
         Trial::Answers => answers(rt, alloc, writer, &mut first),
-        Trial::WorksToAStop => works(rt, alloc, &told, first, true),
-        Trial::WorksToTheEnd => works(rt, alloc, &told, first, false),
-        Trial::Meets => meets(rt, alloc, &told, first, port_of(rt, alloc, second)),
+        Trial::Works(stops) => works(rt, alloc, &told, first, stops),
+        Trial::Meets => meets(rt, alloc, &told, first, second),
         Trial::GoesOn => {}
     }
 }
@@ -380,17 +371,18 @@ where
     requires openings { B.openings ≡ image.rows ∷ [] }
     requires generation { image.generation ≡ 0 }
 {
-    let Ok((mut writer, mut readers)) = open::<B, _, R>(rt, alloc, unnamed, 0, image, 3) else {
-        panic!(rt; "open");
-    };
-    let first = readers.pop().expect(rt, "reader");
-    let second = readers.pop().expect(rt, "reader");
-    let third = readers.pop().expect(rt, "reader");
-    tried(rt, alloc, &mut writer, first, second, trial);
-    let told = writer.tell();
-    writer.close(rt);
+    let (mut writer, mut readers) = open::<B, _, R>(rt, alloc, unnamed, 0, image, 2).expect(
+        rt, "open",
+    );
+    let first = port_of(rt, alloc, readers.pop().expect(rt, "reader"));
+    let second = port_of(rt, alloc, readers.pop().expect(rt, "reader"));
     if let Trial::GoesOn = trial {
-        goes_on(rt, alloc, &told, port_of(rt, alloc, third));
+        let told = writer.tell();
+        writer.close(rt);
+        goes_on(rt, alloc, &told, first);
+    } else {
+        tried(rt, alloc, &mut writer, first, second, trial);
+        writer.close(rt);
     }
 }
 
@@ -414,12 +406,12 @@ fn a_worker_answers_its_jobs(rt: HostRuntime) {
 
 #[test]
 fn a_worker_works_until_it_is_stopped(rt: HostRuntime) {
-    one_router(&rt, rt.alloc(), Trial::WorksToAStop);
+    one_router(&rt, rt.alloc(), Trial::Works(true));
 }
 
 #[test]
 fn works_to_the_end(rt: HostRuntime) {
-    one_router(&rt, rt.alloc(), Trial::WorksToTheEnd);
+    one_router(&rt, rt.alloc(), Trial::Works(false));
 }
 
 #[test]

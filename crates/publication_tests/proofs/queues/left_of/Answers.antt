@@ -6,17 +6,16 @@ use Rattle.publication_tests.proofs.queues.left_of.Goals as goal
 -- the taker is of the queue after it took, so all of them are
 pub reckon-requires : goal.reckon-requires
 reckon-requires g c =
-    let all = c.in-Ok.ensures.all in
-    let takers = c.in-Ok.takers.items in
-    let same = c.loop-number.invariant in
-    let stopped = c.stop.ensures.same in
+    let all = c.requires in
+    let takers = c.args.takers.items in
+    let same = c.fill.ensures in
     let taker = c.in-Some.taker in
     let rest = c.pop.new.self.items in
     let popped = c.in-Some.ensures.items in
-    let P : Taker _ _ → Type 0 = λ t. takes_from t ≡ puts_into c.in-Ok.injector in
-    let Q : Taker _ _ → Type 0 = λ t. takes_from t ≡ puts_into c.stop.new.self in
-    let from : (t : Taker _ _) → P t → Q t = λ t e. e ∙ sym (stopped.0 ∙ same.0) in (
-      (let p = c.in-Some.ensures.cases in let l = c.in-Ok-push.ensures.len in omega arith),
-      all_pushed Q c.push.new.self.items rest c.loop.taker c.in-Ok-push.ensures.items (λ k d l. from (get_or rest k d) (all_front P takers rest taker popped all.1 k d l))
-          (from c.loop.taker (c.loop.invariant ∙ all_last P takers rest taker popped all.1)),
+    let P : Taker _ _ → Type 0 = λ t. takes_from t ≡ puts_into c.args.injector in
+    let Q : Taker _ _ → Type 0 = λ t. takes_from t ≡ puts_into c.fill.new.injector in
+    let from : (t : Taker _ _) → P t → Q t = λ t e. e ∙ sym same.0 in (
+      (let p = c.in-Some.ensures.cases in let l = c.in-Ok.ensures.len in omega arith),
+      all_pushed Q c.push.new.self.items rest c.take_some.new.taker c.in-Ok.ensures.items (λ k d l. from (get_or rest k d) (all_front P takers rest taker popped all.1 k d l))
+          (from c.take_some.new.taker (c.take_some.ensures ∙ all_last P takers rest taker popped all.1)),
     )
