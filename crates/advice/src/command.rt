@@ -1,9 +1,9 @@
 //! Why a line is no command.
 
-use crate::line::{why_no_cost, why_no_seed};
+use crate::line::{why_no_cost, why_no_router, why_outside};
 use crate::why::{Why, Word, odd_space};
 use network_model::LinkSpec;
-use script::Names;
+use script::{Names, place_between};
 use std::alloc::Global;
 use std::io;
 use strsim::levenshtein;
@@ -15,21 +15,18 @@ detach A PREFIX|up A|down A|settle|settle --seed N|count|state A PREFIX|table A|
 queue A B|held A|lookup A ADDR|trace A ADDR|trace A ADDR --through|report|save|restore|\
 inject A ADDR|drain";
 
-// The forms of those that a shell alone has.
-const OF_SHELL: [&str; 3] = ["say TEXT", "help", "quit"];
-
 /// How a command of the shell alone is written, if the line begins as one.
 pub fn why_not_of_shell(line: &str) -> Option<Why<'_>> {
     Some(wrong_words(form_of_shell(word_at(line, 0))?))
 }
 
 fn form_of_shell(verb: &str) -> Option<&'static str> {
-    for form in OF_SHELL {
-        if word_at(form, 0) == verb {
-            return Some(form);
-        }
+    match verb {
+        "say" => Some("say TEXT"),
+        "help" => Some("help"),
+        "quit" => Some("quit"),
+        _ => None,
     }
-    None
 }
 
 fn wrong_words<'a>(form: &'static str) -> Why<'a> {
@@ -46,16 +43,17 @@ pub fn why_no_command<'a>(
     if let Some(why) = why_spaces(line) {
         return Ok(why);
     }
-    let tried = line.strip_prefix("try ");
-    let line = tried.unwrap_or(line);
-    let count = line.split(' ').count();
-    let Some(form) = form_of(line, if tried.is_some() { None } else { Some(count) }) else {
-        return why_unknown(alloc, word_at(line, 0));
+    let (line, count) = match line.strip_prefix("try ") {
+        Some(step) => (step, None),
+        None => (line, Some(count_of(line))),
     };
-    if form.split(' ').count() != count {
-        return Ok(wrong_words(form));
+    match form_of(line, count) {
+        Some(form) if count_of(form) == count_of(line) => {
+            Ok(why_no_words(names, links, form, line))
+        }
+        Some(form) => Ok(wrong_words(form)),
+        None => why_unknown(alloc, word_at(line, 0)),
     }
-    Ok(why_no_words(names, links, form, line))
 }
 
 /// Why a line cannot be taken that has nothing in it, two spaces in a row, one at an end, or a character that looks
@@ -68,7 +66,7 @@ pub fn why_spaces(line: &str) -> Option<Why<'_>> {
         let why = "`_` cannot stand here: write single spaces between words";
         return Some(Why::of(why, Word::Letter(letter)));
     }
-    if line.split(' ').any(|word| word.is_empty()) {
+    if line.starts_with(' ') || line.ends_with(' ') || line.contains("  ") {
         let why = "write single spaces between words, and none at an end";
         return Some(Why::plain(why));
     }
@@ -78,24 +76,28 @@ pub fn why_spaces(line: &str) -> Option<Why<'_>> {
 // The form that the line's verb has with so many words; or else with the line's second word; or else its first.
 fn form_of(line: &str, count: Option<usize>) -> Option<&'static str> {
     let (verb, second) = (word_at(line, 0), word_at(line, 1));
-    let (mut first, mut near) = (None, None);
+    let mut found = None;
     for form in FORMS.split('|') {
         if word_at(form, 0) == verb {
-            if count == Some(form.split(' ').count()) {
+            if count == Some(count_of(form)) {
                 return Some(form);
             }
-            first = first.or(Some(form));
-            if count.is_some() && word_at(form, 1) == second {
-                near = Some(form);
+            if found.is_none() || count.is_some() && word_at(form, 1) == second {
+                found = Some(form);
             }
         }
     }
-    near.or(first)
+    found
 }
 
-// The word at a place of a line; empty if there is none.
-fn word_at(line: &str, place: usize) -> &str {
+/// The word at a place of a line; empty if there is none.
+pub fn word_at(line: &str, place: usize) -> &str {
     line.split(' ').nth(place).unwrap_or("")
+}
+
+/// How many words a line has.
+pub fn count_of(line: &str) -> usize {
+    line.split(' ').count()
 }
 
 // Why a word is no command, and the nearest one that is, if it is near.
@@ -114,11 +116,10 @@ fn why_unknown(alloc: Global, verb: &str) -> io::Result<Why<'_>> {
             nearest = (word, distance);
         }
     }
-    let unknown = Word::Text(verb);
     let near = "unknown command `_`: did you mean `_`?";
     Ok(match nearest.0 {
-        "" => Why::of("unknown command `_`", unknown),
-        word => Why::of_two(near, unknown, Word::Text(word)),
+        "" => Why::of("unknown command `_`", Word::Text(verb)),
+        word => Why::of_two(near, Word::Text(verb), Word::Text(word)),
     })
 }
 
@@ -129,37 +130,39 @@ fn why_no_words<'a>(
     form: &'static str,
     line: &'a str,
 ) -> Why<'a> {
-    let mut first = None;
-    let mut prefix = None;
-    for (wanted, word) in form.split(' ').zip(line.split(' ')) {
-        match wanted {
-            "A" | "B" => {
-                let Some(router) = names.number(word) else {
-                    return Why::of("unknown router `_`", Word::Text(word));
-                };
-                if let Some(other) = first
-                    && !links.iter().any(|link| link.joins(other, router))
-                {
-                    return Why::plain("no link joins these two routers");
-                }
-                first = Some(router);
-            }
-            "C" | "COST" => {
-                if let Some(why) = why_no_cost(word) {
-                    return why;
-                }
-            }
-            "N" => {
-                if let Some(why) = why_no_seed(word) {
-                    return why;
-                }
-            }
-            "PREFIX" => prefix = Some(word),
-            _ => {}
+    for place in 1..4 {
+        if let Some(why) = why_no_word(names, links, word_at(form, place), line, place) {
+            return why;
         }
     }
-    match prefix {
-        Some(prefix) => Why::of("the scenario has no prefix `_`", Word::Text(prefix)),
-        None => Why::of("write `_`", Word::Text(form)),
+    if word_at(form, 2) == "PREFIX" {
+        let prefix = Word::Text(word_at(line, 2));
+        return Why::of("the scenario has no prefix `_`", prefix);
+    }
+    Why::of("write `_`", Word::Text(form))
+}
+
+// Why the word at a place of a line is not what is wanted there.
+fn why_no_word<'a>(
+    names: &Names,
+    links: &[LinkSpec],
+    wanted: &str,
+    line: &'a str,
+    place: usize,
+) -> Option<Why<'a>> {
+    let word = word_at(line, place);
+    match wanted {
+        "A" => why_no_router(names, word),
+        "B" => why_no_router(names, word).or(why_not_joined(names, links, word_at(line, 1), word)),
+        "C" | "COST" => why_no_cost(word),
+        "N" => why_outside(word, 0, u32::MAX),
+        _ => None,
+    }
+}
+
+fn why_not_joined(names: &Names, links: &[LinkSpec], a: &str, b: &str) -> Option<Why<'static>> {
+    match place_between(links, names.number(a)?, names.number(b)?) {
+        Some(_) => None,
+        None => Some(Why::plain("no link joins these two routers")),
     }
 }

@@ -1,10 +1,10 @@
 //! Why a file is no text, or its text no scenario or no document of times.
 
 use crate::page::Brief;
-use crate::position::File;
+use crate::position::{At, File};
 use crate::why::Shown;
 use faults::FaultKind;
-use plans::TimesKey;
+use plans::Where;
 use std::alloc::Global;
 use std::io::{self, Write};
 use toml::{Table, Value};
@@ -32,8 +32,7 @@ fn explain_bytes<W: Write>(name: &str, bytes: &[u8], out: &mut W) -> io::Result<
         return Ok(());
     };
     let end = error.valid_up_to();
-    let before = bytes.get(..end).unwrap_or(&[]);
-    let text = str::from_utf8(before).unwrap_or("");
+    let text = str::from_utf8(bytes.get(..end).unwrap_or(&[])).unwrap_or("");
     let at = File { name, text }.at_byte(end);
     match bytes.get(end) {
         Some(0xfe | 0xff) if end == 0 => {
@@ -47,19 +46,20 @@ fn explain_bytes<W: Write>(name: &str, bytes: &[u8], out: &mut W) -> io::Result<
 /// Tells where a text is no TOML document.
 pub fn explain_document<W: Write>(alloc: Global, file: File<'_>, out: &mut W) -> io::Result<()> {
     if file.text.contains('\0') {
+        let name = file.name;
         return writeln!(
             out,
-            "  {}: it has zero bytes: is it UTF-16? Save it as UTF-8",
-            file.name
+            "  {name}: it has zero bytes: is it UTF-16? Save it as UTF-8"
         );
     }
     let Err(error) = toml::table_from_str(alloc, file.text) else {
         return Ok(());
     };
-    match error.span() {
-        Some(span) => writeln!(out, "  {}: {}", file.at_byte(span.start), error.message()),
-        None => writeln!(out, "  {}: {}", file.name, error.message()),
-    }
+    let at = match error.span() {
+        Some(span) => file.at_byte(span.start),
+        None => At(file.name, None),
+    };
+    writeln!(out, "  {at}: {}", error.message())
 }
 
 /// Tells which keys of a document are not those of a scenario.
@@ -67,14 +67,14 @@ pub fn explain_keys<W: Write>(alloc: Global, file: File<'_>, out: &mut W) -> io:
     let Ok(table) = toml::table_from_str(alloc, file.text) else {
         return Ok(());
     };
-    for key in KEYS {
+    for &key in &KEYS {
         match table.get(key) {
             None => writeln!(out, "  the key `{key}` is missing")?,
-            Some(value) if !is_list(value) => {
+            Some(value) if is_list(value) => {}
+            Some(_) => {
                 let at = file.at_key(key);
                 writeln!(out, "  {at}: `{key}` is not an array of strings")?;
             }
-            Some(_) => {}
         }
     }
     for (key, _) in table.iter() {
@@ -100,14 +100,16 @@ pub(crate) fn explain_times<W: Write>(
     name: &str,
     bytes: &[u8],
     kind: FaultKind,
-    line: Option<(TimesKey, usize)>,
+    place: Where,
     out: &mut W,
 ) -> io::Result<()> {
     let file = read_file(name, bytes, kind, out)?;
-    match line {
-        Some((key, position)) => explain_string(alloc, file, key.name(), position, out)?,
-        None if kind == FaultKind::BadToml => explain_document(alloc, file, out)?,
-        None => {}
+    match place {
+        Where::TimesLine { key, position } => {
+            explain_string(alloc, file, key.name(), position, out)?;
+        }
+        _ if kind == FaultKind::BadToml => explain_document(alloc, file, out)?,
+        _ => {}
     }
     write!(out, "{}", Brief(kind))
 }

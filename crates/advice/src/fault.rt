@@ -48,50 +48,50 @@ pub fn explain<W: Write>(
         return Ok(());
     };
     let kind = fault.kind;
-    let place = match (*words, fault.place) {
-        (Words::Time { times, .. }, Some(Where::Times)) => {
-            return explain_times(alloc, times, beside, kind, None, out);
-        }
-        (Words::Time { times, .. }, Some(Where::TimesLine { key, position })) => {
-            let line = Some((key, position));
-            return explain_times(alloc, times, beside, kind, line, out);
-        }
-        (Words::Replay { journal, .. }, Some(Where::Journal { line })) => {
-            let text = str::from_utf8(beside).unwrap_or("");
-            explain_journal(journal, text, line, out)?;
+    let place = match fault.place {
+        None => None,
+        Some(Where::Scenario(place)) => Some(place),
+        Some(Where::Journal { line }) => {
+            tell_journal(name_beside(words), beside, line, out)?;
             None
         }
-        (_, Some(Where::Scenario(place))) => Some(place),
-        _ => None,
+        Some(place) => return explain_times(alloc, name_beside(words), beside, kind, place, out),
     };
     let file = read_file(name, scenario, kind, out)?;
-    match (kind, place) {
-        (FaultKind::BadToml, _) => explain_document(alloc, file, out)?,
-        (FaultKind::BadKey, _) => explain_keys(alloc, file, out)?,
-        (_, Some(place)) => {
+    match place {
+        Some(place) => {
             let with_others = matches!(words, Words::Check { .. });
             return explain_place(alloc, file, kind, place, with_others, out);
         }
-        (_, None) => {}
+        None if kind == FaultKind::BadToml => explain_document(alloc, file, out)?,
+        None if kind == FaultKind::BadKey => explain_keys(alloc, file, out)?,
+        None => {}
     }
     write!(out, "{}", Brief(kind))
 }
 
-// Tells of a line of a journal's text, counted from 1, that is not what stands there in a journal: its
-// place, its text, and what was expected.
-fn explain_journal<W: Write>(file: &str, text: &str, line: usize, out: &mut W) -> io::Result<()> {
-    match text.split('\n').nth(line.saturating_sub(1)) {
-        Some(found) if !found.is_empty() => writeln!(out, "  {file}:{line}:1: {}", Shown(found))?,
-        _ => writeln!(out, "  {file}:{line}:1: there is no such line")?,
+// The file that is read beside the scenario.
+fn name_beside<'a>(words: &Words<'a>) -> &'a str {
+    match *words {
+        Words::Replay { journal, .. } => journal,
+        Words::Time { times, .. } => times,
+        _ => "",
     }
-    if line == 1 {
-        writeln!(out, "  expected `dualnet journal 2`")
-    } else {
-        writeln!(
-            out,
-            "  expected `end`, or a step of this network's routers and links, for example `up A B`"
-        )
-    }
+}
+
+// Tells of a line of a journal, counted from 1, that is not what stands there in a journal: its place, its text,
+// and what was expected.
+fn tell_journal<W: Write>(file: &str, bytes: &[u8], line: usize, out: &mut W) -> io::Result<()> {
+    let text = str::from_utf8(bytes).unwrap_or("");
+    let found = Shown(match text.split('\n').nth(line.saturating_sub(1)) {
+        Some(found) if !found.is_empty() => found,
+        _ => "there is no such line",
+    });
+    let expected = match line {
+        1 => "`dualnet journal 2`",
+        _ => "`end`, or a step of this network's routers and links, for example `up A B`",
+    };
+    writeln!(out, "  {file}:{line}:1: {found}\n  expected {expected}")
 }
 
 // Tells of the line at fault, when the fault comes, and what to do; then of other lines, if that is asked for.

@@ -26,15 +26,13 @@ pub fn explain_others<W: Write>(
         return Ok(());
     };
     let script = &reading.script;
-    let mut left = MOST_OTHERS;
-    for key in [Key::Routers, Key::Links, Key::Prefixes, Key::Script] {
-        let is_told = match first.key {
-            Key::Links | Key::Prefixes => matches!(key, Key::Links | Key::Prefixes),
-            _ => key == first.key,
-        };
-        if is_told {
-            left = explain_list(alloc, file, lines, script, key, first, left, out)?;
-        }
+    let (key, next) = match first.key {
+        Key::Links | Key::Prefixes => (Key::Links, Some(Key::Prefixes)),
+        key => (key, None),
+    };
+    let left = explain_list(alloc, file, lines, script, key, first, MOST_OTHERS, out)?;
+    if let Some(next) = next {
+        explain_list(alloc, file, lines, script, next, first, left, out)?;
     }
     Ok(())
 }

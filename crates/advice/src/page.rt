@@ -13,19 +13,16 @@ pub struct Brief(pub FaultKind);
 
 impl fmt::Display for Page {
     fn fmt<W: fmt::Write>(&self, f: &mut fmt::Formatter<W>) -> fmt::Result {
-        let [cause, example, remedy] = texts_of(self.0);
-        writeln!(f, "{}", self.0)?;
-        writeln!(f, "when:    {cause}")?;
-        writeln!(f, "example: {example}")?;
-        writeln!(f, "do:      {remedy}")
+        writeln!(f, "{}\nwhen:    {}", self.0, texts_of(self.0))
     }
 }
 
 impl fmt::Display for Brief {
     fn fmt<W: fmt::Write>(&self, f: &mut fmt::Formatter<W>) -> fmt::Result {
-        let [cause, _, remedy] = texts_of(self.0);
-        writeln!(f, "  when: {cause}")?;
-        writeln!(f, "  do:   {remedy}")
+        let text = texts_of(self.0);
+        let (rest, remedy) = text.split_once("\ndo:      ").unwrap_or((text, ""));
+        let (cause, _) = rest.split_once('\n').unwrap_or((rest, ""));
+        writeln!(f, "  when: {cause}\n  do:   {remedy}")
     }
 }
 
@@ -33,12 +30,12 @@ impl fmt::Display for Brief {
 macro_rules! in_pages {
     ($value:expr; $($kind:ident $cause:literal $example:literal $remedy:literal),*) => {
         match $value {
-            $(FaultKind::$kind => [$cause, $example, $remedy],)*
+            $(FaultKind::$kind => concat!($cause, "\nexample: ", $example, "\ndo:      ", $remedy),)*
         }
     };
 }
 
-fn texts_of(kind: FaultKind) -> [&'static str; 3] {
+fn texts_of(kind: FaultKind) -> &'static str {
     in_pages!(kind;
         NoSlash "a prefix has no slash"
             "the prefix `10.0.0.0`, which should be `10.0.0.0/8`"

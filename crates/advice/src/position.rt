@@ -48,13 +48,13 @@ impl<'a> File<'a> {
 
 /// A file, and a line and a column of it, from 1, if they are known, as `ring.toml:8:5`. Columns count characters.
 #[derive(Clone, Copy)]
-pub struct At<'a>(&'a str, Option<(usize, usize)>);
+pub struct At<'a>(pub &'a str, pub Option<(usize, usize)>);
 
 impl fmt::Display for At<'_> {
     fn fmt<W: fmt::Write>(&self, f: &mut fmt::Formatter<W>) -> fmt::Result {
         match self.1 {
             Some((line, column)) => write!(f, "{}:{line}:{column}", self.0),
-            None => write!(f, "{}", self.0),
+            None => f.write_str(self.0),
         }
     }
 }

@@ -28,18 +28,16 @@ pub fn explain_typed<W: Write>(
     out: &mut W,
 ) -> io::Result<()> {
     let number = typed.number;
-    match str::from_utf8(typed.line) {
-        Ok(line) => {
-            writeln!(out, "  line {number}: {}", Shown(line))?;
-            if matches!(kind, FaultKind::BadCommand | FaultKind::BadCost) {
-                let why = match why_not_of_shell(line) {
-                    Some(why) => why,
-                    None => why_no_command(alloc, typed.names, typed.links, line)?,
-                };
-                writeln!(out, "  {why}")?;
-            }
-        }
-        Err(_) => writeln!(out, "  line {number} is not UTF-8")?,
+    let Ok(line) = str::from_utf8(typed.line) else {
+        return write!(out, "  line {number} is not UTF-8\n{}", Brief(kind));
+    };
+    writeln!(out, "  line {number}: {}", Shown(line))?;
+    if kind == FaultKind::BadCommand || kind == FaultKind::BadCost {
+        let why = match why_not_of_shell(line) {
+            Some(why) => why,
+            None => why_no_command(alloc, typed.names, typed.links, line)?,
+        };
+        writeln!(out, "  {why}")?;
     }
     write!(out, "{}", Brief(kind))
 }

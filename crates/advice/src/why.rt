@@ -93,13 +93,8 @@ impl<'a> Why<'a> {
 impl fmt::Display for Why<'_> {
     fn fmt<W: fmt::Write>(&self, f: &mut fmt::Formatter<W>) -> fmt::Result {
         let Why(text, first, second) = *self;
-        for (place, part) in text.split('_').enumerate() {
-            match place {
-                0 => write!(f, "{part}")?,
-                1 => write!(f, "{first}{part}")?,
-                _ => write!(f, "{second}{part}")?,
-            }
-        }
-        Ok(())
+        let (before, rest) = text.split_once('_').unwrap_or((text, ""));
+        let (between, after) = rest.split_once('_').unwrap_or((rest, ""));
+        write!(f, "{before}{first}{between}{second}{after}")
     }
 }
