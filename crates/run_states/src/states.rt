@@ -6,7 +6,7 @@ ghost use Rattle.ipv4_prefix.specs.Texts.{prefix_text};
 ghost use Rattle.network_model.specs.{Network.most_routers, Run.Runs, Step.refusal};
 ghost use Rattle.network_model.specs.World as model;
 ghost use Rattle.world.specs.Steps.{StopsAt};
-ghost use Rattle.serde_json.specs.{View.view, View.members_view, Written.has_float};
+ghost use Rattle.serde_json.specs.{Data.no_members, Data.object, View.view, View.members_view, Written.has_float};
 ghost use Rattle.script.specs.Directories.{name_text};
 ghost use Rattle.journal.specs.Steps.{step_text};
 ghost use Rattle.texts.specs.{Lines.lines_text, Words.Text};
@@ -61,12 +61,15 @@ pub fn write_states<'n, W: Write>(
         × Appends (W.contents out.old) (W.contents out.new) text) }
 {
     let told = stride(every);
-    let world = World::open(alloc, network)?;
+    let mut world = World::open(alloc, network)?;
     let mut recorder = Recorder::new(alloc, network)?;
-    let prefixes = &recorder.prefixes;
-    let opening = opening_value(alloc, network, directory, prefixes, steps.len(), told)?;
-    write_value(alloc, &opening, out)?;
+    let (prefixes, last) = (&recorder.prefixes, steps.len());
+    let mut opening = Map::new(alloc);
+    let members = &mut opening;
+    put_opening(members, alloc, network, directory, prefixes, last, told)?;
+    write_value(alloc, &Value::Object(opening), out)?;
     write_state(alloc, &world, &mut recorder, 0, None, None, out)?;
+    let (world, recorder) = (&mut world, &mut recorder);
     write_steps(
         alloc, network, directory, steps, moments, told, world, recorder, out,
     )
@@ -102,22 +105,22 @@ fn write_steps<'n, W: Write>(
     steps: &[Step],
     moments: &[u64],
     every: usize,
-    mut world: World,
-    mut recorder: Recorder,
+    world: &mut World,
+    recorder: &mut Recorder,
     out: &mut W,
 ) -> Result<(), FaultKind>
     requires every { 0 < every }
-    requires opens { world ≡ model.opening network.now }
-    requires of { IsRecorderOf world recorder }
-    requires shows { ShowsWorld world recorder }
+    requires opens { world.old ≡ model.opening network.now }
+    requires of { IsRecorderOf world.old recorder.old }
+    requires shows { ShowsWorld world.old recorder.old }
     ensures { OnOk result ((lines : List Text)
-        × Tell network.now directory.now steps.now moments.now (numbers_from every (length steps.now) 1) recorder lines
+        × Tell network.now directory.now steps.now moments.now (numbers_from every (length steps.now) 1) recorder.old lines
         × Appends (W.contents out.old) (W.contents out.new) (lines_text (λ t. t) lines)) }
 {
     // A network has no faults, so the headline holds of each world that its steps lead to.
     let links = network.links();
     for (before, step) in steps.iter().enumerate() {
-        if let Err(_refusal) = recorder.step(&mut world, *step) {
+        if let Err(_refusal) = recorder.step(world, *step) {
             return Err(FaultKind::NoMemory);
         }
         let number = before + 1;
@@ -125,7 +128,7 @@ fn write_steps<'n, W: Write>(
             let text = text_of(alloc, directory, links, step)?;
             let moment = moment_of(moments, before);
             let words = Some(text);
-            write_state(alloc, &world, &mut recorder, number, words, moment, out)?;
+            write_state(alloc, world, recorder, number, words, moment, out)?;
         }
     }
     Ok(())
@@ -170,9 +173,13 @@ fn write_state<W: Write>(
         (value_line (state_data world.now recorder.new.prefixes.items number (option_map string_bytes step) moment c))) }
 {
     let changes = recorder.changes(alloc, world)?;
-    let prefixes = &recorder.prefixes;
-    let state = state_value(alloc, world, prefixes, number, step, moment, &changes)?;
-    write_value(alloc, &state, out)
+    let (changes, prefixes) = (&changes, &recorder.prefixes);
+    let mut state = Map::new(alloc);
+    let members = &mut state;
+    put_state(
+        members, alloc, world, prefixes, number, step, moment, changes,
+    )?;
+    write_value(alloc, &Value::Object(state), out)
 }
 
 // Writes a value on a line of its own.
@@ -190,31 +197,31 @@ fn write_value<W: Write>(alloc: Global, value: &Value, out: &mut W) -> Result<()
     }
 }
 
-// What a network opens with: how many steps follow, and after how many of them there is a state each; the
+// Puts what a network opens with: how many steps follow, and after how many of them there is a state each; the
 // names of its routers, the routers at the ends of its links, and its prefixes.
-fn opening_value(
+fn put_opening(
+    members: &mut Map<String, Value>,
     alloc: Global,
     network: &Network,
     directory: &Directory,
     prefixes: &[Prefix],
     steps: usize,
     every: usize,
-) -> Result<Value, NoMemory>
-    ensures { IfOk result (λ v. view v ≡ opening_data network.now directory.now prefixes.now steps every) }
+) -> Result<(), NoMemory>
+    requires { members_view members.old.entries ≡ no_members }
+    ensures { OnOk result (object (members_view members.new.entries) ≡ opening_data network.now directory.now prefixes.now steps every) }
 {
-    let mut members = Map::new(alloc);
     let kind = Value::try_from_str(alloc, "opening")?;
-    put(&mut members, alloc, "kind", kind)?;
-    put(&mut members, alloc, "format", Value::from(1_u8))?;
-    put(&mut members, alloc, "steps", Value::from(steps))?;
-    put(&mut members, alloc, "every", Value::from(every))?;
+    put(members, alloc, "kind", kind)?;
+    put(members, alloc, "format", Value::from(1_u8))?;
+    put(members, alloc, "steps", Value::from(steps))?;
+    put(members, alloc, "every", Value::from(every))?;
     let routers = name_values(alloc, directory, network.routers())?;
-    put_array(&mut members, alloc, "routers", routers)?;
+    put_array(members, alloc, "routers", routers)?;
     let links = end_values(alloc, network.links())?;
-    put_array(&mut members, alloc, "links", links)?;
+    put_array(members, alloc, "links", links)?;
     let prefixes = prefix_values(alloc, prefixes)?;
-    put_array(&mut members, alloc, "prefixes", prefixes)?;
-    Ok(Value::Object(members))
+    Ok(put_array(members, alloc, "prefixes", prefixes)?)
 }
 
 // The names of so many routers.
@@ -256,9 +263,10 @@ fn prefix_values(alloc: Global, prefixes: &[Prefix]) -> Result<Vec<Value>, Alloc
     Ok(values)
 }
 
-// A state: after how many steps it is, the last of them and its moment, and what has changed. If nothing has,
+// Puts a state: after how many steps it is, the last of them and its moment, and what has changed. If nothing has,
 // nothing is named.
-fn state_value(
+fn put_state(
+    members: &mut Map<String, Value>,
     alloc: Global,
     world: &World,
     prefixes: &[Prefix],
@@ -266,24 +274,23 @@ fn state_value(
     step: Option<String>,
     moment: Option<u64>,
     changes: &Changes,
-) -> Result<Value, NoMemory>
-    ensures { IfOk result (λ v. view v ≡ state_data world.now prefixes.now number (option_map string_bytes step) moment changes.now) }
+) -> Result<(), NoMemory>
+    requires { members_view members.old.entries ≡ no_members }
+    ensures { OnOk result (object (members_view members.new.entries) ≡ state_data world.now prefixes.now number (option_map string_bytes step) moment changes.now) }
 {
-    let mut members = Map::new(alloc);
     let kind = Value::try_from_str(alloc, "state")?;
-    put(&mut members, alloc, "kind", kind)?;
-    put(&mut members, alloc, "number", Value::from(number))?;
-    put_step(&mut members, alloc, step)?;
-    put_moment(&mut members, alloc, moment)?;
+    put(members, alloc, "kind", kind)?;
+    put(members, alloc, "number", Value::from(number))?;
+    put_step(members, alloc, step)?;
+    put_moment(members, alloc, moment)?;
     let links = link_values(alloc, &changes.links)?;
-    put_list(&mut members, alloc, "links", links)?;
+    put_list(members, alloc, "links", links)?;
     let routers = router_values(alloc, &changes.routers)?;
-    put_list(&mut members, alloc, "routers", routers)?;
+    put_list(members, alloc, "routers", routers)?;
     let machines = machine_values(alloc, world, &changes.routers)?;
-    put_list(&mut members, alloc, "machines", machines)?;
+    put_list(members, alloc, "machines", machines)?;
     let queues = queue_values(alloc, prefixes, &changes.links)?;
-    put_list(&mut members, alloc, "queues", queues)?;
-    Ok(Value::Object(members))
+    Ok(put_list(members, alloc, "queues", queues)?)
 }
 
 // Puts the text of a step.

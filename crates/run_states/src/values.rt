@@ -2,7 +2,7 @@
 //! opening lists them.
 
 ghost use Rattle.std.specs.Prelude.{◌≡◌, ◌++◌, IfOk, OnOk, map, position};
-ghost use Rattle.serde_json.specs.{Data.put as with_member, View.view, View.members_view};
+ghost use Rattle.serde_json.specs.{Data.no_members, Data.object, Data.put as with_member, View.view, View.members_view};
 ghost use Rattle.ipv4_prefix.specs.Prefix.{prefix_eq};
 ghost use Rattle.run_states.specs.Values.{link_data, router_data, machine_data, queue_data, item_data, entry_data, distance_data, ports_data, port_data, items_data, list, listed, links_data, routers_data, machines_data, queue_listed, queues_data, number_of_end, number_of_prefix, put_if as if_put, put_list as with_list};
 
@@ -15,16 +15,25 @@ use ipv4_prefix::Prefix;
 use lines::{LinkState, MachineState, RouterState, kind_words};
 use metric::Distance;
 use network_model::{End, Entry, Item};
-use serde_json::{Map, Value, json, put};
+use serde_json::{Map, Value, json, push, put};
 use std::alloc::{AllocError, Global};
 use world::World;
 
-// What is shown of the link of this number.
-fn link_value(alloc: Global, number: usize, link: LinkState) -> Result<Value, AllocError>
-    ensures { IfOk result (λ v. view v ≡ link_data number link) }
+// Puts what is shown of the link of this number.
+fn put_link(
+    members: &mut Map<String, Value>,
+    alloc: Global,
+    number: usize,
+    link: LinkState,
+) -> Result<(), AllocError>
+    requires { members_view members.old.entries ≡ no_members }
+    ensures { OnOk result (object (members_view members.new.entries) ≡ link_data number link) }
 {
     let costs = json!(in alloc; [link.from_a.value(), link.from_b.value()])?;
-    json!(in alloc; {"link": number, "up": link.up, "session": link.session, "costs": costs})
+    put(members, alloc, "costs", costs)?;
+    put(members, alloc, "link", Value::from(number))?;
+    put(members, alloc, "session", Value::from(link.session))?;
+    put(members, alloc, "up", Value::Bool(link.up))
 }
 
 // What is shown of the router of this number.
@@ -40,43 +49,33 @@ fn router_value(alloc: Global, number: usize, router: RouterState) -> Result<Val
     })
 }
 
-// What is shown of a router's machine for the prefix of this number.
-fn machine_value(
+// Puts what is shown of a router's machine for the prefix of this number.
+fn put_machine(
+    members: &mut Map<String, Value>,
     alloc: Global,
     world: &World,
     router: u16,
     prefix: usize,
     machine: MachineShown,
-) -> Result<Value, AllocError>
-    ensures { IfOk result (λ v. view v ≡ machine_data world.now router prefix machine) }
+) -> Result<(), AllocError>
+    requires { members_view members.old.entries ≡ no_members }
+    ensures { OnOk result (object (members_view members.new.entries) ≡ machine_data world.now router prefix machine) }
 {
     let MachineState { origin, rd, fd } = machine.at;
+    put(members, alloc, "router", Value::from(router))?;
+    put(members, alloc, "prefix", Value::from(prefix))?;
+    put(members, alloc, "rd", distance_value(rd))?;
+    put(members, alloc, "fd", distance_value(fd))?;
     let chosen = entry_value(alloc, world, router, machine.chosen)?;
+    put(members, alloc, "chosen", chosen)?;
     let published = entry_value(alloc, world, router, machine.published)?;
-    let (rd, fd) = (distance_value(rd), distance_value(fd));
-    match origin {
-        None => json!(in alloc; {
-            "router": router,
-            "prefix": prefix,
-            "rd": rd,
-            "fd": fd,
-            "chosen": chosen,
-            "published": published
-        }),
-        Some(origin) => {
-            let awaits = ports_value(alloc, world, router, machine.awaited)?;
-            json!(in alloc; {
-                "router": router,
-                "prefix": prefix,
-                "rd": rd,
-                "fd": fd,
-                "active": origin,
-                "awaits": awaits,
-                "chosen": chosen,
-                "published": published
-            })
-        }
+    put(members, alloc, "published", published)?;
+    if let Some(origin) = origin {
+        let awaits = ports_value(alloc, world, router, machine.awaited)?;
+        put(members, alloc, "awaits", awaits)?;
+        put(members, alloc, "active", Value::from(origin))?;
     }
+    Ok(())
 }
 
 // A distance; null where it is infinite.
@@ -137,25 +136,25 @@ fn ports_value(
     Ok(Value::Array(links))
 }
 
-// What became of the items that an end of a link has yet to take. What did not happen is not named.
-fn queue_value(
+// Puts what became of the items that an end of a link has yet to take. What did not happen is not named.
+fn put_queue(
+    members: &mut Map<String, Value>,
     alloc: Global,
     prefixes: &[Prefix],
     link: usize,
     end: End,
     change: &QueueChange,
-) -> Result<Value, AllocError>
-    ensures { IfOk result (λ v. view v ≡ queue_data prefixes.now link end change.now) }
+) -> Result<(), AllocError>
+    requires { members_view members.old.entries ≡ no_members }
+    ensures { OnOk result (object (members_view members.new.entries) ≡ queue_data prefixes.now link end change.now) }
 {
-    let mut members = Map::new(alloc);
-    put(&mut members, alloc, "link", Value::from(link))?;
-    put(&mut members, alloc, "end", Value::from(end_number(end)))?;
-    let (taken, some) = (Value::from(change.take), change.put.len() > 0);
-    put_if(&mut members, alloc, "take", change.take > 0, taken)?;
-    put_if(&mut members, alloc, "lose", change.lose, Value::Bool(true))?;
+    put(members, alloc, "link", Value::from(link))?;
+    put(members, alloc, "end", Value::from(end_number(end)))?;
+    let taken = Value::from(change.take);
+    put_if(members, alloc, "take", change.take > 0, taken)?;
+    put_if(members, alloc, "lose", change.lose, Value::Bool(true))?;
     let items = items_value(alloc, prefixes, &change.put)?;
-    put_if(&mut members, alloc, "put", some, items)?;
-    Ok(Value::Object(members))
+    put_if(members, alloc, "put", change.put.len() > 0, items)
 }
 
 // Puts a member where something happened.
@@ -255,7 +254,9 @@ fn push_link(
     ensures { OnOk result (map view values.new.items ≡ map view values.old.items ++ listed (link_data link) shown) }
 {
     if let Some(shown) = shown {
-        values.push(link_value(alloc, link, shown)?)?;
+        let mut members = Map::new(alloc);
+        put_link(&mut members, alloc, link, shown)?;
+        values.push(Value::Object(members))?;
     }
     Ok(())
 }
@@ -314,7 +315,9 @@ fn push_machines(
         ≡ map view values.old.items ++ map (λ m. machine_data world.now router m.0 m.1) machines.now) }
 {
     for &(prefix, shown) in machines {
-        values.push(machine_value(alloc, world, router, prefix, shown)?)?;
+        let mut members = Map::new(alloc);
+        put_machine(&mut members, alloc, world, router, prefix, shown)?;
+        values.push(Value::Object(members))?;
     }
     Ok(())
 }
@@ -347,10 +350,12 @@ fn push_queue(
     ensures { OnOk result (map view values.new.items
         ≡ map view values.old.items ++ queue_listed prefixes.now link end change.now) }
 {
-    if !change.is_nothing() {
-        values.push(queue_value(alloc, prefixes, link, end, change)?)?;
+    if change.is_nothing() {
+        return Ok(());
     }
-    Ok(())
+    let mut members = Map::new(alloc);
+    put_queue(&mut members, alloc, prefixes, link, end, change)?;
+    push(values, Value::Object(members))
 }
 
 /// Puts a list where it is not empty.

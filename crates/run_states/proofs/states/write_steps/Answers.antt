@@ -10,11 +10,11 @@ use Rattle.run_states.proofs.states.write_steps.Goals.{then-is_told+in_ok-text+i
 
 pub loop-before-init : goal.loop-before-init
 loop-before-init g c = record {
-  room = room_at_opening c.args.world c.args.network.now (length c.args.steps.now - 0) c.requires.opens (omega arith);
+  room = room_at_opening c.args.world.now c.args.network.now (length c.args.steps.now - 0) c.requires.opens (omega arith);
   runs = sym c.requires.opens;
   of = c.requires.of;
   current = shown_current _ _ c.requires.shows;
-  told = telling_none c.args.network.now c.args.directory.now c.args.steps.now c.args.moments.now c.args.every c.args.recorder (g.W.Write.contents c.args.out.now);
+  told = telling_none c.args.network.now c.args.directory.now c.args.steps.now c.args.moments.now c.args.every c.args.recorder.now (g.W.Write.contents c.args.out.now);
 }
 
 pub loop-before-preserved : goal.loop-before-preserved
@@ -48,9 +48,9 @@ loop-before-preserved g c =
             runs = runs;
             of = subst (IsRecorderOf v) (sym x.recorder-is) x.in_ok-write_state.ensures.of;
             current = subst (IsCurrent v) (sym x.recorder-is) (shown_current _ _ x.in_ok-write_state.ensures.shows);
-            told = subst (λ r. Telling n d steps moments c.args.every (k + 1) c.args.recorder r (out c.args.out.now) (out c.if-is_told.out)) (sym x.recorder-is)
-                (subst (λ o. Telling n d steps moments c.args.every (k + 1) c.args.recorder next (out c.args.out.now) (out o)) (sym x.out-is)
-                (telling_more n d steps moments c.args.every k c.args.recorder c.loop-before.recorder c.step.new.self next line (out c.args.out.now) (out c.loop-before.out) (out x.write_state.new.out)
+            told = subst (λ r. Telling n d steps moments c.args.every (k + 1) c.args.recorder.now r (out c.args.out.now) (out c.if-is_told.out)) (sym x.recorder-is)
+                (subst (λ o. Telling n d steps moments c.args.every (k + 1) c.args.recorder.now next (out c.args.out.now) (out o)) (sym x.out-is)
+                (telling_more n d steps moments c.args.every k c.args.recorder.now c.loop-before.recorder c.step.new.self next line (out c.args.out.now) (out c.loop-before.out) (out x.write_state.new.out)
                 (omega (arith, c.loop-before-test.true)) (sym c.is_told.ensures ∙ x.if-is_told.true) c.in_default.ensures.shows is_line more c.loop-before.invariant.told));
           }
       | else-is_told x ↦ record {
@@ -58,13 +58,13 @@ loop-before-preserved g c =
         runs = runs;
         of = subst (IsRecorderOf v) (sym x.recorder-is) c.in_default.ensures.of;
         current = subst (IsCurrent v) (sym x.recorder-is) c.in_default.ensures.current;
-        told = subst (λ r. Telling n d steps moments c.args.every (k + 1) c.args.recorder r (out c.args.out.now) (out c.if-is_told.out)) (sym x.recorder-is)
-            (subst (λ o. Telling n d steps moments c.args.every (k + 1) c.args.recorder c.step.new.self (out c.args.out.now) (out o)) (sym x.out-is)
-            (telling_less n d steps moments c.args.every k c.args.recorder c.loop-before.recorder c.step.new.self (out c.args.out.now) (out c.loop-before.out)
+        told = subst (λ r. Telling n d steps moments c.args.every (k + 1) c.args.recorder.now r (out c.args.out.now) (out c.if-is_told.out)) (sym x.recorder-is)
+            (subst (λ o. Telling n d steps moments c.args.every (k + 1) c.args.recorder.now c.step.new.self (out c.args.out.now) (out o)) (sym x.out-is)
+            (telling_less n d steps moments c.args.every k c.args.recorder.now c.loop-before.recorder c.step.new.self (out c.args.out.now) (out c.loop-before.out)
             (omega (arith, c.loop-before-test.true)) (sym c.is_told.ensures ∙ x.if-is_told.false) c.in_default.ensures.shows c.loop-before.invariant.told));
       }
     ]
 
 pub returns : goal.returns
-returns g c = telling_all c.args.network.now c.args.directory.now c.args.steps.now c.args.moments.now c.args.every c.loop-before.before c.args.recorder c.loop-before.recorder (g.W.Write.contents c.args.out.now) (g.W.Write.contents c.loop-before.out)
+returns g c = telling_all c.args.network.now c.args.directory.now c.args.steps.now c.args.moments.now c.args.every c.loop-before.before c.args.recorder.now c.loop-before.recorder (g.W.Write.contents c.args.out.now) (g.W.Write.contents c.loop-before.out)
     (omega arith) c.loop-before.invariant.told

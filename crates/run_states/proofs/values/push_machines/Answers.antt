@@ -1,6 +1,7 @@
 use Rattle.std.proofs.Common.{◌∙◌, ◌++◌, [], ◌∷◌, ℕ, ap, sym, append_assoc, refl, map, length, take, arith}
 use Rattle.std.proofs.{lemmas.List.take_all, lemmas.List.map-append, lemmas.Option.slice_get_read}
-use Rattle.serde_json.specs.View.{view}
+use Rattle.serde_json.specs.{View.view, declared.value.Value.Object}
+use Rattle.serde_json.proofs.Views.{view-Object}
 use Rattle.run_states.specs.{declared.shown.MachineShown.MachineShown, Values.machine_data}
 use Rattle.network_model.proofs.Fronts.{take_next}
 use Rattle.run_states.proofs.Made.{pushed}
@@ -13,7 +14,7 @@ loop-prefix-preserved c =
     let x = c.loop-prefix-item.result in
     let f = λ (m : ℕ × MachineShown). machine_data c.args.world.now c.args.router m.0 m.1 in
     let start = map view (c.args.values.now).items in
-    pushed view (c.loop-prefix.values).items (c.push.new.self).items c.in_ok-machine_value.field-0 (f x) c.in_ok-push.ensures.items c.in_ok-machine_value.ensures
+    pushed view (c.loop-prefix.values).items (c.push.new.self).items (Object c.put_machine.new.members) (f x) c.in_ok-push.ensures.items (view-Object c.put_machine.new.members ∙ c.in_ok-put_machine.ensures)
     ∙ ap (λ ds. ds ++ f x ∷ []) c.loop-prefix.invariant ∙ append_assoc start (map f (take n machines)) (f x ∷ [])
     ∙ ap (λ ds. start ++ ds) (sym (ap (map f) (take_next machines n x (slice_get_read machines (length machines) n x refl (omega arith) c.loop-prefix-item.is)) ∙ map-append f (take n machines) (x ∷ [])))
 
