@@ -110,11 +110,7 @@ impl fmt::Display for Told<'_, Counts> {
 
     fn fmt<W: fmt::Write>(&self, f: &mut fmt::Formatter<W>) -> fmt::Result {
         let Told(by, Counts { steps, sent }) = *self;
-        let Sent {
-            updates,
-            queries,
-            replies,
-        } = sent;
+        let (updates, queries, replies) = (sent.updates, sent.queries, sent.replies);
         write_either!(f, by;
             "{steps} steps, {updates} updates {queries} queries {replies} replies",
             "\"steps\":{steps},\"updates\":{updates},\"queries\":{queries},\"replies\":{replies}")

@@ -94,12 +94,8 @@ impl fmt::Display for Told<'_, RouterLine> {
     fn fmt<W: fmt::Write>(&self, f: &mut fmt::Formatter<W>) -> fmt::Result {
         let Told(by, line) = *self;
         let name = by.directory.name(Some(line.router));
-        let RouterState {
-            generation,
-            held,
-            ripe,
-            notices,
-        } = line.at;
+        let (generation, held) = (line.at.generation, line.at.held);
+        let (ripe, notices) = (line.at.ripe, line.at.notices);
         write_either!(f, by;
             "{name} gen {generation} held {held} ripe {ripe} attach {notices}",
             "{{\"kind\":\"router\",\"router\":\"{name}\",\"generation\":{generation},\"held\":{held},\"ripe\":{ripe},\"notices\":{notices}}}")

@@ -7,8 +7,8 @@ ghost use Rattle.lines.specs.Formats.{line_in, printed};
 use crate::line::Line;
 use command_line::Format;
 use script::Directory;
-use std::io::Write;
-use std::{fmt, io};
+use std::fmt::{self, Display};
+use std::io::{self, Write};
 
 /// How lines are told: by the names of a network's routers, in a format.
 #[derive(Clone, Copy)]
@@ -43,28 +43,28 @@ impl fmt::Display for Told<'_, &Line<'_>> {
     fn fmt<W: fmt::Write>(&self, f: &mut fmt::Formatter<W>) -> fmt::Result {
         let by = self.0;
         match *self.1 {
-            Line::Asked(asked) => write!(f, "{}", Told(by, asked)),
-            Line::Traced(ref line) => write!(f, "{}", Told(by, line)),
-            Line::Link(line) => write!(f, "{}", Told(by, line)),
-            Line::Router(line) => write!(f, "{}", Told(by, line)),
-            Line::Machine(line) => write!(f, "{}", Told(by, line)),
-            Line::Unheard { router, prefix } => write!(f, "{}", Told(by, (router, prefix))),
-            Line::Awaits(ref line) => write!(f, "{}", Told(by, line)),
-            Line::Known(line) => write!(f, "{}", Told(by, line)),
-            Line::Waiting(waiting) => write!(f, "{}", Told(by, waiting)),
+            Line::Asked(asked) => Told(by, asked).fmt(f),
+            Line::Traced(ref line) => Told(by, line).fmt(f),
+            Line::Link(line) => Told(by, line).fmt(f),
+            Line::Router(line) => Told(by, line).fmt(f),
+            Line::Machine(line) => Told(by, line).fmt(f),
+            Line::Unheard { router, prefix } => Told(by, (router, prefix)).fmt(f),
+            Line::Awaits(ref line) => Told(by, line).fmt(f),
+            Line::Known(line) => Told(by, line).fmt(f),
+            Line::Waiting(waiting) => Told(by, waiting).fmt(f),
             Line::Moved(waiting) => {
                 let moved = Told(by, waiting);
                 write_either!(f, by; "  {moved}", "{moved}")
             }
-            Line::Next(ref line) => write!(f, "{}", Told(by, line)),
-            Line::Tried(fault) => write!(f, "{}", Told(by, fault)),
+            Line::Next(ref line) => Told(by, line).fmt(f),
+            Line::Tried(fault) => Told(by, fault).fmt(f),
             Line::Counted(counts) => {
                 let counts = Told(by, counts);
                 write_either!(f, by; "count: {counts}", "{{\"kind\":\"count\",{counts}}}")
             }
-            Line::Ended(ended) => write!(f, "{}", Told(by, ended)),
-            Line::Changed(ref line) => write!(f, "{}", Told(by, line)),
-            Line::Spell(line) => write!(f, "{}", Told(by, line)),
+            Line::Ended(ended) => Told(by, ended).fmt(f),
+            Line::Changed(ref line) => Told(by, line).fmt(f),
+            Line::Spell(line) => Told(by, line).fmt(f),
         }
     }
 }
