@@ -1,13 +1,14 @@
 //! Commands that print what a network does.
 
-ghost use Rattle.std.specs.Prelude.{◌≡◌, ◌⊎◌, IfErr, OnErr, OnOk};
-ghost use Rattle.world.specs.Steps.{IsDoneOr};
+ghost use Rattle.std.specs.Prelude.{◌≡◌, ◌⊎◌, IfErr, OnOk};
+ghost use Rattle.world.specs.Steps.{CanBeRefused};
+ghost use Rattle.plans.specs.Faults.{OfRefusal};
 ghost use Rattle.interpreter.specs.Nets.{IsStepDone, IsStepRefused};
 
 use crate::live::Live;
 use faults::FaultKind;
 use lines::{Answer, Asked, Line, Printer, TraceLine, moved_by};
-use network_model::{Refusal, Step};
+use network_model::Step;
 use std::io::Write;
 
 /// Does a step, and prints what it moved, if more is to be told. What it prints may be lost.
@@ -17,10 +18,10 @@ pub fn do_step<N: Live, W: Write>(
     moves: bool,
     step: Step,
     out: &mut W,
-) -> Result<(), Refusal>
+) -> Result<(), FaultKind>
     ensures ok { OnOk result (IsStepDone N.meaning step net.old net.new) }
-    ensures err { OnErr result (net.new ≡ net.old) }
-    ensures cause { IsDoneOr (N.meaning.refusal net.old step) result }
+    ensures err { IfErr result (λ kind. OfRefusal (CanBeRefused (N.meaning.refusal net.old step)) kind
+        × (net.new ≡ net.old)) }
 {
     let moved = if moves {
         moved_by(net.world(), &step)
@@ -52,9 +53,9 @@ pub fn look_up<N: Live, W: Write>(
     router: u16,
     addr: u32,
     out: &mut W,
-) -> Result<(), Refusal>
+) -> Result<(), FaultKind>
     ensures same { net.new ≡ net.old }
-    ensures err { IfErr result (N.meaning.not_looked_up net.old router addr) }
+    ensures err { IfErr result (OfRefusal (N.meaning.not_looked_up net.old router addr)) }
 {
     let found = net.lookup(router, addr)?;
     let answer = Answer {
@@ -75,9 +76,9 @@ pub fn show_trace<N: Live, W: Write>(
     addr: u32,
     through: bool,
     out: &mut W,
-) -> Result<(), Refusal>
+) -> Result<(), FaultKind>
     ensures same { net.new ≡ net.old }
-    ensures err { IfErr result (N.meaning.not_traced net.old router) }
+    ensures err { IfErr result (OfRefusal (N.meaning.not_traced net.old router)) }
 {
     let traced = net.trace(router, addr, through)?;
     let line = TraceLine {

@@ -215,10 +215,7 @@ impl Live for Counted {
 
     // The job is answered at once.
     fn inject(&mut self, router: u16, addr: u32) -> Result<(), FaultKind> {
-        match self.answer(router, addr) {
-            Ok(()) => Ok(()),
-            Err(refusal) => Err(FaultKind::from(refusal)),
-        }
+        Ok(self.answer(router, addr)?)
     }
 
     fn drain<W: Write>(&mut self, printer: &Printer<'_>, out: &mut W) -> Result<(), FaultKind> {
@@ -238,13 +235,8 @@ impl Live for Counted {
     }
 
     fn save(&mut self) -> Result<(), FaultKind> {
-        match self.simulation.copy(self.alloc) {
-            Ok(copy) => {
-                self.saved = Some(copy);
-                Ok(())
-            }
-            Err(_) => Err(FaultKind::NoMemory),
-        }
+        self.saved = Some(self.simulation.copy(self.alloc)?);
+        Ok(())
     }
 
     // Refused with `NothingSaved` and `NoMemory`.
@@ -252,9 +244,7 @@ impl Live for Counted {
         let Some(saved) = &self.saved else {
             return Err(FaultKind::NothingSaved);
         };
-        let Ok(copy) = saved.copy(self.alloc) else {
-            return Err(FaultKind::NoMemory);
-        };
+        let copy = saved.copy(self.alloc)?;
         // What was done and not yet counted is counted later, too.
         let since = counts_of(&self.simulation).since(self.counted);
         self.counted = counts_of(&copy).since(since);

@@ -146,8 +146,7 @@ where
     match command {
         Command::Step(step) => {
             let moves = interpreter.tells_moves();
-            let done = do_step(net, &printer, moves, step, out);
-            into_kind(done)
+            do_step(net, &printer, moves, step, out)
         }
         Command::Try(step) => {
             try_step(net, &printer, step, out);
@@ -157,8 +156,8 @@ where
         Command::SettleDrawn { seed } => {
             into_kind(settle(net, interpreter.gate, Some(seed), progress))
         }
-        Command::RouterUp { router } => into_kind(put_links(net, true, router)),
-        Command::RouterDown { router } => into_kind(put_links(net, false, router)),
+        Command::RouterUp { router } => put_links(net, true, router),
+        Command::RouterDown { router } => put_links(net, false, router),
         Command::State { router, prefix } => {
             let explain = interpreter.style.explain;
             let done = print_state(net.world(), &printer, router, prefix, explain, out);
@@ -177,12 +176,10 @@ where
             let done = show_held(alloc, net.world(), &printer, router, out);
             into_kind(done)
         }
-        Command::Lookup { router, addr } => into_kind(look_up(net, &printer, router, addr, out)),
-        Command::Trace { router, addr } => {
-            into_kind(show_trace(net, &printer, router, addr, false, out))
-        }
+        Command::Lookup { router, addr } => look_up(net, &printer, router, addr, out),
+        Command::Trace { router, addr } => show_trace(net, &printer, router, addr, false, out),
         Command::TraceThrough { router, addr } => {
-            into_kind(show_trace(net, &printer, router, addr, true, out))
+            show_trace(net, &printer, router, addr, true, out)
         }
         Command::Inject { router, addr } => inject(net, router, addr),
         Command::Drain => drain(net, &printer, out),

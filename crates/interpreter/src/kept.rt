@@ -224,10 +224,7 @@ where
     }
 
     fn lookup(&mut self, router: u16, addr: u32) -> Result<Option<(Prefix, Entry)>, Refusal> {
-        match self.staffed.fabric.lookup(router, addr) {
-            Ok(answer) => Ok(answer.matched),
-            Err(refusal) => Err(refusal),
-        }
+        Ok(self.staffed.fabric.lookup(router, addr)?.matched)
     }
 
     fn trace(&mut self, router: u16, addr: u32, through: bool) -> Result<Trace, Refusal> {
@@ -239,10 +236,7 @@ where
         } else {
             trace(&mut self.staffed.fabric, self.staffed.alloc, router, addr)
         };
-        match traced {
-            Ok(traced) => Ok(traced),
-            Err(fault) => Err(Refusal::from(fault)),
-        }
+        Ok(traced?)
     }
 
     // It takes a worker, and this thread alone is none.

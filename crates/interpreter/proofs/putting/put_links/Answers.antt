@@ -1,24 +1,33 @@
-use Rattle.std.proofs.Common.{◌∙◌, ◌<◌, inr, ap, length, sym, subst, arith}
-use Rattle.network_model.specs.World.{Network}
+use Rattle.std.proofs.Common.{◌∙◌, ◌<◌, inl, inr, ap, length, refl, rules, sym, subst, arith}
+use Rattle.network_model.specs.{declared.step.Refusal.TheVariants.UnknownRouter, Kinds.refusal_kind, World.Network}
 use Rattle.world.specs.Steps.{CanBeRefused}
 use Rattle.course.proofs.Courses.{refused_as}
-use Rattle.interpreter.specs.Commands.{is_amiss_at}
+use Rattle.script.proofs.Exits.{at_err}
+use Rattle.plans.specs.Faults.{OfRefusal}
+use Rattle.interpreter.specs.Commands.{CannotPut, is_amiss_at}
 use Rattle.interpreter.proofs.Links.{none_below}
 use Rattle.interpreter.proofs.putting.put_links.Goals as goal
 
+pub returns-then-from-routers-clause-err : goal.returns-then-from-routers-clause-err
+returns-then-from-routers-clause-err g c = (UnknownRouter, refl, inl (search rules))
+
 -- the first that is refused
-pub returns-in-Err-clause-err : goal.returns-in-Err-clause-err
-returns-in-Err-clause-err g c =
+pub returns-in_err-step-clause-err : goal.returns-in_err-step-clause-err
+returns-in_err-step-clause-err g c =
     let k = g.N.Live.meaning in
     let before = c.loop-place.net in
-    let e = c.in-Err.refusal in
-    rw c.in-Err.ensures.err (inr (record {
-      link = c.loop-place.place;
-      is_link = subst (λ n. c.loop-place.place < n) (ap length (c.links-place-end.ensures.links ∙ ap (λ (n : Network). n.links) c.network.ensures)) c.loop-place-test.true;
-      before = c.loop-place.invariant;
-      amiss = ap (λ w. is_amiss_at w c.args.up c.args.router c.loop-place.place) (sym c.world-in-loop-place.ensures) ∙ sym c.if-is_amiss.ensures;
-      refused = subst (λ s. CanBeRefused (k.refusal before s) e) c.put.ensures (refused_as _ (k.refusal before c.put.result) e c.in-Err.ensures.cause);
-    }))
+    let e = c.in_err-step.field-0.0 in
+    at_err c.from_residual.result (OfRefusal (CannotPut k c.args.up c.args.router c.args.net.now c.step.new.self)) (refusal_kind e) c.from_residual.ensures.1 (
+      e,
+      refl,
+      rw c.in_err-step.ensures.err (inr (record {
+        link = c.loop-place.place;
+        is_link = subst (λ n. c.loop-place.place < n) (ap length (c.links-place-end.ensures.links ∙ ap (λ (n : Network). n.links) c.network.ensures)) c.loop-place-test.true;
+        before = c.loop-place.invariant;
+        amiss = ap (λ w. is_amiss_at w c.args.up c.args.router c.loop-place.place) (sym c.world-in-loop-place.ensures) ∙ sym c.if-is_amiss.ensures;
+        refused = subst (λ s. CanBeRefused (k.refusal before s) e) c.put.ensures (refused_as _ (k.refusal before c.put.result) e c.in_err-step.ensures.cause);
+      })),
+    )
 
 pub returns-clause-all : goal.returns-clause-all
 returns-clause-all g c l within =
