@@ -5,8 +5,9 @@ use Rattle.faults.specs.declared.kind.FaultKind.{FaultKind}
 use Rattle.texts.specs.Words.{Text}
 use Rattle.journal.specs.{declared.fault.JournalFault.JournalFault, declared.fault.JournalFault.TheVariants.NoMemory as NoMemoryForJournal, declared.read.Version.Version, declared.read.Version.TheVariants.Two, Journal.IsJournal, Journal.IsJournalFault as IsJournalFault}
 use Rattle.plans.specs.{declared.fault.Fault.Fault, declared.plan.Plan.Plan, Scenarios.network_read, declared.outcome.Outcome.Outcome, declared.outcome.Outcome.TheVariants.Done, declared.outcome.Outcome.TheVariants.Refused, declared.outcome.Outcome.TheVariants.Differs}
-use Rattle.plans.specs.Faults.{journal_fault, unplaced, IsWantOfMemory, IsUnreadFrom, Gives, most_bytes, most_journal_bytes}
+use Rattle.plans.specs.Faults.{journal_fault, unplaced, IsWantOfMemory, IsUnreadFrom, Gives, OfBytes, most_bytes, most_journal_bytes}
 use Rattle.plans.proofs.Planned.{IsPlanned}
+use Rattle.play.specs.Ends.{IsPlannedFrom}
 use Rattle.play.specs.Replays.{IsJournalOf, Replays, RunsInPlaces, StepsReplay, StepsRun, StopsReplay}
 
 -- the journal is one of the scenario's network
@@ -39,21 +40,32 @@ replay_ends text lines plan planned version steps f g end journal opened replays
     by_end Refused stops = record { parts = planned.0; version = version; steps = steps; is_journal = journal; done = stops.0; world = g; few = stops.2; runs = from (take stops.0 steps) stops.3; refused = stops.1; stops = stops.4 }
     by_end Differs differs = whole Two (subst (λ v. IsJournalOf text lines planned.0 v steps) differs.0 journal) differs.1
 
--- a replay that has not enough memory
-pub stops_memory : (text : Text) (known : Option Text) (fault : Fault) → IsWantOfMemory fault → StopsReplay text known fault
-stops_memory text known fault memory = inl (inr (inl memory))
+-- where the texts are those that readers give
+module _ (scenario known : Option Text) (plan : Plan) where
+  pub replay_from : (lines given : Text) (names : List Text) (links : List LinkSpec) (attachments : List (Prefix × ℕ × ℕ)) (version : Version) (steps : List Step) (report : Text) (f g : World) (end : Outcome) → IsPlannedFrom scenario plan
+      → Gives known lines → names ≡ plan.directory.names → links ≡ plan.network.links → attachments ≡ plan.network.attachments → given ≡ lines → IsJournal names links attachments given version steps report
+      → f ≡ opening plan.network → StepsReplay version steps f g end → OfBytes scenario (λ text. OfBytes known (λ ls. Replays text ls end))
+  replay_from lines given names links attachments version steps report f g end (text, read, (short, planned)) gives names_are links_are attachments_are same journal opened replays =
+      let is_journal = journal_of text lines given plan names links attachments version steps report short planned names_are links_are attachments_are same journal in
+      (text, read, (lines, gives, replay_ends text lines plan planned version steps f g end is_journal opened replays))
 
--- a journal that is not read
-pub stops_unread : (text lines : Text) (known : Option Text) (plan : Plan) (kind : FaultKind) → length text ≤ most_bytes → IsPlanned text plan → Gives known lines → IsUnreadFrom most_journal_bytes lines kind → StopsReplay text known (unplaced kind)
-stops_unread text lines known plan kind short planned gives unread = inr (short, (planned.0, planned.1, lines, gives, inl (refl, unread)))
+  -- a replay that has not enough memory
+  pub stops_memory : (fault : Fault) → IsPlannedFrom scenario plan → IsWantOfMemory fault → OfBytes scenario (λ text. StopsReplay text known fault)
+  stops_memory fault (text, read, planned) memory = (text, read, inl (inr (inl memory)))
 
--- what is not a journal of the scenario's network
-pub stops_journal : (text lines given : Text) (known : Option Text) (plan : Plan) (names : List Text) (links : List LinkSpec) (attachments : List (Prefix × ℕ × ℕ)) (e : JournalFault) (fault : Fault) → length text ≤ most_bytes
-    → IsPlanned text plan → Gives known lines → names ≡ plan.directory.names → links ≡ plan.network.links → attachments ≡ plan.network.attachments → given ≡ lines → fault ≡ journal_fault e
-    → (e ≡ NoMemoryForJournal) ⊎ IsJournalFault names links attachments given e → StopsReplay text known fault
-stops_journal text lines given known plan names links attachments e fault short planned gives names_are links_are attachments_are same is (inl memory) =
-    inl (inr (inl (rw (is, memory) (record { memory = refl; unplaced = refl }))))
-stops_journal text lines given known plan names links attachments e fault short planned gives names_are links_are attachments_are same is (inr why) =
+  -- a journal that is not read
+  pub stops_unread : (lines : Text) (kind : FaultKind) → IsPlannedFrom scenario plan → Gives known lines → IsUnreadFrom most_journal_bytes lines kind → OfBytes scenario (λ text. StopsReplay text known (unplaced kind))
+  stops_unread lines kind (text, read, (short, planned)) gives unread = (text, read, inr (short, (planned.0, planned.1, lines, gives, inl (refl, unread))))
+
+  -- what is not a journal of the scenario's network
+  pub stops_journal : (lines given : Text) (names : List Text) (links : List LinkSpec) (attachments : List (Prefix × ℕ × ℕ)) (e : JournalFault) → IsPlannedFrom scenario plan
+      → Gives known lines → names ≡ plan.directory.names → links ≡ plan.network.links → attachments ≡ plan.network.attachments → given ≡ lines
+      → (e ≡ NoMemoryForJournal) ⊎ IsJournalFault names links attachments given e → OfBytes scenario (λ text. StopsReplay text known (journal_fault e))
+  stops_journal lines given names links attachments e (text, read, planned) gives names_are links_are attachments_are same (inl memory) =
+      (text, read, inl (inr (inl (rw memory (record { memory = refl; unplaced = refl })))))
+  stops_journal lines given names links attachments e (text, read, (short, planned)) gives names_are links_are attachments_are same (inr why) = (
+    text,
+    read,
     inr (
       short,
       (
@@ -67,7 +79,8 @@ stops_journal text lines given known plan names links attachments e fault short 
               (subst (λ xs. IsJournalFault planned.0.names planned.0.links xs given e) (attachments_are ∙ ap (λ n. n.attachments) planned.2.network)
               (subst (λ ks. IsJournalFault planned.0.names ks attachments given e) (links_are ∙ ap (λ n. n.links) planned.2.network)
               (subst (λ ns. IsJournalFault ns links attachments given e) (names_are ∙ ap (λ d. d.names) planned.2.directory) why))),
-          is,
+          refl,
         ),
       ),
-    )
+    ),
+  )

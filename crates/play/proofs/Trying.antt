@@ -1,9 +1,7 @@
 -- Commands that are tried one after another.
-use Rattle.std.specs.Prelude.{⊤}
-use Rattle.std.proofs.Common.{inl, inr, List, [], ◌∷◌, ◌++◌, Result, Ok, Err, IfErr, OnOk, refl, subst}
-use Rattle.faults.specs.declared.kind.FaultKind.{FaultKind}
+use Rattle.std.proofs.Common.{List, [], ◌∷◌, ◌++◌, refl, subst}
 use Rattle.script.specs.declared.command.Command.{Command}
-use Rattle.interpreter.specs.Commands.{AreTried, IsDone, IsRefused, IsTried}
+use Rattle.interpreter.specs.Commands.{AreTried, IsTried}
 use Rattle.interpreter.specs.Nets.{Meaning}
 use Rattle.play.specs.Works.{WereTried}
 
@@ -18,8 +16,3 @@ module _ {S : Type 0} (k : Meaning S) where
 
   pub tried_one : (c : Command) (f g : S) → IsTried k c f g → WereTried k f g
   tried_one c f g is = (c ∷ [], (g, is, refl))
-
-  -- what came of a command
-  pub tried_or : (c : Command) (f g : S) (x : Result ⊤ FaultKind) → OnOk x (IsDone k c f g) → IfErr x (IsRefused k c f g) → IsTried k c f g
-  tried_or c f g (Ok x) done refused = inl done
-  tried_or c f g (Err e) done refused = inr (e, refused)

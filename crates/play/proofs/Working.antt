@@ -1,15 +1,15 @@
 -- What is done on the network of the plan of a text is done on the network of the text.
 use Rattle.std.specs.Prelude.{⊤}
-use Rattle.std.proofs.Common.{Result, Ok, Err, IfErr, OnOk, ◌≡◌, ◌≤◌, ◌++◌, [], Bool, true, false, Some, unwrap_or, append-nil, inl, inr, List, length, ap, subst, ◌∙◌}
+use Rattle.std.proofs.Common.{Result, Ok, Err, IfErr, OnOk, ◌≡◌, ◌≤◌, ◌++◌, [], Bool, true, false, Option, Some, unwrap_or, append-nil, inl, inr, List, length, ap, subst, ◌∙◌}
 use Rattle.network_model.specs.World.{Network}
 use Rattle.fabric.specs.Fabric.{Fabric, opening_fabric}
 use Rattle.texts.specs.Words.{Text}
 use Rattle.script.specs.{Directories.Directory, declared.command.Command.Command}
-use Rattle.plans.specs.{declared.fault.Fault.Fault, declared.plan.Plan.Plan, Faults.most_bytes, Scenarios.network_read}
+use Rattle.plans.specs.{declared.fault.Fault.Fault, declared.plan.Plan.Plan, Faults.OfBytes, Faults.most_bytes, Scenarios.network_read}
 use Rattle.plans.proofs.Planned.{IsPlanned}
 use Rattle.journal.specs.Journal.{journal_text}
-use Rattle.play.specs.Ends.{KeepsJournal}
-use Rattle.play.specs.Works.{IsOfNothing, IsWorked, StopsOn, StopsWork, Works, none_kept}
+use Rattle.play.specs.Ends.{IsChecked, IsPlannedFrom, KeepsJournal}
+use Rattle.play.specs.Works.{IsOfNothing, IsWorked, StopsOn, StopsWork, Works, WorksOn, none_kept}
 
 module _ {S : Type 0} (opened : Network → S) (text : Text) (plan : Plan) (short : length text ≤ most_bytes) (planned : IsPlanned text plan) where
   pub worked : (Comes : List Command → S → S → Type 0) (Keeps : Directory → S → Type 0) → Works opened Comes Keeps plan → IsWorked opened Comes Keeps text
@@ -33,6 +33,22 @@ module _ {S : Type 0} (opened : Network → S) (text : Text) (plan : Plan) (shor
     stops = subst (λ cs. Stops cs (opened (network_read planned.0)) there.0 fault) planned.2.commands (subst (λ n. Stops plan.commands.items (opened n) there.0 fault) planned.2.network there.1);
   }))
 
+-- what follows of the bytes that a reader gives
+pub of_bytes : (known : Option Text) (P Q : Text → Type 0) → ((bytes : Text) → P bytes → Q bytes) → OfBytes known P → OfBytes known Q
+of_bytes known P Q weaker (bytes, gives, holds) = (bytes, gives, weaker bytes holds)
+
+-- and where the text is one that a reader gives
+module _ {S : Type 0} (opened : Network → S) (known : Option Text) (plan : Plan) where
+  pub worked_from : (Comes : List Command → S → S → Type 0) (Keeps : Directory → S → Type 0) → IsPlannedFrom known plan → Works opened Comes Keeps plan → OfBytes known (IsWorked opened Comes Keeps)
+  worked_from Comes Keeps (text, gives, (short, planned)) works = (text, gives, worked opened text plan short planned Comes Keeps works)
+
+  pub stopped_from : (Early : Fault → Type 0) (Stops : List Command → S → S → Fault → Type 0) (fault : Fault) → IsPlannedFrom known plan → StopsWork opened Early Stops plan fault → OfBytes known (λ text. StopsOn opened Early Stops text fault)
+  stopped_from Early Stops fault (text, gives, (short, planned)) stops = (text, gives, stopped opened text plan short planned Early Stops fault stops)
+
+-- its scenario was checked
+pub checked : (known : Option Text) (plan : Plan) → IsPlannedFrom known plan → OfBytes known IsChecked
+checked known plan (text, gives, (short, planned)) = (text, gives, record { short = short; parts = planned.0; scenario = planned.1 })
+
 -- what came of the commands on a simulation, of which nothing is kept
 pub works_there : {S : Type 0} (opened : Network → S) (Done : List Command → S → S → Type 0) (plan : Plan) (m n : S) (cs : List Command) (r : Result ⊤ Fault)
     → m ≡ opened plan.network → cs ≡ plan.commands.items → OnOk r (Done cs m n) → OnOk r (Works opened Done none_kept plan)
@@ -47,15 +63,11 @@ stops_there opened Stops plan m n cs (Err e) opens commands stops =
     inr (inr (n, subst (λ h. Stops plan.commands.items h n e) opens (subst (λ (xs : List Command). Stops xs m n e) commands stops)))
 
 -- what came of the commands on a fabric, and of what was to be kept of it
-pub works_kept : (Done : List Command → Fabric → Fabric → Type 0) (Keeps : Directory → Fabric → Type 0) (plan : Plan) (d : Directory) (f g : Fabric) (done r : Result ⊤ Fault) (cs : List Command) → d ≡ plan.directory
-    → f ≡ opening_fabric plan.network → cs ≡ plan.commands.items → OnOk done (Done cs f g) → OnOk r ((done ≡ Ok tt) × Keeps d g) → OnOk r (Works opening_fabric Done Keeps plan)
-works_kept Done Keeps plan d f g done (Err e) cs names opens commands comes keeps = tt
-works_kept Done Keeps plan d f g done (Ok x) cs names opens commands comes keeps = (
-  g,
-  subst (λ (h : Fabric). Done plan.commands.items h g) opens
-      (subst (λ (xs : List Command). Done xs f g) commands (subst (λ q. OnOk q (Done cs f g)) keeps.0 comes)),
-  subst (λ (e : Directory). Keeps e g) names keeps.1,
-)
+pub works_kept : (Done : List Command → Fabric → Fabric → Type 0) (Keeps : Directory → Fabric → Type 0) (n : Network) (d : Directory) (f g : Fabric) (done r : Result ⊤ Fault) (cs : List Command)
+    → f ≡ opening_fabric n → OnOk done (Done cs f g) → OnOk r ((done ≡ Ok tt) × Keeps d g) → OnOk r (WorksOn opening_fabric Done Keeps n d cs)
+works_kept Done Keeps n d f g done (Err e) cs opens comes keeps = tt
+works_kept Done Keeps n d f g done (Ok x) cs opens comes keeps =
+    (g, subst (λ (h : Fabric). Done cs h g) opens (subst (λ q. OnOk q (Done cs f g)) keeps.0 comes), keeps.1)
 
 -- what was made of a journal is added behind what is kept
 journal_added : (wanted : Bool) (d : Directory) (f : Fabric) (old none made new : Text) → none ≡ [] → new ≡ old ++ made → KeepsJournal wanted d f (Some none) (Some made) → KeepsJournal wanted d f (Some old) (Some new)

@@ -5,9 +5,14 @@ use Rattle.fabric.specs.Fabric.{Fabric}
 use Rattle.texts.specs.Words.{Text}
 use Rattle.script.specs.{Reading.Parts, Directories.Directory}
 use Rattle.journal.specs.Journal.{journal_text}
-use Rattle.plans.specs.{Faults.most_bytes, Scenarios.IsScenario}
+use Rattle.plans.specs.{declared.plan.Plan.Plan, Faults.OfBytes, Faults.most_bytes, Scenarios.IsScenario}
+use Rattle.plans.proofs.Planned.{IsPlanned}
 
 -- ---- check
+
+-- the plan is that of the text that a reader gives
+abbrev pub IsPlannedFrom : Option Text → Plan → Type 0
+IsPlannedFrom known plan = OfBytes known (λ bytes. (length bytes ≤ most_bytes) × IsPlanned bytes plan)
 
 -- the bytes are those of a scenario whose network can be opened
 pub record IsChecked (bytes : Text) : Type 0 where

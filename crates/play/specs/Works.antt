@@ -47,13 +47,21 @@ IsOfNothing fault = ⊥
 
 -- ---- on a plan
 
--- the network of a plan was opened, what was done there made of it what it was after, and of that this was kept
-abbrev pub Works : {S : Type 0} → (Network → S) → (List Command → S → S → Type 0) → (Directory → S → Type 0) → Plan → Type 0
-Works {S} opened Done Keeps plan = (after : S) × Done plan.commands.items (opened plan.network) after × Keeps plan.directory after
+-- a network was opened, what these commands did there made of it what it was after, and of that this was kept by these names
+abbrev pub WorksOn : {S : Type 0} → (Network → S) → (List Command → S → S → Type 0) → (Directory → S → Type 0) → Network → Directory → List Command → Type 0
+WorksOn {S} opened Done Keeps n d commands = (after : S) × Done commands (opened n) after × Keeps d after
 
 -- why it stops: want of memory, or for what comes of the network that was opened, or as what is done there stops
+abbrev pub StopsWorkOn : {S : Type 0} → (Network → S) → (Fault → Type 0) → (List Command → S → S → Fault → Type 0) → Network → List Command → Fault → Type 0
+StopsWorkOn {S} opened Early Stops n commands fault = IsWantOfMemory fault ⊎ Early fault ⊎ ((after : S) × Stops commands (opened n) after fault)
+
+-- the same of a plan
+abbrev pub Works : {S : Type 0} → (Network → S) → (List Command → S → S → Type 0) → (Directory → S → Type 0) → Plan → Type 0
+Works opened Done Keeps plan = WorksOn opened Done Keeps plan.network plan.directory plan.commands.items
+
+-- why it stops on a plan
 abbrev pub StopsWork : {S : Type 0} → (Network → S) → (Fault → Type 0) → (List Command → S → S → Fault → Type 0) → Plan → Fault → Type 0
-StopsWork {S} opened Early Stops plan fault = IsWantOfMemory fault ⊎ Early fault ⊎ ((after : S) × Stops plan.commands.items (opened plan.network) after fault)
+StopsWork opened Early Stops plan fault = StopsWorkOn opened Early Stops plan.network plan.commands.items fault
 
 -- ---- on a scenario
 

@@ -4,7 +4,7 @@ ghost use Rattle.std.specs.Prelude.{◌≡◌, ◌⊎◌, Ok, Err, IfErr, OnOk, 
 ghost use Rattle.fabric.specs.{Fabric.opening_fabric, Writers.opening_tables};
 ghost use Rattle.plans.specs.Faults.{IsWantOfMemory};
 ghost use Rattle.interpreter.specs.Nets.{counted_meaning, kept_meaning, opening_counted};
-ghost use Rattle.play.specs.Works.{Comes, IsOfNothing, IsOfWorkers, IsWithoutAnswers, Stops, StopsWork, Works, none_kept};
+ghost use Rattle.play.specs.Works.{Comes, IsOfNothing, IsOfWorkers, IsWithoutAnswers, Stops, StopsWork, StopsWorkOn, Works, WorksOn, none_kept};
 
 use crate::keeping::Keeper;
 use crate::program::{Platform, Streams};
@@ -19,6 +19,7 @@ use plans::{Fault, Plan};
 use script::{Command, Directory};
 use std::io::{Read, Write};
 use std::marker::Brand;
+use world::Network;
 
 /// By what a network runs whose steps are kept.
 #[derive(Clone, Copy)]
@@ -55,15 +56,22 @@ where
         (Stops kept_meaning (is_some typed)) plan) }
 {
     let unnamed = Unnamed::many(by.alloc, plan.network.routers())?;
+    let Plan {
+        network,
+        directory,
+        commands,
+    } = plan;
     with_named::<Brand, H, G, J, W, E, K, V>(
-        by, plan, unnamed, hands, style, typed, streams, keeper, kept,
+        by, network, &directory, &commands, unnamed, hands, style, typed, streams, keeper, kept,
     )
 }
 
 // The same, where the network is opened under a name.
 fn with_named<B, H, G, J, W, E, K, V>(
     by: &Platform<'_, '_, H, G>,
-    plan: Plan,
+    network: Network,
+    directory: &Directory,
+    commands: &[Command],
     unnamed: Vec<Unnamed>,
     hands: Hands,
     style: PrintStyle,
@@ -82,18 +90,14 @@ where
     K: Keeper,
     V: Write,
     requires books { unnamed.items ≡ B.books }
-    requires each { vec_len unnamed ≡ plan.network.routers }
-    requires openings { opening_tables plan.network ≡ B.openings }
-    ensures ok { OnOk result (Works opening_fabric (Comes kept_meaning (is_some typed))
-        (λ d f. K.keeps keeper.old d f (V.contents kept.old) (V.contents kept.new) keeper.new) plan) }
-    ensures fault { IfErr result (StopsWork opening_fabric IsOfWorkers
-        (Stops kept_meaning (is_some typed)) plan) }
+    requires each { vec_len unnamed ≡ network.routers }
+    requires openings { opening_tables network ≡ B.openings }
+    ensures ok { OnOk result (WorksOn opening_fabric (Comes kept_meaning (is_some typed))
+        (λ d f. K.keeps keeper.old d f (V.contents kept.old) (V.contents kept.new) keeper.new)
+        network directory.now commands.now) }
+    ensures fault { IfErr result (StopsWorkOn opening_fabric IsOfWorkers
+        (Stops kept_meaning (is_some typed)) network commands.now) }
 {
-    let Plan {
-        network,
-        directory,
-        commands,
-    } = plan;
     let workers = hands.workers.max(1).min(16);
     let (fabric, readers) = Fabric::<B>::open(by.rt, by.alloc, network, unnamed, workers)?;
     let crew = Crew {
@@ -103,13 +107,13 @@ where
     let interpreter = Interpreter {
         alloc: by.alloc,
         gate: by.gate,
-        directory: &directory,
+        directory,
         style,
     };
     match Kept::new(*by.rt, by.alloc, crew, fabric, readers) {
         Ok(net) => {
-            let (fabric, done) = finish_kept(&interpreter, net, typed, &commands, streams);
-            let ended = keep(done, &fabric, &directory, keeper, kept);
+            let (fabric, done) = finish_kept(&interpreter, net, typed, commands, streams);
+            let ended = keep(done, &fabric, directory, keeper, kept);
             fabric.close(by.rt);
             ended
         }
@@ -161,10 +165,7 @@ fn keep<B: FabricName, K: Keeper, V: Write>(
     ensures fault { IfErr result (λ e. (done ≡ Err e) ⊎ IsWantOfMemory e) }
 {
     done?;
-    match keeper.keep(fabric, directory, kept) {
-        Ok(()) => Ok(()),
-        Err(memory) => Err(Fault::from(memory)),
-    }
+    Ok(keeper.keep(fabric, directory, kept)?)
 }
 
 /// Opens a plan's network as a simulation, and does its script, or the lines that are typed. Nothing is kept of its

@@ -7,7 +7,7 @@ ghost use Rattle.interpreter.specs.Nets.{counted_meaning, kept_meaning, opening_
 ghost use Rattle.play.specs.{Ends.KeepsJournal, Outcomes.Ends, Outcomes.ProgramOutcome, Outcomes.StopsWords};
 ghost use Rattle.play.specs.Works.{Comes, IsOfNothing, IsOfWorkers, IsWorked, Stops, StopsOn, StopsWork, Works, none_kept};
 
-use crate::checking::check;
+use crate::checking::{check, read_plan_from};
 use crate::keeping::{JournalText, Keeper};
 use crate::opening::{Hands, with_fabric, with_simulation};
 use crate::replay::replay;
@@ -15,7 +15,7 @@ use advice::Page;
 use command_line::{Format, Words};
 use interpreter::{Host, NoGate, PrintStyle, THRESHOLDS, Thresholds, TurnGate};
 use network_model::NoMemory;
-use plans::{Fault, Outcome, Plan, read_plan, read_text, refuse};
+use plans::{Fault, Outcome, Plan, refuse};
 use std::alloc::Global;
 use std::io::{self, Empty, Read, Write};
 use timing::time;
@@ -172,11 +172,9 @@ fn keep<H: Host, G: TurnGate + Sync, R: Read + Drop, J: Read + Drop, W: Write, E
         StopsOn opening_fabric IsOfWorkers (Stops kept_meaning (is_some typed)) bytes e)) }
     ensures kept { OnErr result (kept.new.items ≡ kept.old.items) }
 {
-    let text = read_text(by.alloc, scenario)?;
-    let plan = read_plan(by.alloc, text.as_str())?;
+    let plan = read_plan_from(by.alloc, scenario)?;
     let mut made = Vec::new(by.alloc);
-    let mut keeper = JournalText { wanted };
-    let keeper = &mut keeper;
+    let keeper = &mut JournalText { wanted };
     with_fabric(by, plan, hands, style, typed, streams, keeper, &mut made)?;
     add(kept, made)?;
     Ok(Outcome::Done)
@@ -208,8 +206,7 @@ fn count<H: Host, G: TurnGate + Sync, R: Read + Drop, J: Read + Drop, W: Write, 
     ensures fault { IfErr result (λ e. OfBytes (R.remaining scenario) (λ bytes.
         StopsOn opening_counted IsOfNothing (Stops counted_meaning (is_some typed)) bytes e)) }
 {
-    let text = read_text(by.alloc, scenario)?;
-    let plan = read_plan(by.alloc, text.as_str())?;
+    let plan = read_plan_from(by.alloc, scenario)?;
     with_simulation::<H, G, J, W, E>(by, plan, style, typed, streams)?;
     Ok(Outcome::Done)
 }

@@ -7,6 +7,7 @@ ghost use Rattle.plans.specs.Faults.{IsWantOfMemory, OfBytes};
 ghost use Rattle.interpreter.specs.Nets.{counted_after};
 ghost use Rattle.play.specs.Replays.{Replays, StepsReplay, StopsReplay, replay_refusal};
 
+use crate::checking::read_plan_from;
 use crate::program::Streams;
 use advice::Brief;
 use command_line::Format;
@@ -16,7 +17,7 @@ use interpreter::{Counted, Interpreter, Live, NoGate, PrintStyle, end_line, show
 use journal::{Journal, StepText, Version, first_difference, read_journal};
 use lines::{Ended, Line, Printer, print_report};
 use network_model::{LinkSpec, NoMemory, Refusal, Step};
-use plans::{Fault, Outcome, read_bytes, read_plan, read_text};
+use plans::{Fault, Outcome, read_bytes};
 use script::Directory;
 use std::alloc::Global;
 use std::io::{self, Read, Write};
@@ -40,8 +41,7 @@ pub fn replay<R: Read + Drop, J: Read + Drop, W: Write, E: Write>(
     ensures fault { IfErr result (λ e. OfBytes (R.remaining scenario) (λ bytes.
         StopsReplay bytes (J.remaining journal) e)) }
 {
-    let text = read_text(alloc, scenario)?;
-    let plan = read_plan(alloc, text.as_str())?;
+    let plan = read_plan_from(alloc, scenario)?;
     let lines = read_bytes(alloc, journal)?;
     let journal = read_journal(
         alloc,
@@ -57,8 +57,7 @@ pub fn replay<R: Read + Drop, J: Read + Drop, W: Write, E: Write>(
         directory: &plan.directory,
         style,
     };
-    let end = do_journal(&interpreter, &mut live, &journal, streams)?;
-    Ok(end)
+    do_journal(&interpreter, &mut live, &journal, streams)
 }
 
 // Does the steps of a journal, and compares the reports.
@@ -132,14 +131,11 @@ fn do_steps<E: Write>(live: &mut Counted, steps: &[Step], progress: bool, err: &
         if done % SLICE == 0 {
             show_steps_done(progress, done, all, err);
         }
-        match do_next(live, step, done) {
-            Ok(()) => {}
-            Err(refusal) => {
-                return Ran {
-                    done,
-                    refusal: Some(refusal),
-                };
-            }
+        if let Err(refusal) = do_next(live, step, done) {
+            return Ran {
+                done,
+                refusal: Some(refusal),
+            };
         }
     }
     show_steps_done(progress, all, all, err);

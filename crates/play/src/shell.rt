@@ -174,21 +174,14 @@ where
     ensures { WereTried N.meaning net.old net.new }
 {
     let opened = net.network();
-    match read_command(
+    let command = read_command(
         interpreter.directory.names(),
         opened.links(),
         opened.attachments(),
         line,
-    ) {
-        Ok(command) => {
-            let done = do_command(interpreter, net, command, out, &mut ());
-            match done {
-                Ok(()) => Ok(true),
-                Err(kind) => Err(kind),
-            }
-        }
-        Err(fault) => Err(FaultKind::from(fault)),
-    }
+    )?;
+    do_command(interpreter, net, command, out, &mut ())?;
+    Ok(true)
 }
 
 // ---- what is printed beside the lines of commands
