@@ -3,3 +3,6 @@ pub mod Beginnings
 pub mod Crossing
 pub mod AnswerRows
 pub mod Wordless
+pub mod Words
+pub mod ReaderWords
+pub mod WriterWords

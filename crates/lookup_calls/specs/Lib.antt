@@ -4,5 +4,6 @@ pub mod Faults
 pub mod Rows
 pub mod Prefixes
 pub mod Images
+pub mod Handles
 pub mod Histories
 pub mod Readers

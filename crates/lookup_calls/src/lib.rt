@@ -1,8 +1,8 @@
-//! What the calls on images do for C programs, below their handles (`lookup_ffi`).
+//! What the calls on images do for C programs (`lookup_ffi`), and the handles by which these hold them.
 //!
 //! C gives rows, words and addresses as lists of numbers, and wants answers written over lists of its own.
-//! Meanwhile another thread may change the image. All of that needs no pointer and no name of C, so it stands
-//! here and is proved once, while a crate with tests is proved twice.
+//! Meanwhile another thread may change the image. All of that needs no name of C, so it stands here and is
+//! proved once, while a crate with tests is proved twice.
 //!
 //! ```text
 //!   Row, word ── check_rows, check_words ──> first fault, or none
@@ -46,6 +46,9 @@
 
 mod board;
 mod change;
+mod handle;
+pub mod held;
+pub mod held_words;
 mod images;
 mod kept;
 mod lookups;
@@ -54,16 +57,18 @@ mod patch;
 mod prefixes;
 mod publishing;
 mod reader;
+mod reader_handle;
 mod rows;
 mod shared;
 mod writer;
+mod writer_handle;
 
-pub use images::{copy_image, image_of_rows, image_of_words, share_image};
+pub use handle::ImageHandle;
 pub use kept::Kept;
 pub use lookups::{look_up, look_up_words, read, read_words};
-pub use prefixes::{Block, check_blocks, check_list, list_rows, list_words};
-pub use publishing::{publish_rows, publish_words, reader_of, writer_of};
+pub use prefixes::Block;
 pub use reader::ImageReader;
-pub use rows::{check_rows, check_words};
+pub use reader_handle::ReaderHandle;
 pub use shared::Shared;
 pub use writer::ImageWriter;
+pub use writer_handle::WriterHandle;

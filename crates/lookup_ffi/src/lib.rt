@@ -28,47 +28,27 @@
 //! its handle, and the answers, as they are.
 //!
 //! What is tricky: a handle is for one call at a time, also for a look-up. The reason is that a call takes
-//! the box out of the handle, works on what is in it (`lookup_calls`), and puts it back. So only three small
-//! functions of a handle touch its pointer (`src/handle.rt`), and these are proved by hand. A program that may
+//! the box out of the handle, works on what is in it, and puts it back (`lookup_calls`). So only three small
+//! functions of a handle touch its pointer (`handle.rt` there), and these are proved by hand. A program that may
 //! not stop its readers has a writer publish: `examples/c/two_copies.c`.
 //!
 //! The proofs take for granted that C keeps the rules of the header. For example, lists are as long as a call
 //! is told, and no two arguments overlap.
 #![tactic(auto)]
 
-ghost use Rattle.std.specs.Prelude.{◌≡◌, ◌≢◌, None, Some, OnOk, OnErr, IfOk, IfErr, IfSome, IfNone, length};
+ghost use Rattle.std.specs.Prelude.{◌≡◌, ◌≢◌, None, Some, IfSome, IfNone, length};
 ghost use Rattle.std.specs.Option.{option_map};
-ghost use Rattle.lookup_ffi.specs.Handles.{handle_image};
+ghost use Rattle.lookup_calls.specs.Handles.{handle_image};
 ghost use Rattle.lookup_calls.specs.{Images.new_image, Images.patched_table, Faults.IsApplyStatus, Faults.IsGiveStatus, Faults.IsLookupStatus, Rows.answer_rows, Rows.first_row_fault, Tables.plain_rows};
 ghost use Rattle.c_interface.specs.Faults.{fault_number, IsStatusBy};
 ghost use Rattle.lookup_calls.specs.Prefixes.{cursor_fault, cursor_prefix, first_block_fault, listed_row, rows_status, withdrawn, IsFilledIn, IsRemoveStatus};
 
 use c_interface::{CallFault, Row, status};
-use lookup_calls::{
-    Block, check_blocks, check_rows, copy_image, image_of_rows, list_rows, look_up, share_image,
-};
+use lookup_calls::{Block, ImageHandle, held, look_up};
 use std::alloc::Global;
 
-mod handle;
-mod reader_handle;
 mod readers;
 mod word_calls;
-mod writer_handle;
-
-use handle::ImageHandle;
-
-// Makes an image of rows and puts it into a handle.
-fn make(alloc: Global, rows: &[Row], image: &mut ImageHandle) -> Result<(), CallFault>
-    ensures ok { OnOk result (first_row_fault rows.now ≡ None) }
-    ensures made { OnOk result (handle_image image.new
-        ≡ Some (new_image (plain_rows rows.now))) }
-    ensures unchanged { OnErr result (handle_image image.new ≡ handle_image image.old) }
-    ensures err { IfErr result (λ f. IsStatusBy (first_row_fault rows.now) (fault_number f)) }
-{
-    check_rows(rows)?;
-    image.put(image_of_rows(alloc, rows)?);
-    Ok(())
-}
 
 /// Makes an image of generation 0 of the rows, set in order, and puts it into the handle; the image
 /// that the handle held is freed. 3, 4 or 6: the first row that has a fault has this one. 20: memory
@@ -79,30 +59,7 @@ pub extern "C" fn tuhvondi_image_new(alloc: Global, rows: &[Row], image: &mut Im
     ensures done { result ≡ 0 → handle_image image.new ≡ Some (new_image (plain_rows rows.now)) }
     ensures refused { result ≢ 0 → handle_image image.new ≡ handle_image image.old }
 {
-    status(make(alloc, rows, image))
-}
-
-// Sets rows over those of a handle's image, and its generation.
-fn apply(
-    alloc: Global,
-    image: &mut ImageHandle,
-    generation: u64,
-    rows: &[Row],
-) -> Result<(), CallFault>
-    ensures ok { OnOk result (IsApplyStatus (first_row_fault rows.now) (handle_image image.old) 0) }
-    ensures patched { OnOk result (handle_image image.new
-        ≡ option_map (patched_table generation (plain_rows rows.now)) (handle_image image.old)) }
-    ensures unchanged { OnErr result (handle_image image.new ≡ handle_image image.old) }
-    ensures err { IfErr result (λ f.
-        IsApplyStatus (first_row_fault rows.now) (handle_image image.old) (fault_number f)) }
-{
-    check_rows(rows)?;
-    let Some(mut held) = image.take(alloc) else {
-        return Err(CallFault::Empty);
-    };
-    let outcome = held.apply(alloc, generation, rows);
-    image.put(held);
-    outcome
+    status(held::make(alloc, rows, image))
 }
 
 /// Sets rows over those of the image, in order, and its generation. 3, 4 or 6: the first row that has
@@ -120,31 +77,7 @@ pub extern "C" fn tuhvondi_image_apply(
         ≡ option_map (patched_table generation (plain_rows rows.now)) (handle_image image.old) }
     ensures refused { result ≢ 0 → handle_image image.new ≡ handle_image image.old }
 {
-    status(apply(alloc, image, generation, rows))
-}
-
-// Takes the rows of prefixes out of a handle's image, and sets its generation.
-fn remove(
-    alloc: Global,
-    image: &mut ImageHandle,
-    generation: u64,
-    prefixes: &[Block],
-) -> Result<(), CallFault>
-    ensures ok { OnOk result
-        (IsRemoveStatus (first_block_fault prefixes.now) (handle_image image.old) 0) }
-    ensures removed { OnOk result (handle_image image.new
-        ≡ option_map (withdrawn generation prefixes.now) (handle_image image.old)) }
-    ensures unchanged { OnErr result (handle_image image.new ≡ handle_image image.old) }
-    ensures err { IfErr result (λ f. IsRemoveStatus
-        (first_block_fault prefixes.now) (handle_image image.old) (fault_number f)) }
-{
-    check_blocks(prefixes)?;
-    let Some(mut held) = image.take(alloc) else {
-        return Err(CallFault::Empty);
-    };
-    let outcome = held.remove(generation, prefixes);
-    image.put(held);
-    outcome
+    status(held::apply(alloc, image, generation, rows))
 }
 
 /// Takes the rows of the prefixes out of the image, where it has them, and sets its generation. It
@@ -163,33 +96,7 @@ pub extern "C" fn tuhvondi_image_remove(
         ≡ option_map (withdrawn generation prefixes.now) (handle_image image.old) }
     ensures refused { result ≢ 0 → handle_image image.new ≡ handle_image image.old }
 {
-    status(remove(alloc, image, generation, prefixes))
-}
-
-// Has another handle hold an image too, or a copy of it.
-fn give(
-    alloc: Global,
-    image: &mut ImageHandle,
-    other: &mut ImageHandle,
-    copies: bool,
-) -> Result<(), CallFault>
-    ensures image { handle_image image.new ≡ handle_image image.old }
-    ensures ok { OnOk result (IsGiveStatus (handle_image image.old) 0) }
-    ensures given { OnOk result (handle_image other.new ≡ handle_image image.old) }
-    ensures unchanged { OnErr result (handle_image other.new ≡ handle_image other.old) }
-    ensures err { IfErr result (λ f. IsGiveStatus (handle_image image.old) (fault_number f)) }
-{
-    let Some(held) = image.take(alloc) else {
-        return Err(CallFault::Empty);
-    };
-    let one_more = if copies {
-        copy_image(alloc, &held)
-    } else {
-        share_image(alloc, &held)
-    };
-    image.put(held);
-    other.put(one_more?);
-    Ok(())
+    status(held::remove(alloc, image, generation, prefixes))
 }
 
 /// Has another handle hold the image too; the one that it held is freed. The two may look up at once,
@@ -205,7 +112,7 @@ pub extern "C" fn tuhvondi_image_share(
     ensures refused { result ≢ 0 → handle_image other.new ≡ handle_image other.old }
     ensures image { handle_image image.new ≡ handle_image image.old }
 {
-    status(give(alloc, image, other, false))
+    status(held::give(alloc, image, other, false))
 }
 
 /// Has another handle hold an image with the same rows and generation, in memory of its own; the one that
@@ -221,7 +128,7 @@ pub extern "C" fn tuhvondi_image_copy(
     ensures refused { result ≢ 0 → handle_image other.new ≡ handle_image other.old }
     ensures image { handle_image image.new ≡ handle_image image.old }
 {
-    status(give(alloc, image, other, true))
+    status(held::give(alloc, image, other, true))
 }
 
 /// Writes, for each address, the row of the image with the longest prefix that covers it, or kind 3
@@ -271,30 +178,6 @@ pub extern "C" fn tuhvondi_image_generation(
     0
 }
 
-// Writes the rows of a handle's image from where a cursor stands.
-fn list(
-    alloc: Global,
-    image: &mut ImageHandle,
-    from: Block,
-    rows: &mut [Row],
-) -> Result<(usize, Block), CallFault>
-    ensures image { handle_image image.new ≡ handle_image image.old }
-    ensures ok { OnOk result (rows_status (cursor_fault from) (handle_image image.old) ≡ 0) }
-    ensures rows { IfOk result (λ r. IfSome (handle_image image.old) (λ i. IsFilledIn listed_row
-        i.rows (cursor_prefix from) rows.old rows.new r.0 (cursor_prefix r.1))) }
-    ensures unchanged { OnErr result (rows.new ≡ rows.old) }
-    ensures err { IfErr result (λ f.
-        rows_status (cursor_fault from) (handle_image image.old) ≡ fault_number f) }
-{
-    let at = from.read_cursor()?;
-    let Some(held) = image.take(alloc) else {
-        return Err(CallFault::Empty);
-    };
-    let (count, onward) = list_rows(held.get(), at, rows);
-    image.put(held);
-    Ok((count, Block::cursor(onward)))
-}
-
 /// Writes the rows of the image from where the cursor stands, in the order of their prefixes, as many as
 /// there is room for, and how many they are; the cursor then stands where the others begin. A length
 /// of 33 is the end. It takes no memory. 3 or 4: the cursor is no prefix. 7: the handle holds no
@@ -314,7 +197,7 @@ pub extern "C" fn tuhvondi_image_rows(
         (rows.new ≡ rows.old) × (written.new ≡ written.old) × (from.new ≡ from.old) }
     ensures image { handle_image image.new ≡ handle_image image.old }
 {
-    match list(alloc, image, *from, rows) {
+    match held::list(alloc, image, *from, rows) {
         Ok((count, onward)) => {
             *written = count;
             *from = onward;

@@ -1,43 +1,15 @@
 //! The calls of C by which one thread changes an image while others look up in it, under no lock.
 
-ghost use Rattle.std.specs.Prelude.{◌≡◌, ◌≢◌, ◌∷◌, [], IfErr, IfSome, IsSome, None, OnErr, OnOk, Some, is_some, length};
-ghost use Rattle.c_interface.specs.Faults.{first_of, fault_number};
+ghost use Rattle.std.specs.Prelude.{◌≡◌, ◌≢◌, ◌∷◌, [], IfSome, IsSome, None, Some, is_some, length};
+ghost use Rattle.c_interface.specs.Faults.{first_of};
 ghost use Rattle.receipts.specs.Logs.{GrowsTo, with_element};
 ghost use Rattle.lookup_calls.specs.{Histories.changed, Histories.last_image, Prefixes.first_block_fault, Rows.answer_rows, Rows.first_row_fault, Tables.plain_rows};
 ghost use Rattle.lookup_calls.specs.Readers.{IsCountStatus, IsLearnStatus, IsOpenStatus, IsPublishStatus, IsReadStatus, IsSeatStatus};
-ghost use Rattle.lookup_ffi.specs.Handles.{handle_image, handle_reader, handle_writer};
+ghost use Rattle.lookup_calls.specs.Handles.{handle_image, handle_reader, handle_writer};
 
-use crate::handle::ImageHandle;
-use crate::reader_handle::ReaderHandle;
-use crate::writer_handle::WriterHandle;
 use c_interface::{CallFault, Row, status};
-use lookup_calls::{Block, check_blocks, check_rows, publish_rows, read, reader_of, writer_of};
+use lookup_calls::{Block, ImageHandle, ReaderHandle, WriterHandle, held, read};
 use std::alloc::Global;
-
-// Makes a writer of an image like a handle's.
-fn open(
-    alloc: Global,
-    image: &mut ImageHandle,
-    readers: usize,
-    writer: &mut WriterHandle,
-) -> Result<(), CallFault>
-    ensures image { handle_image image.new ≡ handle_image image.old }
-    ensures ok { OnOk result (IsOpenStatus (handle_image image.old) readers 0) }
-    ensures held { OnOk result (IsSome (handle_writer writer.new)) }
-    ensures made { OnOk result (IfSome (handle_image image.old)
-        (λ i. IfSome (handle_writer writer.new) (λ h. h.elements ≡ i ∷ []))) }
-    ensures unchanged { OnErr result (handle_writer writer.new ≡ handle_writer writer.old) }
-    ensures err { IfErr result
-        (λ f. IsOpenStatus (handle_image image.old) readers (fault_number f)) }
-{
-    let Some(held) = image.take(alloc) else {
-        return Err(CallFault::Empty);
-    };
-    let made = writer_of(alloc, held.get(), readers);
-    image.put(held);
-    writer.put(made?);
-    Ok(())
-}
 
 /// Has a writer hold two copies of the image, with room for so many readers; the one that its handle held
 /// is freed. 7: the handle holds no image. 8: more than 1,024 readers. 20: memory was refused.
@@ -55,34 +27,7 @@ pub extern "C" fn tuhvondi_writer_new(
     ensures refused { result ≢ 0 → handle_writer writer.new ≡ handle_writer writer.old }
     ensures image { handle_image image.new ≡ handle_image image.old }
 {
-    status(open(alloc, image, readers, writer))
-}
-
-// Publishes a change of a handle's writer.
-fn publish(
-    alloc: Global,
-    writer: &mut WriterHandle,
-    generation: u64,
-    rows: &[Row],
-    prefixes: &[Block],
-) -> Result<(), CallFault>
-    ensures ok { OnOk result (IsPublishStatus (first_of (first_row_fault rows.now)
-        (first_block_fault prefixes.now)) (handle_writer writer.old) 0) }
-    ensures published { OnOk result (IfSome (handle_writer writer.old)
-        (λ h. IfSome (last_image h.elements) (λ i. handle_writer writer.new
-        ≡ Some (with_element h (changed generation (plain_rows rows.now) prefixes.now i))))) }
-    ensures unchanged { OnErr result (handle_writer writer.new ≡ handle_writer writer.old) }
-    ensures err { IfErr result (λ f. IsPublishStatus (first_of (first_row_fault rows.now)
-        (first_block_fault prefixes.now)) (handle_writer writer.old) (fault_number f)) }
-{
-    check_rows(rows)?;
-    check_blocks(prefixes)?;
-    let Some(mut held) = writer.take(alloc) else {
-        return Err(CallFault::Empty);
-    };
-    let outcome = publish_rows(alloc, &mut held, generation, rows, prefixes);
-    writer.put(held);
-    outcome
+    status(held::open(alloc, image, readers, writer))
 }
 
 /// Sets rows over those of the image, in order, then takes the rows of prefixes out, sets its generation,
@@ -104,7 +49,7 @@ pub extern "C" fn tuhvondi_writer_publish(
         ≡ Some (with_element h (changed generation (plain_rows rows.now) prefixes.now i)))) }
     ensures refused { result ≢ 0 → handle_writer writer.new ≡ handle_writer writer.old }
 {
-    status(publish(alloc, writer, generation, rows, prefixes))
+    status(held::publish(alloc, writer, generation, rows, prefixes))
 }
 
 /// Writes how many images the writer has published; the first is the one that it was made of. 7: the handle
@@ -128,27 +73,6 @@ pub extern "C" fn tuhvondi_writer_published(
     0
 }
 
-// Makes a reader of a handle's writer.
-fn seat(
-    alloc: Global,
-    writer: &mut WriterHandle,
-    reader: &mut ReaderHandle,
-) -> Result<(), CallFault>
-    ensures writer { handle_writer writer.new ≡ handle_writer writer.old }
-    ensures ok { OnOk result (IsSeatStatus (handle_writer writer.old) 0) }
-    ensures made { OnOk result (handle_reader reader.new ≡ handle_writer writer.old) }
-    ensures unchanged { OnErr result (handle_reader reader.new ≡ handle_reader reader.old) }
-    ensures err { IfErr result (λ f. IsSeatStatus (handle_writer writer.old) (fault_number f)) }
-{
-    let Some(held) = writer.take(alloc) else {
-        return Err(CallFault::Empty);
-    };
-    let made = reader_of(alloc, &held);
-    writer.put(held);
-    reader.put(made?);
-    Ok(())
-}
-
 /// Has a reader's handle hold a reader of the writer; the one that it held is freed. 7: the handle holds
 /// no writer. 8: handles hold all readers. 20: memory was refused.
 #[unsafe(no_mangle)]
@@ -162,7 +86,7 @@ pub extern "C" fn tuhvondi_writer_reader(
     ensures refused { result ≢ 0 → handle_reader reader.new ≡ handle_reader reader.old }
     ensures writer { handle_writer writer.new ≡ handle_writer writer.old }
 {
-    status(seat(alloc, writer, reader))
+    status(held::seat(alloc, writer, reader))
 }
 
 /// Writes, for each address, the row of the image that is published with the longest prefix that covers

@@ -3,41 +3,19 @@
 //! A row that another call sets has the word 2^32 - 1. A look-up answers that word, too, if no row covers the
 //! address.
 
-ghost use Rattle.std.specs.Prelude.{◌≡◌, ◌≢◌, None, Some, OnOk, OnErr, IfOk, IfErr, IfSome, is_some, length};
+ghost use Rattle.std.specs.Prelude.{◌≡◌, ◌≢◌, Some, IfSome, is_some, length};
 ghost use Rattle.std.specs.Option.{option_map};
-ghost use Rattle.c_interface.specs.Faults.{IsStatusBy, first_of, fault_number};
+ghost use Rattle.c_interface.specs.Faults.{IsStatusBy, first_of};
 ghost use Rattle.lookup_calls.specs.{Faults.IsApplyStatus, Faults.IsLookupStatus, Histories.changed, Histories.last_image, Images.new_image, Images.patched_table, Readers.IsPublishStatus, Readers.IsReadStatus, Rows.answer_words, Rows.count_fault, Rows.words_fault, Tables.worded_rows};
 ghost use Rattle.receipts.specs.Logs.{GrowsTo, with_element};
 ghost use Rattle.lookup_calls.specs.Prefixes.{cursor_fault, cursor_prefix, first_block_fault, listed_row, listed_word, rows_status, IsFilledIn};
-ghost use Rattle.lookup_ffi.specs.Handles.{handle_image, handle_reader, handle_writer};
+ghost use Rattle.lookup_calls.specs.Handles.{handle_image, handle_reader, handle_writer};
 
-use crate::handle::ImageHandle;
-use crate::reader_handle::ReaderHandle;
-use crate::writer_handle::WriterHandle;
 use c_interface::{CallFault, Row, status};
 use lookup_calls::{
-    Block, check_blocks, check_list, check_words, image_of_words, list_words, look_up_words,
-    publish_words, read_words,
+    Block, ImageHandle, ReaderHandle, WriterHandle, held_words, look_up_words, read_words,
 };
 use std::alloc::Global;
-
-// Makes an image of rows with words and puts it into a handle.
-fn make(
-    alloc: Global,
-    rows: &[Row],
-    words: &[u32],
-    image: &mut ImageHandle,
-) -> Result<(), CallFault>
-    ensures ok { OnOk result (words_fault rows.now words.now ≡ None) }
-    ensures made { OnOk result (handle_image image.new
-        ≡ Some (new_image (worded_rows rows.now words.now))) }
-    ensures unchanged { OnErr result (handle_image image.new ≡ handle_image image.old) }
-    ensures err { IfErr result (λ f. IsStatusBy (words_fault rows.now words.now) (fault_number f)) }
-{
-    check_words(rows, words)?;
-    image.put(image_of_words(alloc, rows, words)?);
-    Ok(())
-}
 
 /// As `tuhvondi_image_new`, with a word for each row. 8: there are not as many words as rows, and no row has
 /// a fault. 20: memory was refused, or there are more than 16,777,214 rows.
@@ -53,32 +31,7 @@ pub extern "C" fn tuhvondi_image_new_words(
         handle_image image.new ≡ Some (new_image (worded_rows rows.now words.now)) }
     ensures refused { result ≢ 0 → handle_image image.new ≡ handle_image image.old }
 {
-    status(make(alloc, rows, words, image))
-}
-
-// Sets rows with words over those of a handle's image, and its generation.
-fn apply(
-    alloc: Global,
-    image: &mut ImageHandle,
-    generation: u64,
-    rows: &[Row],
-    words: &[u32],
-) -> Result<(), CallFault>
-    ensures ok { OnOk result
-        (IsApplyStatus (words_fault rows.now words.now) (handle_image image.old) 0) }
-    ensures patched { OnOk result (handle_image image.new
-        ≡ option_map (patched_table generation (worded_rows rows.now words.now)) (handle_image image.old)) }
-    ensures unchanged { OnErr result (handle_image image.new ≡ handle_image image.old) }
-    ensures err { IfErr result (λ f.
-        IsApplyStatus (words_fault rows.now words.now) (handle_image image.old) (fault_number f)) }
-{
-    check_words(rows, words)?;
-    let Some(mut held) = image.take(alloc) else {
-        return Err(CallFault::Empty);
-    };
-    let outcome = held.apply_words(alloc, generation, rows, words);
-    image.put(held);
-    outcome
+    status(held_words::make(alloc, rows, words, image))
 }
 
 /// As `tuhvondi_image_apply`, with a word for each row. 8: there are not as many words as rows, and no row
@@ -96,7 +49,7 @@ pub extern "C" fn tuhvondi_image_apply_words(
         ≡ option_map (patched_table generation (worded_rows rows.now words.now)) (handle_image image.old) }
     ensures refused { result ≢ 0 → handle_image image.new ≡ handle_image image.old }
 {
-    status(apply(alloc, image, generation, rows, words))
+    status(held_words::apply(alloc, image, generation, rows, words))
 }
 
 /// As `tuhvondi_image_lookup`, but writes the words of the rows that answer, and nothing else of them.
@@ -122,36 +75,6 @@ pub extern "C" fn tuhvondi_image_lookup_words(
     status(outcome)
 }
 
-// Writes the rows of a handle's image and their words, from where a cursor stands.
-fn list(
-    alloc: Global,
-    image: &mut ImageHandle,
-    from: Block,
-    rows: &mut [Row],
-    words: &mut [u32],
-) -> Result<(usize, Block), CallFault>
-    ensures image { handle_image image.new ≡ handle_image image.old }
-    ensures ok { OnOk result (rows_status (first_of (cursor_fault from)
-        (count_fault (length rows.old) (length words.old))) (handle_image image.old) ≡ 0) }
-    ensures rows { IfOk result (λ r. IfSome (handle_image image.old) (λ i. IsFilledIn listed_row
-        i.rows (cursor_prefix from) rows.old rows.new r.0 (cursor_prefix r.1))) }
-    ensures words { IfOk result (λ r. IfSome (handle_image image.old) (λ i. IsFilledIn listed_word
-        i.rows (cursor_prefix from) words.old words.new r.0 (cursor_prefix r.1))) }
-    ensures unchanged { OnErr result ((rows.new ≡ rows.old) × (words.new ≡ words.old)) }
-    ensures err { IfErr result (λ f. rows_status (first_of (cursor_fault from)
-        (count_fault (length rows.old) (length words.old))) (handle_image image.old)
-        ≡ fault_number f) }
-{
-    check_list(from, rows, words)?;
-    let at = from.read_cursor()?;
-    let Some(held) = image.take(alloc) else {
-        return Err(CallFault::Empty);
-    };
-    let (count, onward) = list_words(held.get(), at, rows, words);
-    image.put(held);
-    Ok((count, Block::cursor(onward)))
-}
-
 /// As `tuhvondi_image_rows`, with the word of each row. 8: there are not as many places for words as for
 /// rows, and the cursor is a prefix.
 #[unsafe(no_mangle)]
@@ -173,7 +96,7 @@ pub extern "C" fn tuhvondi_image_rows_words(
         × (written.new ≡ written.old) × (from.new ≡ from.old) }
     ensures image { handle_image image.new ≡ handle_image image.old }
 {
-    match list(alloc, image, *from, rows, words) {
+    match held_words::list(alloc, image, *from, rows, words) {
         Ok((count, onward)) => {
             *written = count;
             *from = onward;
@@ -181,34 +104,6 @@ pub extern "C" fn tuhvondi_image_rows_words(
         }
         Err(fault) => fault.number(),
     }
-}
-
-// Publishes a change with words of a handle's writer.
-fn publish(
-    alloc: Global,
-    writer: &mut WriterHandle,
-    generation: u64,
-    rows: &[Row],
-    words: &[u32],
-    prefixes: &[Block],
-) -> Result<(), CallFault>
-    ensures ok { OnOk result (IsPublishStatus (first_of (words_fault rows.now words.now)
-        (first_block_fault prefixes.now)) (handle_writer writer.old) 0) }
-    ensures published { OnOk result (IfSome (handle_writer writer.old)
-        (λ h. IfSome (last_image h.elements) (λ i. handle_writer writer.new ≡ Some (with_element h
-        (changed generation (worded_rows rows.now words.now) prefixes.now i))))) }
-    ensures unchanged { OnErr result (handle_writer writer.new ≡ handle_writer writer.old) }
-    ensures err { IfErr result (λ f. IsPublishStatus (first_of (words_fault rows.now words.now)
-        (first_block_fault prefixes.now)) (handle_writer writer.old) (fault_number f)) }
-{
-    check_words(rows, words)?;
-    check_blocks(prefixes)?;
-    let Some(mut held) = writer.take(alloc) else {
-        return Err(CallFault::Empty);
-    };
-    let outcome = publish_words(alloc, &mut held, generation, rows, words, prefixes);
-    writer.put(held);
-    outcome
 }
 
 /// As `tuhvondi_writer_publish`, with a word for each row. 8: there are not as many words as rows, and no row
@@ -229,7 +124,7 @@ pub extern "C" fn tuhvondi_writer_publish_words(
         (changed generation (worded_rows rows.now words.now) prefixes.now i)))) }
     ensures refused { result ≢ 0 → handle_writer writer.new ≡ handle_writer writer.old }
 {
-    status(publish(alloc, writer, generation, rows, words, prefixes))
+    status(held_words::publish(alloc, writer, generation, rows, words, prefixes))
 }
 
 /// As `tuhvondi_reader_lookup`, but writes the words of the rows that answer, and nothing else of them.

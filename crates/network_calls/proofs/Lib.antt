@@ -3,3 +3,5 @@ pub mod Ran
 pub mod Items
 pub mod Given
 pub mod Going
+pub mod Words
+pub mod Crossing

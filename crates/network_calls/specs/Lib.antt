@@ -1,3 +1,4 @@
+pub mod Handles
 pub mod Headline
 pub mod Failures
 pub mod Parts

@@ -4,14 +4,13 @@ ghost use Rattle.std.specs.Prelude.{◌≡◌, ◌≢◌, Some, IfSome, option_m
 ghost use Rattle.c_interface.specs.Rows.{as_prefix};
 ghost use Rattle.network_calls.specs.Calls.{at_link, at_machine, at_router_port, at_router, shown_machine};
 ghost use Rattle.network_calls.specs.Failures.{status_by_failure};
-ghost use Rattle.network_ffi.specs.Handles.{handle_going, handle_network};
+ghost use Rattle.network_calls.specs.Handles.{handle_going, handle_network};
 ghost use Rattle.network_calls.specs.Shown.{gate_at, link_shown, AreHeldShown, AreNoticesShown, IsQueueShown};
 
-use crate::handle::NetworkHandle;
 use c_interface::{CallFault, read_prefix};
 use network_calls::{
-    Failure, GateShown, ItemShown, LinkShown, MachineShown, NoticeShown, machine_of, queue_of,
-    write_held, write_notices,
+    Failure, GateShown, ItemShown, LinkShown, MachineShown, NetworkHandle, NoticeShown, machine_of,
+    queue_of, write_held, write_notices,
 };
 use network_model::Refusal;
 use single_router::Frame;

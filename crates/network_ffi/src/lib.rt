@@ -41,18 +41,18 @@
 //! contract names. Only the calls that open or copy a network, do steps or events, or are given a change ask for memory.
 //!
 //! What is tricky is the pointer. Each call takes the box out of the handle, works on what is in it, and puts
-//! it back. So only three small functions touch the pointer (`src/handle.rt`), and these are proved by hand.
-//! A handle is for one call at a time. It has no lock, and may go to another thread.
+//! it back. So only three small functions touch the pointer (`network_calls/src/handle.rt`), and these are
+//! proved by hand. A handle is for one call at a time. It has no lock, and may go to another thread.
 //!
 //! The proofs take for granted that C keeps the rules of the header. For example, lists are as long as a call
 //! is told, and no two arguments overlap.
 #![tactic(auto)]
 
-ghost use Rattle.std.specs.Prelude.{◌≡◌, ◌≢◌, None, Some, OnOk, OnErr, IfErr, IfSome, IfNone, is_some, length, option_map, slice_get};
+ghost use Rattle.std.specs.Prelude.{◌≡◌, ◌≢◌, None, Some, IfSome, IfNone, is_some, length, option_map, slice_get};
 ghost use Rattle.network_model.specs.Turns as turns;
 ghost use Rattle.c_interface.specs.Faults.{fault_number};
 ghost use Rattle.single_router.specs.States.{flag};
-ghost use Rattle.network_ffi.specs.Handles.{handle_going, handle_network};
+ghost use Rattle.network_calls.specs.Handles.{handle_going, handle_network};
 ghost use Rattle.network_calls.specs.Failures.{failure_number, status_by_failure, IsStatusByFailure, IsStatusOnlyByFailure};
 ghost use Rattle.network_model.specs.Network.{program_limits, widest_limits, AreWithin};
 ghost use Rattle.network_calls.specs.{Headline.HasHeadline, Running.opening_steps, Running.with_step_done, Running.GoesBySteps, Steps.parts_of_step, Steps.step_of};
@@ -61,19 +61,16 @@ ghost use Rattle.network_calls.specs.Calls.{at_all, at_router, counts_of, lookup
 
 use c_interface::{CallFault, Row};
 use network_calls::{
-    AttachmentParts, Counts, Failure, FaultPlace, LimitsParts, LinkParts, StepParts, copy_of,
-    look_up, open, rows_of, status, trace_of,
+    AttachmentParts, Counts, Failure, FaultPlace, LimitsParts, LinkParts, NetworkHandle, StepParts,
+    copy_of, look_up, open, rows_of, status, trace_of,
 };
 use network_model::Refusal;
 use simulation::Order;
 use std::alloc::Global;
 
-mod handle;
 mod inspecting;
 mod recorded;
 mod timed;
-
-use handle::NetworkHandle;
 
 /// Opens the network of so many routers, with these links and attachments, and puts it into the handle; the
 /// network that the handle held is freed. If none is opened, it answers why, and writes where that stands.
@@ -181,29 +178,6 @@ pub extern "C" fn tuhvondi_network_copy(
     }
 }
 
-// Does a step of a handle's network.
-fn do_step(alloc: Global, network: &mut NetworkHandle, parts: StepParts) -> Result<(), Failure>
-    ensures ok { OnOk result (IsStatusOnlyByFailure (step_fault parts (handle_going network.old))
-        (HeldNeedsMemory (step_of parts) (handle_going network.old)) 0) }
-    ensures stepped { OnOk result (handle_going network.new
-        ≡ option_map (with_step_done (step_of parts)) (handle_going network.old)) }
-    ensures headline { OnOk result (IfSome (handle_network network.new) HasHeadline) }
-    ensures unchanged { OnErr result (handle_going network.new ≡ handle_going network.old) }
-    ensures err { IfErr result (λ f. IsStatusOnlyByFailure (step_fault parts (handle_going network.old))
-        (HeldNeedsMemory (step_of parts) (handle_going network.old)) (failure_number f)) }
-{
-    if let Err(fault) = parts.read() {
-        return Err(Failure::Given(fault));
-    }
-    let Some(mut held) = network.take(alloc) else {
-        return Err(Failure::Given(CallFault::Empty));
-    };
-    let outcome = held.read_and_step(parts);
-    held.holds();
-    network.put(held);
-    outcome
-}
-
 /// Does a step. It is refused if the network has a clock.
 #[unsafe(no_mangle)]
 pub extern "C" fn tuhvondi_network_step(
@@ -218,7 +192,7 @@ pub extern "C" fn tuhvondi_network_step(
     ensures headline { result ≡ 0 → IfSome (handle_network network.new) HasHeadline }
     ensures refused { result ≢ 0 → handle_going network.new ≡ handle_going network.old }
 {
-    status(do_step(alloc, network, *parts))
+    status(network.step(alloc, *parts))
 }
 
 /// Does steps in order, up to the first that has a fault or is refused, and writes how many were done. None is done

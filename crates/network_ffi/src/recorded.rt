@@ -2,12 +2,11 @@
 
 ghost use Rattle.std.specs.Prelude.{◌≡◌, ◌≢◌, drop, IfNone, IfSome};
 ghost use Rattle.network_calls.specs.{Calls.at_record, Failures.failure_number, Failures.status_by_failure, Shown.AreShownOver, Spells.ended_shown, Spells.going_on, Spells.going_shown};
-ghost use Rattle.network_ffi.specs.Handles.{handle_going, handle_report};
+ghost use Rattle.network_calls.specs.Handles.{handle_going, handle_report};
 ghost use Rattle.single_router.specs.States.{flag};
 
-use crate::handle::NetworkHandle;
 use c_interface::CallFault;
-use network_calls::{Failure, SpellParts, write_ended, write_going_on};
+use network_calls::{Failure, NetworkHandle, SpellParts, write_ended, write_going_on};
 use std::alloc::Global;
 
 // Writes how many were written and whether there are more; 53 if no record is kept.

@@ -1,6 +1,5 @@
 //! The calls, as C makes them.
 
-use crate::handle::NetworkHandle;
 use crate::inspecting::{
     tuhvondi_network_gate, tuhvondi_network_held, tuhvondi_network_link, tuhvondi_network_machine,
     tuhvondi_network_notices, tuhvondi_network_queue,
@@ -15,7 +14,7 @@ use crate::{
 use c_interface::Row;
 use network_calls::{
     AttachmentParts, Counts, FaultPlace, GateShown, ItemShown, LimitsParts, LinkParts, LinkShown,
-    MachineShown, NeighbourShown, NoticeShown, StepParts,
+    MachineShown, NeighbourShown, NetworkHandle, NoticeShown, StepParts,
 };
 use single_router::{Frame, State};
 use std::alloc::Global;
@@ -64,24 +63,42 @@ pub(crate) const OWNER: [AttachmentParts; 1] = [AttachmentParts {
     len: 8,
 }];
 
-pub(crate) fn row(kind: u8, port: u8, session: u16) -> Row {
-    Row {
-        addr: 0x0a00_0000,
-        len: 8,
-        kind,
-        port,
-        session,
-    }
-}
+// 10.0.0.0/8: by port 0 in its first session, local, and unreachable.
+pub(crate) const VIA: Row = Row {
+    addr: 0x0a00_0000,
+    len: 8,
+    kind: 1,
+    port: 0,
+    session: 1,
+};
 
-pub(crate) fn plain(kind: u8, subject: u16) -> StepParts {
+const LOCAL: Row = Row {
+    kind: 0,
+    session: 0,
+    ..VIA
+};
+
+const UNREACHABLE: Row = Row { kind: 2, ..LOCAL };
+
+// The first link comes up, or the second.
+pub(crate) const UP: StepParts = StepParts {
+    addr: 0,
+    cost: 0,
+    subject: 0,
+    kind: 0,
+    port: 0,
+    len: 0,
+};
+
+const SECOND_UP: StepParts = StepParts { subject: 1, ..UP };
+
+const UPS: [StepParts; 2] = [UP, SECOND_UP];
+
+fn plain(kind: u8, subject: u16) -> StepParts {
     StepParts {
-        addr: 0,
-        cost: 0,
         subject,
         kind,
-        port: 0,
-        len: 0,
+        ..UP
     }
 }
 
@@ -128,7 +145,7 @@ fn trace(alloc: Global, network: &mut NetworkHandle, router: u16) -> (u32, [u16;
 // Brings both links of the line up.
 fn joined(alloc: Global) -> NetworkHandle {
     let mut network = line(alloc);
-    let _ = run(alloc, &mut network, &[plain(0, 0), plain(0, 1)]);
+    let _ = run(alloc, &mut network, &UPS);
     network
 }
 
@@ -136,28 +153,27 @@ fn joined(alloc: Global) -> NetworkHandle {
 fn line_settles_and_a_cut_is_heard(rt: HostRuntime) {
     let alloc = rt.alloc();
     let mut net = line(alloc);
-    let ups = [plain(0, 0), plain(0, 1)];
-    equal(&rt, run(alloc, &mut net, &ups), (0, 2));
+    equal(&rt, run(alloc, &mut net, &UPS), (0, 2));
     for seed in [0, 1, 7] {
         equal(&rt, settle(alloc, &mut net, seed, 10_000).0, 0);
     }
     let mut settled = 9;
     let status = tuhvondi_network_is_settled(alloc, &mut net, &mut settled);
     equal(&rt, (status, settled), (0, 1));
-    equal(&rt, look_up(alloc, &mut net, 0), row(0, 0, 0));
-    equal(&rt, look_up(alloc, &mut net, 1), row(1, 0, 1));
-    equal(&rt, look_up(alloc, &mut net, 2), row(1, 0, 1));
+    equal(&rt, look_up(alloc, &mut net, 0), LOCAL);
+    equal(&rt, look_up(alloc, &mut net, 1), VIA);
+    equal(&rt, look_up(alloc, &mut net, 2), VIA);
     equal(&rt, trace(alloc, &mut net, 2), (0, [2, 1, 0, 9], 3, 0));
     let (mut rows, mut count, mut more) = ([NO_ROW; 2], 9, 9);
     let status = tuhvondi_network_rows(alloc, &mut net, 2, &mut rows, &mut count, &mut more);
     equal(&rt, (status, count, more), (0, 1, 0));
-    equal(&rt, rows, [row(1, 0, 1), NO_ROW]);
+    equal(&rt, rows, [VIA, NO_ROW]);
     // The link of routers 0 and 1 goes down: until router 1 hears of that, its row leads over a dead link.
     equal(&rt, step(alloc, &mut net, 1, 0), 0);
     equal(&rt, trace(alloc, &mut net, 2), (0, [2, 1, 9, 9], 2, 3));
     equal(&rt, settle(alloc, &mut net, 0, 10_000).0, 0);
-    equal(&rt, look_up(alloc, &mut net, 1), row(2, 0, 0));
-    equal(&rt, look_up(alloc, &mut net, 2), row(2, 0, 0));
+    equal(&rt, look_up(alloc, &mut net, 1), UNREACHABLE);
+    equal(&rt, look_up(alloc, &mut net, 2), UNREACHABLE);
     let mut counts = Counts {
         steps: 0,
         updates: 0,
@@ -167,7 +183,6 @@ fn line_settles_and_a_cut_is_heard(rt: HostRuntime) {
     let status = tuhvondi_network_counts(alloc, &mut net, &mut counts);
     // Each query is answered once.
     equal(&rt, (status, counts.queries), (0, counts.replies));
-    tuhvondi_network_free(alloc, &mut net);
 }
 
 // What router 1 is shown of its machine, or the number of a fault.
@@ -275,8 +290,7 @@ fn a_query_is_shown_on_its_way(rt: HostRuntime) {
     let alloc = rt.alloc();
     let mut net = line(alloc);
     equal(&rt, machine(alloc, &mut net), Err(28));
-    let ups = [plain(0, 0), plain(0, 1)];
-    equal(&rt, run(alloc, &mut net, &ups), (0, 2));
+    equal(&rt, run(alloc, &mut net, &UPS), (0, 2));
     let came_up = ItemShown {
         value: 1,
         session: 1,
@@ -309,7 +323,7 @@ fn a_query_is_shown_on_its_way(rt: HostRuntime) {
             && m.state.fd == 2
             && m.state.active == 1
             && m.state.awaited[1] == 1
-            && m.state.published == row(1, 0, 1)),
+            && m.state.published == VIA),
         true,
     );
     let down = LinkShown {
@@ -412,7 +426,6 @@ fn faults_are_told_with_their_place(rt: HostRuntime) {
     equal(&rt, found, fault(27, 0, 2));
     // The handle is empty still.
     equal(&rt, step(alloc, &mut net, 0, 0), 7);
-    tuhvondi_network_free(alloc, &mut net);
 }
 
 #[test]
@@ -430,14 +443,13 @@ fn refused_steps_are_told(rt: HostRuntime) {
     for (kind, subject, status) in rows {
         equal(&rt, step(alloc, &mut net, kind, subject), status);
     }
-    let ups = [plain(0, 0), plain(0, 0)];
+    let ups = [UP, UP];
     equal(&rt, run(alloc, &mut net, &ups), (13, 1));
     let mut next = plain(9, 9);
     for (router, status, kind) in [(0, 0, 3), (2, 0, 255), (3, 10, 255)] {
         let found = tuhvondi_network_next_step(alloc, &mut net, router, &mut next);
         equal(&rt, (found, next), (status, plain(kind, 0)));
     }
-    tuhvondi_network_free(alloc, &mut net);
 }
 
 // Lets a network come to rest: how many steps that takes.
@@ -455,7 +467,7 @@ fn a_copy_goes_its_own_way(rt: HostRuntime) {
     equal(&rt, status, 0);
     // Both have as much left to do, and come to rest alike.
     equal(&rt, rest(alloc, &mut other), rest(alloc, &mut net));
-    equal(&rt, look_up(alloc, &mut other, 2), row(1, 0, 1));
+    equal(&rt, look_up(alloc, &mut other, 2), VIA);
     // A link of the copy goes down. Then a copy of that copy replaces it.
     equal(&rt, step(alloc, &mut other, 1, 0), 0);
     let mut third = line(alloc);
@@ -463,43 +475,35 @@ fn a_copy_goes_its_own_way(rt: HostRuntime) {
     equal(&rt, status, 0);
     tuhvondi_network_free(alloc, &mut other);
     equal(&rt, rest(alloc, &mut third) > 0, true);
-    equal(&rt, look_up(alloc, &mut third, 2), row(2, 0, 0));
-    equal(&rt, look_up(alloc, &mut net, 2), row(1, 0, 1));
+    equal(&rt, look_up(alloc, &mut third, 2), UNREACHABLE);
+    equal(&rt, look_up(alloc, &mut net, 2), VIA);
     equal(&rt, rest(alloc, &mut net), 0);
     // An empty handle has nothing to copy, and the other keeps what it holds.
     let status = tuhvondi_network_copy(alloc, &mut other, &mut third);
     equal(&rt, status, 7);
-    equal(&rt, look_up(alloc, &mut third, 2), row(2, 0, 0));
-    tuhvondi_network_free(alloc, &mut net);
-    tuhvondi_network_free(alloc, &mut third);
+    equal(&rt, look_up(alloc, &mut third, 2), UNREACHABLE);
 }
 
-fn limits(
-    routers: usize,
-    links: usize,
-    ports: usize,
-    prefixes: usize,
-    attachments: usize,
-) -> LimitsParts {
-    LimitsParts {
-        routers,
-        links,
-        ports,
-        prefixes,
-        attachments,
-    }
-}
+// Limits: of routers, links, ports, prefixes and attachments.
+type Limits = [usize; 5];
 
 // Opens a network within limits: the status, and where a fault stands.
 fn within(
     alloc: Global,
-    limits: LimitsParts,
+    own: Limits,
     routers: usize,
     links: &[LinkParts],
     owners: &[AttachmentParts],
     network: &mut NetworkHandle,
 ) -> (u32, FaultPlace) {
     let mut place = NOWHERE;
+    let limits = LimitsParts {
+        routers: own[0],
+        links: own[1],
+        ports: own[2],
+        prefixes: own[3],
+        attachments: own[4],
+    };
     let status = tuhvondi_network_within(
         alloc, &limits, routers, links, owners, &mut place, network,
     );
@@ -508,44 +512,45 @@ fn within(
 
 const MANY: usize = 4_294_967_295;
 
+// What the line needs, and not more; and then less, or more than there may be. Beside the limits stand the status, and the
+// place of the fault.
+const OF_THE_LINE: [(Limits, (u32, usize, u8)); 15] = [
+    ([3, 2, 2, 1, 1], (0, 9, 9)),
+    ([65_536, 65_536, 32, MANY, MANY], (0, 9, 9)),
+    ([2, 2, 2, 1, 1], (24, 0, 0)),
+    ([0, 2, 2, 1, 1], (24, 0, 0)),
+    ([3, 1, 2, 1, 1], (26, 1, 1)),
+    ([3, 0, 2, 1, 1], (26, 0, 1)),
+    ([3, 2, 1, 1, 1], (26, 1, 1)),
+    ([3, 2, 0, 1, 1], (26, 0, 1)),
+    ([3, 2, 2, 0, 1], (27, 0, 2)),
+    ([3, 2, 2, 1, 0], (27, 0, 2)),
+    ([65_537, 65_536, 32, MANY, MANY], (50, 0, 0)),
+    ([65_536, 65_537, 32, MANY, MANY], (50, 0, 0)),
+    ([3, 2, 33, 1, 1], (50, 0, 0)),
+    ([3, 2, 2, MANY + 1, 1], (50, 0, 0)),
+    ([3, 2, 2, 1, usize::MAX], (50, 0, 0)),
+];
+
 #[test]
 fn limits_are_those_of_the_caller(rt: HostRuntime) {
     let alloc = rt.alloc();
     let mut net = NetworkHandle::none(alloc);
-    // What the line needs, and not more; and then less, or more than there may be.
-    let rows = [
-        (limits(3, 2, 2, 1, 1), fault(0, 9, 9)),
-        (limits(65_536, 65_536, 32, MANY, MANY), fault(0, 9, 9)),
-        (limits(2, 2, 2, 1, 1), fault(24, 0, 0)),
-        (limits(0, 2, 2, 1, 1), fault(24, 0, 0)),
-        (limits(3, 1, 2, 1, 1), fault(26, 1, 1)),
-        (limits(3, 0, 2, 1, 1), fault(26, 0, 1)),
-        (limits(3, 2, 1, 1, 1), fault(26, 1, 1)),
-        (limits(3, 2, 0, 1, 1), fault(26, 0, 1)),
-        (limits(3, 2, 2, 0, 1), fault(27, 0, 2)),
-        (limits(3, 2, 2, 1, 0), fault(27, 0, 2)),
-        (limits(65_537, 65_536, 32, MANY, MANY), fault(50, 0, 0)),
-        (limits(65_536, 65_537, 32, MANY, MANY), fault(50, 0, 0)),
-        (limits(3, 2, 33, 1, 1), fault(50, 0, 0)),
-        (limits(3, 2, 2, MANY + 1, 1), fault(50, 0, 0)),
-        (limits(3, 2, 2, 1, usize::MAX), fault(50, 0, 0)),
-    ];
-    for (own, wanted) in rows {
+    for (own, (status, position, list)) in OF_THE_LINE {
         let found = within(alloc, own, 3, &LINE, &OWNER, &mut net);
-        equal(&rt, found, wanted);
+        equal(&rt, found, fault(status, position, list));
     }
     // The network of the widest limits is held still. A fault of the limits comes before those of the lists.
-    equal(&rt, look_up(alloc, &mut net, 0), row(0, 0, 0));
+    equal(&rt, look_up(alloc, &mut net, 0), LOCAL);
     let costless = [LinkParts {
         from_a: 0,
         ..LINE[0]
     }];
     for (ports, status) in [(33, 50), (2, 5)] {
-        let own = limits(3, 2, ports, 1, 1);
+        let own = [3, 2, ports, 1, 1];
         let found = within(alloc, own, 0, &costless, &[], &mut net);
         equal(&rt, found.0, status);
     }
-    tuhvondi_network_free(alloc, &mut net);
 }
 
 #[test]
@@ -562,7 +567,7 @@ fn the_last_of_all_routers_is_reached(rt: HostRuntime) {
         router: 65_535,
         ..OWNER[0]
     }];
-    let widest = limits(65_536, 65_536, 32, MANY, MANY);
+    let widest = [65_536, 65_536, 32, MANY, MANY];
     for (routers, status) in [(65_537, 24), (65_536, 0)] {
         let found = within(alloc, widest, routers, &links, &owner, &mut net);
         equal(&rt, found.0, status);
@@ -571,7 +576,6 @@ fn the_last_of_all_routers_is_reached(rt: HostRuntime) {
     equal(&rt, rest(alloc, &mut net) > 0, true);
     let wanted = (0, [0, 65_535, 9, 9], 2, 0);
     equal(&rt, trace(alloc, &mut net, 0), wanted);
-    tuhvondi_network_free(alloc, &mut net);
 }
 
 // A step of router 1 that attaches it at this cost, or detaches it.
@@ -636,7 +640,7 @@ fn notices_and_held_messages_are_shown(rt: HostRuntime) {
         port,
         ..plain(3, 1)
     };
-    let steps = [plain(0, 0), plain(0, 1), taken(0), taken(1), taken(2)];
+    let steps = [UP, SECOND_UP, taken(0), taken(1), taken(2)];
     equal(&rt, run(alloc, &mut net, &steps), (0, 5));
     let update = |port| Frame {
         addr: 0x0a00_0000,
@@ -657,5 +661,4 @@ fn notices_and_held_messages_are_shown(rt: HostRuntime) {
         let none = [NO_NOTICE; 3];
         equal(&rt, notices(alloc, &mut net, router, 3), (10, none, 9, 9));
     }
-    tuhvondi_network_free(alloc, &mut net);
 }

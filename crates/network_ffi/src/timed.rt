@@ -9,13 +9,12 @@ ghost use Rattle.network_calls.specs.{Calls.at_clock, Failures.failure_number, F
 ghost use Rattle.network_calls.specs.Delays.{delays_of, is_counted, parts_of_event, IsTimedFault};
 ghost use Rattle.network_calls.specs.Parts.{limits_of, list_fault, network_failure, parts_network, IsNotOpened};
 ghost use Rattle.network_calls.specs.Times.{first_change, given_failure, IsFlagOf, IsRunToRest, IsRunUntil};
-ghost use Rattle.network_ffi.specs.Handles.{handle_going, handle_network, handle_timed};
+ghost use Rattle.network_calls.specs.Handles.{handle_going, handle_network, handle_timed};
 
-use crate::handle::NetworkHandle;
 use c_interface::CallFault;
 use network_calls::{
     AttachmentParts, DelayParts, EventParts, Failure, FaultPlace, LimitsParts, LinkParts,
-    StepParts, is_at_rest, open_timed, read_change,
+    NetworkHandle, StepParts, is_at_rest, open_timed, read_change,
 };
 use std::alloc::Global;
 

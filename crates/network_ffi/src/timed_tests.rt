@@ -1,12 +1,11 @@
 //! The calls on a network in simulated time, as C makes them. Which events are done, and when, is worked out by hand from
 //! the delays.
 
-use crate::handle::NetworkHandle;
 use crate::recorded::{
     tuhvondi_network_computations, tuhvondi_network_computing, tuhvondi_network_cut_off,
     tuhvondi_network_outages,
 };
-use crate::tests::{NOWHERE, OWNER, equal, line, look_up, plain, row};
+use crate::tests::{NOWHERE, OWNER, UP, VIA, equal, line, look_up};
 use crate::timed::{
     tuhvondi_network_at, tuhvondi_network_is_at_rest, tuhvondi_network_next_event,
     tuhvondi_network_now, tuhvondi_network_run_to_rest, tuhvondi_network_run_until,
@@ -17,7 +16,8 @@ use crate::{
     tuhvondi_network_step,
 };
 use network_calls::{
-    DelayParts, EventParts, FaultPlace, LimitsParts, LinkParts, SpellParts, StepParts,
+    DelayParts, EventParts, FaultPlace, LimitsParts, LinkParts, NetworkHandle, SpellParts,
+    StepParts,
 };
 use std::alloc::Global;
 
@@ -94,23 +94,33 @@ fn rests(alloc: Global, network: &mut NetworkHandle) -> (u32, u8) {
     (status, rests)
 }
 
-fn event(moment: u64, step: StepParts, given: u8) -> (u32, EventParts) {
-    let event = EventParts {
-        moment,
-        step,
-        given,
-    };
-    (0, event)
-}
+// What is done next: a change that was given, what is due, or nothing.
+const GIVEN: EventParts = EventParts {
+    moment: 3,
+    step: UP,
+    given: 1,
+};
+
+const DUE: EventParts = EventParts {
+    moment: 18,
+    step: StepParts { kind: 4, ..UP },
+    given: 0,
+};
+
+const NOTHING: EventParts = EventParts {
+    moment: 0,
+    step: StepParts { kind: 255, ..UP },
+    given: 0,
+};
 
 fn next(alloc: Global, network: &mut NetworkHandle) -> (u32, EventParts) {
-    let (_, mut found) = event(9, plain(9, 9), 9);
+    let mut found = DUE;
     let status = tuhvondi_network_next_event(alloc, network, &mut found);
     (status, found)
 }
 
 fn withdrawn(alloc: Global, network: &mut NetworkHandle) -> (u32, EventParts) {
-    let (_, mut found) = event(9, plain(9, 9), 9);
+    let mut found = DUE;
     let status = tuhvondi_network_withdraw(alloc, network, &mut found);
     (status, found)
 }
@@ -122,18 +132,18 @@ fn two_routers_come_to_rest(rt: HostRuntime) {
     let alloc = rt.alloc();
     let mut net = opened(alloc, 0);
     equal(&rt, rests(alloc, &mut net), (0, 1));
-    equal(&rt, next(alloc, &mut net), event(0, plain(255, 0), 0));
-    equal(&rt, at(alloc, &mut net, 3, plain(0, 0)), 0);
-    equal(&rt, next(alloc, &mut net), event(3, plain(0, 0), 1));
+    equal(&rt, next(alloc, &mut net), (0, NOTHING));
+    equal(&rt, at(alloc, &mut net, 3, UP), 0);
+    equal(&rt, next(alloc, &mut net), (0, GIVEN));
     equal(&rt, rests(alloc, &mut net), (0, 0));
     equal(&rt, until(alloc, &mut net, 17), (0, 3, 10));
-    equal(&rt, next(alloc, &mut net), event(18, plain(4, 0), 0));
+    equal(&rt, next(alloc, &mut net), (0, DUE));
     equal(&rt, to_rest(alloc, &mut net), (0, 6, 50));
     equal(&rt, rests(alloc, &mut net), (0, 1));
-    equal(&rt, look_up(alloc, &mut net, 1), row(1, 0, 1));
+    equal(&rt, look_up(alloc, &mut net, 1), VIA);
     tuhvondi_network_free(alloc, &mut net);
     equal(&rt, until(alloc, &mut net, 60), (7, 9, 9));
-    equal(&rt, at(alloc, &mut net, 60, plain(0, 0)), 7);
+    equal(&rt, at(alloc, &mut net, 60, UP), 7);
 }
 
 // A change of which a fault is told is not taken. One whose step is refused stays the first, until it is
@@ -143,16 +153,21 @@ fn refused_changes(rt: HostRuntime) {
     let alloc = rt.alloc();
     let mut net = opened(alloc, 0);
     for (kind, status) in [(4, 6), (8, 6), (2, 5)] {
-        equal(&rt, at(alloc, &mut net, 3, plain(kind, 0)), status);
+        equal(
+            &rt,
+            at(alloc, &mut net, 3, StepParts { kind, ..UP }),
+            status,
+        );
     }
     for moment in [3, 4] {
-        equal(&rt, at(alloc, &mut net, moment, plain(0, 0)), 0);
+        equal(&rt, at(alloc, &mut net, moment, UP), 0);
     }
     equal(&rt, to_rest(alloc, &mut net), (13, 1, 3));
-    equal(&rt, at(alloc, &mut net, 2, plain(1, 0)), 51);
-    equal(&rt, withdrawn(alloc, &mut net), event(4, plain(0, 0), 1));
+    equal(&rt, at(alloc, &mut net, 2, StepParts { kind: 1, ..UP }), 51);
+    let later = EventParts { moment: 4, ..GIVEN };
+    equal(&rt, withdrawn(alloc, &mut net), (0, later));
     equal(&rt, to_rest(alloc, &mut net), (0, 8, 50));
-    equal(&rt, withdrawn(alloc, &mut net), event(0, plain(255, 0), 0));
+    equal(&rt, withdrawn(alloc, &mut net), (0, NOTHING));
 }
 
 // As many delays are asked for as there are links, and what is on its way for ever does not come.
@@ -169,14 +184,14 @@ fn delays_that_are_missing_or_endless(rt: HostRuntime) {
         to_b: 1,
     }];
     equal(&rt, open(alloc, &endless, 0, &mut net), (0, NOWHERE));
-    equal(&rt, at(alloc, &mut net, 7, plain(0, 0)), 0);
+    equal(&rt, at(alloc, &mut net, 7, UP), 0);
     equal(&rt, to_rest(alloc, &mut net), (52, 2, 8));
 }
 
 // The status of a call by steps, and how many were done.
 fn by_steps(alloc: Global, network: &mut NetworkHandle) -> [(u32, usize); 2] {
     let (mut ran, mut turns) = (9, 9);
-    let status = tuhvondi_network_run(alloc, network, &[plain(0, 0)], &mut ran);
+    let status = tuhvondi_network_run(alloc, network, &[UP], &mut ran);
     let settled = tuhvondi_network_settle(alloc, network, 0, 1000, &mut turns);
     [(status, ran), (settled, turns)]
 }
@@ -188,14 +203,18 @@ fn steps_and_moments_do_not_mix(rt: HostRuntime) {
     let alloc = rt.alloc();
     let mut net = opened(alloc, 1);
     for (kind, status) in [(8, 6), (0, 56)] {
-        let found = tuhvondi_network_step(alloc, &mut net, &plain(kind, 0));
+        let found = tuhvondi_network_step(alloc, &mut net, &StepParts { kind, ..UP });
         equal(&rt, found, status);
     }
     equal(&rt, by_steps(alloc, &mut net), [(56, 0); 2]);
     equal(&rt, now(alloc, &mut net), (0, 0));
     let mut stepped = line(alloc);
     for (kind, status) in [(8, 6), (0, 57)] {
-        equal(&rt, at(alloc, &mut stepped, 3, plain(kind, 0)), status);
+        equal(
+            &rt,
+            at(alloc, &mut stepped, 3, StepParts { kind, ..UP }),
+            status,
+        );
     }
     equal(&rt, until(alloc, &mut stepped, 3), (57, 0, 9));
     equal(&rt, to_rest(alloc, &mut stepped), (57, 0, 9));
@@ -268,7 +287,7 @@ fn a_record_is_kept(rt: HostRuntime) {
     let mut net = opened(alloc, 1);
     let mut other = NetworkHandle::none(alloc);
     equal(&rt, cut_off(alloc, &mut net), NONE);
-    equal(&rt, at(alloc, &mut net, 3, plain(0, 0)), 0);
+    equal(&rt, at(alloc, &mut net, 3, UP), 0);
     equal(&rt, until(alloc, &mut net, 44), (0, 6, 25));
     let goes_on = spell(1, 3, u64::MAX, 0);
     equal(&rt, cut_off(alloc, &mut net), goes_on);
@@ -288,7 +307,8 @@ fn a_record_is_kept(rt: HostRuntime) {
     let gone = StepParts {
         addr: 0x0a00_0000,
         len: 8,
-        ..plain(7, 0)
+        kind: 7,
+        ..UP
     };
     equal(&rt, at(alloc, &mut net, 100, gone), 0);
     equal(&rt, until(alloc, &mut net, 120).0, 0);
@@ -298,7 +318,6 @@ fn a_record_is_kept(rt: HostRuntime) {
     equal(&rt, computing(alloc, &mut net), NONE);
     equal(&rt, computations(alloc, &mut net, 0), spell(1, 117, 159, 1));
     equal(&rt, computations(alloc, &mut net, 1), spell(0, 100, 184, 0));
-    tuhvondi_network_free(alloc, &mut net);
 }
 
 fn all_told(alloc: Global, mut network: NetworkHandle) -> [Told; 4] {

@@ -17,56 +17,32 @@
 //! The words: a *handle* is a pointer to a router in a box, and a flag if there is one. A *status* is 0, or
 //! the number of the fault for which a call is refused (`c_interface`).
 //!
-//! What always holds: the tests have an order (`tell_fault` and `IsTold` in `specs/Calls.antt`). Faults of
+//! What always holds: the tests have an order (`tell_fault` and `IsTold` in `single_router/specs/Calls.antt`). Faults of
 //! the numbers come first, then an empty handle, then the router's own, and want of memory last. If a call is
 //! done, the router is the network's after that input, by the very definitions that `single_router` cites. If
 //! it is refused, the router stays as it was, and nothing is written. Only `tuhvondi_router_new` and the
 //! calls that tell the router something ask for memory.
 //!
 //! What is tricky is the pointer. Each call takes the box out of the handle, works on what is in it, and puts
-//! it back. So only three small functions touch the pointer (`src/handle.rt`), and these are proved by hand.
-//! A handle is for one call at a time. It has no lock, and may go to another thread.
+//! it back. So only three small functions touch the pointer (`single_router/src/handle.rt`), and these are
+//! proved by hand. A handle is for one call at a time. It has no lock, and may go to another thread.
 //!
 //! The proofs take for granted that C keeps the rules of the header. For example, lists are as long as a call
 //! is told, and no two arguments overlap.
 #![tactic(auto)]
 
-ghost use Rattle.std.specs.Prelude.{◌≡◌, ◌≢◌, None, Some, OnOk, OnErr, IfErr, IfOk, IfSome, length, option_map};
+ghost use Rattle.std.specs.Prelude.{◌≡◌, ◌≢◌, None, Some, IfSome, length, option_map};
 ghost use Rattle.network_model.specs.Step as step;
-ghost use Rattle.c_interface.specs.{Faults.fault_number, Faults.status_by, Faults.IsStatusBy, Rows.as_prefix};
-ghost use Rattle.single_router.specs.{Frames.frame_of, Bounded.bounded_make_fault, Bounded.bounded_router, Bounded.with_router, Publishing.publish_fault, Publishing.router_given, Publishing.room_fault, States.router_counts, States.flag, States.shown_state};
+ghost use Rattle.c_interface.specs.{Faults.status_by, Faults.IsStatusBy, Rows.as_prefix};
+ghost use Rattle.single_router.specs.{Frames.frame_of, Bounded.bounded_make_fault, Bounded.bounded_router, Bounded.with_router, Publishing.publish_fault, Publishing.router_given, Publishing.room_fault, States.router_counts, States.shown_state};
 ghost use Rattle.single_router.specs.Inputs as inputs;
 ghost use Rattle.router_core.specs.Alone.{router_forgetting};
-ghost use Rattle.router_ffi.specs.Handles.{handle_router};
-ghost use Rattle.router_ffi.specs.Calls.{IsStatusOnlyBy, ReadNeedsMemory, held_fault, tell_fault, told, release_fault, state_fault, forget_call_fault, IsTold, IsPublished, AreChosenListed};
+ghost use Rattle.single_router.specs.Handles.{handle_router};
+ghost use Rattle.single_router.specs.Calls.{held_fault, release_fault, state_fault, forget_call_fault, IsTold, IsPublished, AreChosenListed};
 
 use c_interface::{CallFault, Row, read_prefix, status};
-use single_router::{Attachment, Counts, Frame, Input, Published, SingleRouter, State};
+use single_router::{Attachment, Counts, Frame, Input, RouterHandle, State};
 use std::alloc::Global;
-
-mod handle;
-
-use handle::RouterHandle;
-
-// Makes a router and puts it into a handle.
-fn make(
-    alloc: Global,
-    costs: &[u32],
-    attachments: &[Attachment],
-    most_prefixes: usize,
-    router: &mut RouterHandle,
-) -> Result<(), CallFault>
-    ensures ok { OnOk result (IsStatusBy (bounded_make_fault most_prefixes costs.now attachments.now) 0) }
-    ensures made { OnOk result (handle_router router.new
-        ≡ Some (bounded_router most_prefixes costs.now attachments.now)) }
-    ensures unchanged { OnErr result (handle_router router.new ≡ handle_router router.old) }
-    ensures err { IfErr result (λ f.
-        IsStatusBy (bounded_make_fault most_prefixes costs.now attachments.now) (fault_number f)) }
-{
-    let made = SingleRouter::new(alloc, costs, attachments, most_prefixes)?;
-    router.put(Box::new(alloc, made)?);
-    Ok(())
-}
 
 /// Makes a router with a port for each of these costs and with these attachments, which may know so many
 /// prefixes, and puts it into the handle; the router that the handle held is freed.
@@ -83,36 +59,14 @@ pub extern "C" fn tuhvondi_router_new(
         ≡ Some (bounded_router most_prefixes costs.now attachments.now) }
     ensures refused { result ≢ 0 → handle_router router.new ≡ handle_router router.old }
 {
-    status(make(alloc, costs, attachments, most_prefixes, router))
-}
-
-fn tell(
-    alloc: Global,
-    router: &mut RouterHandle,
-    read: Result<Input, CallFault>,
-) -> Result<(), CallFault>
-    ensures ok { OnOk result (IsStatusOnlyBy (tell_fault read (handle_router router.old))
-        (ReadNeedsMemory read (handle_router router.old)) 0) }
-    ensures told { OnOk result (handle_router router.new
-        ≡ told read (handle_router router.old)) }
-    ensures unchanged { OnErr result (handle_router router.new ≡ handle_router router.old) }
-    ensures err { IfErr result (λ f. IsStatusOnlyBy (tell_fault read (handle_router router.old))
-        (ReadNeedsMemory read (handle_router router.old)) (fault_number f)) }
-{
-    let input = read?;
-    let Some(mut held) = router.take(alloc) else {
-        return Err(CallFault::Empty);
-    };
-    let outcome = held.tell(&input);
-    router.put(held);
-    outcome
+    status(router.make(alloc, costs, attachments, most_prefixes))
 }
 
 // The status of telling the router of a handle what was read.
 fn answer(alloc: Global, router: &mut RouterHandle, read: Result<Input, CallFault>) -> u32
     ensures { IsTold read (handle_router router.old) (handle_router router.new) result }
 {
-    status(tell(alloc, router, read))
+    status(router.tell(alloc, read))
 }
 
 /// The link of the port came up, in a later session than the last, at this cost from here.
@@ -220,33 +174,6 @@ pub extern "C" fn tuhvondi_router_counts(
     0
 }
 
-// Publishes the router of a handle: what it gave, and how often it has published.
-fn publish(
-    alloc: Global,
-    router: &mut RouterHandle,
-    rows: &mut [Row],
-) -> Result<(Published, u64), CallFault>
-    ensures ok { IfOk result (λ _. status_by (held_fault
-        (λ b. publish_fault (length rows.old) b.router) (handle_router router.old)) ≡ 0) }
-    ensures rows { IfOk result (λ p. IfSome (handle_router router.old) (λ b. IsPublished
-        b.router rows.old rows.new (p.0).count (flag (p.0).more) p.1)) }
-    ensures published { OnOk result (handle_router router.new ≡ option_map
-        (with_router (router_given (length rows.old))) (handle_router router.old)) }
-    ensures unchanged { OnErr result ((handle_router router.new ≡ handle_router router.old)
-        × (rows.new ≡ rows.old)) }
-    ensures err { IfErr result (λ f. status_by (held_fault
-        (λ b. publish_fault (length rows.old) b.router) (handle_router router.old))
-        ≡ fault_number f) }
-{
-    let Some(mut held) = router.take(alloc) else {
-        return Err(CallFault::Empty);
-    };
-    let outcome = held.publish(rows);
-    let generation = held.generation();
-    router.put(held);
-    Ok((outcome?, generation))
-}
-
 /// Publishes: writes the rows that are in force from now on and were not, how many they are, whether there
 /// are more, for which there was no room (1, else 0), and how often the router has published. It takes no
 /// memory.
@@ -269,7 +196,7 @@ pub extern "C" fn tuhvondi_router_publish(
     ensures nothing { result ≢ 0 → (rows.new ≡ rows.old) × ((written.new ≡ written.old)
         × ((more.new ≡ more.old) × (generation.new ≡ generation.old))) }
 {
-    match publish(alloc, router, rows) {
+    match router.publish(alloc, rows) {
         Ok((published, number)) => {
             *written = published.count;
             *more = u8::from(published.more);

@@ -1,6 +1,5 @@
 //! The calls, as C makes them.
 
-use crate::handle::RouterHandle;
 use crate::{
     tuhvondi_router_attached, tuhvondi_router_counts, tuhvondi_router_detached,
     tuhvondi_router_forget, tuhvondi_router_free, tuhvondi_router_link_cost,
@@ -9,23 +8,49 @@ use crate::{
     tuhvondi_router_state,
 };
 use c_interface::{CallFault, Row};
-use single_router::{Attachment, Counts, Frame, State};
+use single_router::{Attachment, Counts, Frame, RouterHandle, State};
 use std::alloc::Global;
-use std::fmt::Debug;
 use std::process::Abort;
 use std::test::Fail;
-
-// What was found is what was wanted. An `assert_eq!` that is written out costs the gate three seconds, and a call of this
-// function less than one, because it is proved once.
-pub(crate) fn equal<T: PartialEq + Debug + Drop>(rt: &impl Abort, found: T, wanted: T) {
-    assert_eq!(rt; found, wanted);
-}
 
 const UPDATE: u8 = 0;
 
 const QUERY: u8 = 1;
 
 const REPLY: u8 = 2;
+
+// A call. A message is about 10.0.0.0/8, of the first session of its port, and has a kind, a port and a value. The calls
+// that name no prefix are about 10.0.0.0/8, too.
+#[derive(Clone, Copy)]
+enum Call {
+    Open(&'static [u32], &'static [Attachment], usize),
+    Up(u8, u16, u32),
+    Down(u8),
+    Cost(u8, u32),
+    Message(u8, u8, u32),
+    Attached(u32, u8, u32),
+    Detached,
+    Forget,
+    Publish(usize),
+    Release,
+    State,
+    Rows(usize),
+    Counts,
+    Free,
+}
+
+// The status of a call, or what it wrote: for rows the first, how many these are, whether there are more, and the number
+// of the publication; for counts the prefixes that the router knows, and how many rows it has to publish.
+#[derive(Clone, Copy, PartialEq)]
+enum Answer {
+    Status(u32),
+    Rows(Row, usize, u8, u64),
+    Sent(Frame),
+    State(State),
+    Counts(usize, usize),
+}
+
+const DONE: Answer = Answer::Status(0);
 
 const NO_ROW: Row = Row {
     addr: 0,
@@ -35,43 +60,52 @@ const NO_ROW: Row = Row {
     session: 0,
 };
 
-const NO_FRAME: Frame = Frame {
-    addr: 0,
-    value: 0,
-    session: 0,
-    len: 0,
+// 10.0.0.0/8 by port 0 in its first session.
+const VIA: Row = Row {
+    addr: 0x0a00_0000,
+    len: 8,
+    kind: 1,
+    port: 0,
+    session: 1,
+};
+
+const LOCAL: Row = Row {
     kind: 0,
+    session: 0,
+    ..VIA
+};
+
+const UNREACHABLE: Row = Row { kind: 2, ..LOCAL };
+
+// An update and a query, as a router sends them that has a way of 12 and then one of 105.
+const TOLD: Frame = Frame {
+    addr: 0x0a00_0000,
+    value: 12,
+    session: 1,
+    len: 8,
+    kind: UPDATE,
     port: 0,
 };
 
-// 10.0.0.0/8 by a port in its first session.
-fn via(port: u8) -> Row {
-    Row {
-        addr: 0x0a00_0000,
-        len: 8,
-        kind: 1,
-        port,
-        session: 1,
-    }
-}
+const ASKED: Frame = Frame {
+    value: 105,
+    kind: QUERY,
+    ..TOLD
+};
 
-// A message about 10.0.0.0/8, of the first session of a port.
-fn frame(kind: u8, port: u8, value: u32) -> Frame {
-    Frame {
-        addr: 0x0a00_0000,
-        value,
-        session: 1,
-        len: 8,
-        kind,
-        port,
-    }
-}
+// A router that has a way of 12 by port 0, and has not published it.
+const LEARNT: State = State {
+    rd: 12,
+    fd: 12,
+    attached: 0,
+    chosen: VIA,
+    published: NO_ROW,
+    active: 0,
+    owed: 255,
+    awaited: [0; 32],
+};
 
-fn attachment(addr: u32, len: u8, cost: u32) -> Attachment {
-    Attachment { addr, cost, len }
-}
-
-fn counts(alloc: Global, router: &mut RouterHandle) -> Counts {
+fn counts(alloc: Global, router: &mut RouterHandle) -> Answer {
     let mut counts = Counts {
         prefixes: 0,
         changed: 0,
@@ -80,385 +114,305 @@ fn counts(alloc: Global, router: &mut RouterHandle) -> Counts {
         generation: 0,
         due: 0,
     };
-    tuhvondi_router_counts(alloc, router, &mut counts);
-    counts
+    match tuhvondi_router_counts(alloc, router, &mut counts) {
+        0 => Answer::Counts(counts.prefixes, counts.changed),
+        fault => Answer::Status(fault),
+    }
 }
 
-fn release(alloc: Global, router: &mut RouterHandle) -> Result<Frame, u32> {
-    let mut message = NO_FRAME;
+fn release(alloc: Global, router: &mut RouterHandle) -> Answer {
+    let mut message = ASKED;
     match tuhvondi_router_release(alloc, router, &mut message) {
-        0 => Ok(message),
-        fault => Err(fault),
+        0 => Answer::Sent(message),
+        fault => Answer::Status(fault),
     }
 }
 
-// What the router knows of 10.0.0.0/8.
-fn state(alloc: Global, router: &mut RouterHandle) -> Result<State, u32> {
-    let mut state = State {
-        rd: 0,
-        fd: 0,
-        attached: 0,
-        chosen: NO_ROW,
-        published: NO_ROW,
-        active: 0,
-        owed: 0,
-        awaited: [0; 32],
-    };
+fn state(alloc: Global, router: &mut RouterHandle) -> Answer {
+    let mut state = LEARNT;
     match tuhvondi_router_state(alloc, router, 0x0a00_0000, 8, &mut state) {
-        0 => Ok(state),
-        fault => Err(fault),
+        0 => Answer::State(state),
+        fault => Answer::Status(fault),
     }
 }
 
-// How many rows a publication gives, the first of them, and its number; or the number of a fault.
-fn publish(alloc: Global, router: &mut RouterHandle) -> Result<(usize, Row, u64), u32> {
+// A publication with room for so many rows, at most two.
+fn publish(alloc: Global, router: &mut RouterHandle, room: usize) -> Answer {
     let mut rows = [NO_ROW; 2];
-    let mut written = 9;
-    let mut more = 9;
-    let mut generation = 9;
-    match tuhvondi_router_publish(
-        alloc,
-        router,
-        &mut rows,
-        &mut written,
-        &mut more,
-        &mut generation,
-    ) {
-        0 => Ok((written, rows[0], generation)),
-        fault => Err(fault),
+    let (mut count, mut more, mut number) = (9, 9, 9);
+    let list = &mut rows[..room.min(2)];
+    match tuhvondi_router_publish(alloc, router, list, &mut count, &mut more, &mut number) {
+        0 => Answer::Rows(rows[0], count, more, number),
+        fault => Answer::Status(fault),
     }
 }
 
-// A router with one port, whose link is up, that may know so many prefixes.
-fn one_port(alloc: Global, most: usize) -> RouterHandle {
-    let mut router = RouterHandle::none(alloc);
-    tuhvondi_router_new(alloc, &[5], &[], most, &mut router);
-    tuhvondi_router_link_up(alloc, &mut router, 0, 1, 5);
-    router
+// The chosen rows, with room for so many, at most one. A refused call does not write how many there are.
+fn rows(alloc: Global, router: &mut RouterHandle, room: usize) -> Answer {
+    let (mut rows, mut count) = ([NO_ROW], 9);
+    let list = &mut rows[..room.min(1)];
+    match tuhvondi_router_rows(alloc, router, list, &mut count) {
+        0 => Answer::Rows(rows[0], count, 0, 0),
+        fault if count == 9 => Answer::Status(fault),
+        _ => DONE,
+    }
 }
 
-// The status of a message about 10.0.0.0/8 from port 0.
-fn message(alloc: Global, router: &mut RouterHandle, kind: u8, value: u32) -> u32 {
-    tuhvondi_router_message(alloc, router, &frame(kind, 0, value))
+fn message(alloc: Global, router: &mut RouterHandle, kind: u8, port: u8, value: u32) -> u32 {
+    let frame = Frame {
+        value,
+        kind,
+        port,
+        ..TOLD
+    };
+    tuhvondi_router_message(alloc, router, &frame)
 }
+
+fn answer_to(alloc: Global, it: &mut RouterHandle, call: Call) -> Answer {
+    Answer::Status(match call {
+        Call::Open(costs, ours, most) => tuhvondi_router_new(alloc, costs, ours, most, it),
+        Call::Up(port, session, cost) => tuhvondi_router_link_up(alloc, it, port, session, cost),
+        Call::Down(port) => tuhvondi_router_link_down(alloc, it, port),
+        Call::Cost(port, cost) => tuhvondi_router_link_cost(alloc, it, port, cost),
+        Call::Message(kind, port, value) => message(alloc, it, kind, port, value),
+        Call::Attached(addr, len, cost) => tuhvondi_router_attached(alloc, it, addr, len, cost),
+        Call::Detached => tuhvondi_router_detached(alloc, it, 0x0a00_0000, 8),
+        Call::Forget => tuhvondi_router_forget(alloc, it, 0x0a00_0000, 8),
+        Call::Publish(room) => return publish(alloc, it, room),
+        Call::Release => return release(alloc, it),
+        Call::State => return state(alloc, it),
+        Call::Rows(room) => return rows(alloc, it, room),
+        Call::Counts => return counts(alloc, it),
+        Call::Free => {
+            tuhvondi_router_free(alloc, it);
+            0
+        }
+    })
+}
+
+// Makes calls with one handle, each of which answers what stands beside it.
+fn make(rt: &impl Abort, alloc: Global, calls: &[(Call, Answer)]) {
+    let mut router = RouterHandle::none(alloc);
+    for (row, &(call, wanted)) in calls.iter().enumerate() {
+        let found = answer_to(alloc, &mut router, call);
+        assert!(rt; found == wanted, "row {row}");
+    }
+}
+
+const A_ROUTE: [(Call, Answer); 14] = [
+    (Call::Open(&[5, 10], &[], 4), DONE),
+    (Call::Up(0, 1, 5), DONE),
+    (Call::State, Answer::Status(28)),
+    // The neighbour at port 0 has a way of 7, so there is one of 12.
+    (Call::Message(UPDATE, 0, 7), DONE),
+    (Call::State, Answer::State(LEARNT)),
+    // Nothing leaves before the publication.
+    (Call::Release, Answer::Status(18)),
+    (Call::Publish(2), Answer::Rows(VIA, 1, 0, 1)),
+    (Call::Release, Answer::Sent(TOLD)),
+    (Call::Release, Answer::Status(18)),
+    (Call::Publish(2), Answer::Status(17)),
+    (Call::Rows(1), Answer::Rows(VIA, 1, 0, 0)),
+    (Call::Free, DONE),
+    (Call::State, Answer::Status(7)),
+    (Call::Free, DONE),
+];
 
 #[test]
 fn a_route_is_learnt_published_and_told(rt: HostRuntime) {
-    let alloc = rt.alloc();
-    let mut router = RouterHandle::none(alloc);
-    equal(
-        &rt,
-        tuhvondi_router_new(alloc, &[5, 10], &[], 4, &mut router),
-        0,
-    );
-    equal(&rt, tuhvondi_router_link_up(alloc, &mut router, 0, 1, 5), 0);
-    equal(&rt, state(alloc, &mut router), Err(28));
-    // The neighbour at port 0 has a way of 7, so there is one of 12.
-    equal(
-        &rt,
-        tuhvondi_router_message(alloc, &mut router, &frame(UPDATE, 0, 7)),
-        0,
-    );
-    let shown = state(alloc, &mut router);
-    equal(
-        &rt,
-        shown.is_ok_and(|s| s.rd == 12 && s.fd == 12 && s.active == 0 && s.owed == 255),
-        true,
-    );
-    equal(
-        &rt,
-        shown.is_ok_and(|s| s.chosen == via(0) && s.published == NO_ROW),
-        true,
-    );
-    // Nothing leaves before the publication.
-    equal(&rt, release(alloc, &mut router), Err(18));
-    equal(&rt, publish(alloc, &mut router), Ok((1, via(0), 1)));
-    equal(&rt, release(alloc, &mut router), Ok(frame(UPDATE, 0, 12)));
-    equal(&rt, release(alloc, &mut router), Err(18));
-    equal(&rt, publish(alloc, &mut router), Err(17));
-    let mut rows = [NO_ROW; 1];
-    let mut written = 9;
-    equal(
-        &rt,
-        tuhvondi_router_rows(alloc, &mut router, &mut rows, &mut written),
-        0,
-    );
-    equal(&rt, written == 1 && rows[0] == via(0), true);
-    tuhvondi_router_free(alloc, &mut router);
-    equal(&rt, state(alloc, &mut router), Err(7));
+    make(&rt, rt.alloc(), &A_ROUTE);
 }
+
+// 100 is not below the feasible distance 12, so the router asks its only neighbour.
+const ACTIVE: State = State {
+    rd: 105,
+    active: 1,
+    awaited: [
+        1, 0, 0, 0, 0, 0, 0, 0, 0, 0, 0, 0, 0, 0, 0, 0, 0, 0, 0, 0, 0, 0, 0, 0, 0, 0, 0, 0, 0, 0,
+        0, 0,
+    ],
+    ..LEARNT
+};
+
+const PASSIVE: State = State {
+    rd: 105,
+    fd: 105,
+    published: VIA,
+    ..LEARNT
+};
+
+const CUT_OFF: State = State {
+    rd: u32::MAX,
+    fd: u32::MAX,
+    chosen: UNREACHABLE,
+    ..PASSIVE
+};
+
+const A_QUERY: [(Call, Answer); 13] = [
+    (Call::Open(&[5, 10], &[], 4), DONE),
+    (Call::Up(0, 1, 5), DONE),
+    (Call::Message(UPDATE, 0, 7), DONE),
+    (Call::Message(UPDATE, 0, 100), DONE),
+    (Call::State, Answer::State(ACTIVE)),
+    (Call::Publish(2), Answer::Rows(VIA, 1, 0, 1)),
+    (Call::Release, Answer::Sent(TOLD)),
+    (Call::Release, Answer::Sent(ASKED)),
+    (Call::Message(REPLY, 0, 100), DONE),
+    (Call::State, Answer::State(PASSIVE)),
+    // The link goes down, and with it the only way.
+    (Call::Cost(0, 6), DONE),
+    (Call::Down(0), DONE),
+    (Call::State, Answer::State(CUT_OFF)),
+];
 
 #[test]
 fn a_router_asks_where_no_neighbour_is_feasible(rt: HostRuntime) {
-    let alloc = rt.alloc();
-    let mut router = RouterHandle::none(alloc);
-    equal(
-        &rt,
-        tuhvondi_router_new(alloc, &[5, 10], &[], 4, &mut router),
-        0,
-    );
-    equal(&rt, tuhvondi_router_link_up(alloc, &mut router, 0, 1, 5), 0);
-    equal(
-        &rt,
-        tuhvondi_router_message(alloc, &mut router, &frame(UPDATE, 0, 7)),
-        0,
-    );
-    // 100 is not below the feasible distance 12: the router asks its only neighbour.
-    equal(
-        &rt,
-        tuhvondi_router_message(alloc, &mut router, &frame(UPDATE, 0, 100)),
-        0,
-    );
-    let shown = state(alloc, &mut router);
-    equal(
-        &rt,
-        shown.is_ok_and(|s| s.active == 1 && s.awaited[0] == 1 && s.awaited[1] == 0),
-        true,
-    );
-    equal(&rt, publish(alloc, &mut router).is_ok(), true);
-    equal(&rt, release(alloc, &mut router), Ok(frame(UPDATE, 0, 12)));
-    equal(&rt, release(alloc, &mut router), Ok(frame(QUERY, 0, 105)));
-    equal(
-        &rt,
-        tuhvondi_router_message(alloc, &mut router, &frame(REPLY, 0, 100)),
-        0,
-    );
-    let shown = state(alloc, &mut router);
-    equal(
-        &rt,
-        shown.is_ok_and(|s| s.active == 0 && s.rd == 105 && s.fd == 105),
-        true,
-    );
-    // The link goes down, and with it the only way.
-    equal(&rt, tuhvondi_router_link_cost(alloc, &mut router, 0, 6), 0);
-    equal(&rt, tuhvondi_router_link_down(alloc, &mut router, 0), 0);
-    let shown = state(alloc, &mut router);
-    equal(
-        &rt,
-        shown.is_ok_and(|s| s.rd == u32::MAX && s.chosen.kind == 2),
-        true,
-    );
+    make(&rt, rt.alloc(), &A_QUERY);
 }
+
+const LAST: Row = Row {
+    addr: 0xc000_0200,
+    len: 24,
+    ..LOCAL
+};
+
+const LAST_TOLD: Frame = Frame {
+    addr: 0xc000_0200,
+    value: 1,
+    len: 24,
+    ..TOLD
+};
+
+const ONE_BY_ONE: [(Call, Answer); 9] = [
+    (Call::Open(&[5], &[], 4), DONE),
+    (Call::Up(0, 1, 5), DONE),
+    (Call::Attached(0xc000_0200, 24, 1), DONE),
+    (Call::Attached(0x0a00_0000, 8, 1), DONE),
+    (Call::Publish(1), Answer::Rows(LOCAL, 1, 1, 0)),
+    // The first row is in force, and nothing may leave before the second is.
+    (Call::Counts, Answer::Counts(2, 1)),
+    (Call::Release, Answer::Status(18)),
+    (Call::Publish(2), Answer::Rows(LAST, 1, 0, 1)),
+    (Call::Release, Answer::Sent(LAST_TOLD)),
+];
 
 #[test]
 fn rows_are_published_as_many_as_there_is_room_for(rt: HostRuntime) {
-    let alloc = rt.alloc();
-    let mut router = one_port(alloc, 4);
-    tuhvondi_router_attached(alloc, &mut router, 0xc000_0200, 24, 1);
-    tuhvondi_router_attached(alloc, &mut router, 0x0a00_0000, 8, 1);
-    let mut rows = [NO_ROW; 1];
-    let mut written = 9;
-    let mut more = 9;
-    let mut generation = 9;
-    let first = tuhvondi_router_publish(
-        alloc,
-        &mut router,
-        &mut rows,
-        &mut written,
-        &mut more,
-        &mut generation,
-    );
-    equal(
-        &rt,
-        first == 0 && written == 1 && more == 1 && generation == 0,
-        true,
-    );
-    equal(&rt, rows[0].addr, 0x0a00_0000);
-    // The first row is in force, and nothing may leave before the second is.
-    equal(&rt, counts(alloc, &mut router).changed, 1);
-    equal(&rt, release(alloc, &mut router), Err(18));
-    let second = publish(alloc, &mut router);
-    equal(
-        &rt,
-        second.is_ok_and(|p| p.0 == 1 && p.1.addr == 0xc000_0200 && p.2 == 1),
-        true,
-    );
-    equal(&rt, release(alloc, &mut router).is_ok(), true);
+    make(&rt, rt.alloc(), &ONE_BY_ONE);
 }
+
+// The neighbour has no way any more, and answers so. It asks nothing twice, and answers once. Since there is room for one
+// prefix, there is some for another once it is forgotten.
+const FORGOTTEN: [(Call, Answer); 15] = [
+    (Call::Open(&[5], &[], 1), DONE),
+    (Call::Up(0, 1, 5), DONE),
+    (Call::Message(UPDATE, 0, 7), DONE),
+    (Call::Publish(2), Answer::Rows(VIA, 1, 0, 1)),
+    (Call::Forget, Answer::Status(44)),
+    (Call::Message(QUERY, 0, u32::MAX), DONE),
+    (Call::Message(QUERY, 0, u32::MAX), Answer::Status(39)),
+    (Call::Message(REPLY, 0, u32::MAX), DONE),
+    (Call::Message(REPLY, 0, u32::MAX), Answer::Status(38)),
+    (Call::Forget, Answer::Status(44)),
+    (Call::Publish(2), Answer::Rows(UNREACHABLE, 1, 0, 2)),
+    (Call::Attached(0, 0, 1), Answer::Status(27)),
+    (Call::Forget, DONE),
+    (Call::Forget, Answer::Status(28)),
+    (Call::Attached(0, 0, 1), DONE),
+];
 
 #[test]
 fn a_prefix_of_which_nothing_is_known_is_forgotten(rt: HostRuntime) {
-    let alloc = rt.alloc();
-    let mut router = one_port(alloc, 1);
-    equal(&rt, message(alloc, &mut router, UPDATE, 7), 0);
-    equal(&rt, publish(alloc, &mut router).is_ok(), true);
-    equal(
-        &rt,
-        tuhvondi_router_forget(alloc, &mut router, 0x0a00_0000, 8),
-        44,
-    );
-    // The neighbour has no way any more, and answers so. It asks nothing twice, and answers once.
-    equal(&rt, message(alloc, &mut router, QUERY, u32::MAX), 0);
-    equal(&rt, message(alloc, &mut router, QUERY, u32::MAX), 39);
-    equal(&rt, message(alloc, &mut router, REPLY, u32::MAX), 0);
-    equal(&rt, message(alloc, &mut router, REPLY, u32::MAX), 38);
-    equal(
-        &rt,
-        tuhvondi_router_forget(alloc, &mut router, 0x0a00_0000, 8),
-        44,
-    );
-    equal(&rt, publish(alloc, &mut router).is_ok(), true);
-    // There is room for one prefix: for another once it is forgotten.
-    equal(
-        &rt,
-        tuhvondi_router_attached(alloc, &mut router, 0, 0, 1),
-        27,
-    );
-    equal(
-        &rt,
-        tuhvondi_router_forget(alloc, &mut router, 0x0a00_0000, 8),
-        0,
-    );
-    equal(
-        &rt,
-        tuhvondi_router_forget(alloc, &mut router, 0x0a00_0000, 8),
-        28,
-    );
-    equal(
-        &rt,
-        tuhvondi_router_attached(alloc, &mut router, 0, 0, 1),
-        0,
-    );
+    make(&rt, rt.alloc(), &FORGOTTEN);
 }
+
+const OURS: [Attachment; 1] = [Attachment {
+    addr: 0x0a00_0000,
+    cost: 3,
+    len: 8,
+}];
+
+const ATTACHED: State = State {
+    rd: 3,
+    fd: 3,
+    attached: 3,
+    chosen: LOCAL,
+    published: LOCAL,
+    ..LEARNT
+};
+
+const NEARER: State = State {
+    rd: 2,
+    fd: 2,
+    attached: 2,
+    ..ATTACHED
+};
+
+const DETACHED: State = State {
+    rd: u32::MAX,
+    fd: u32::MAX,
+    attached: 0,
+    chosen: UNREACHABLE,
+    ..ATTACHED
+};
+
+// It is attached at another cost, then no more, then again.
+const AN_ATTACHMENT: [(Call, Answer); 10] = [
+    (Call::Open(&[5], &OURS, 4), DONE),
+    (Call::State, Answer::State(ATTACHED)),
+    (Call::Publish(2), Answer::Status(17)),
+    (Call::Attached(0x0a00_0000, 8, 2), DONE),
+    (Call::State, Answer::State(NEARER)),
+    (Call::Detached, DONE),
+    (Call::State, Answer::State(DETACHED)),
+    (Call::Detached, Answer::Status(29)),
+    (Call::Attached(0x0a00_0000, 8, 4), DONE),
+    (Call::Counts, Answer::Counts(1, 0)),
+];
 
 #[test]
 fn an_attachment_is_published_from_the_opening_on(rt: HostRuntime) {
-    let alloc = rt.alloc();
-    let mut router = RouterHandle::none(alloc);
-    let ours = [attachment(0x0a00_0000, 8, 3)];
-    equal(
-        &rt,
-        tuhvondi_router_new(alloc, &[5], &ours, 4, &mut router),
-        0,
-    );
-    let shown = state(alloc, &mut router);
-    equal(
-        &rt,
-        shown.is_ok_and(|s| s.attached == 3 && s.rd == 3 && s.published.kind == 0),
-        true,
-    );
-    equal(&rt, publish(alloc, &mut router), Err(17));
-    // At another cost, then no more, then again.
-    equal(
-        &rt,
-        tuhvondi_router_attached(alloc, &mut router, 0x0a00_0000, 8, 2),
-        0,
-    );
-    equal(
-        &rt,
-        state(alloc, &mut router).is_ok_and(|s| s.attached == 2 && s.rd == 2),
-        true,
-    );
-    equal(
-        &rt,
-        tuhvondi_router_detached(alloc, &mut router, 0x0a00_0000, 8),
-        0,
-    );
-    equal(
-        &rt,
-        state(alloc, &mut router).is_ok_and(|s| s.attached == 0 && s.chosen.kind == 2),
-        true,
-    );
-    equal(
-        &rt,
-        tuhvondi_router_detached(alloc, &mut router, 0x0a00_0000, 8),
-        29,
-    );
-    equal(
-        &rt,
-        tuhvondi_router_attached(alloc, &mut router, 0x0a00_0000, 8, 4),
-        0,
-    );
-    equal(&rt, counts(alloc, &mut router).prefixes, 1);
+    make(&rt, rt.alloc(), &AN_ATTACHMENT);
 }
+
+const BAD: Attachment = Attachment {
+    addr: 1,
+    cost: 0,
+    len: 33,
+};
+
+const HOST_BITS: Attachment = Attachment {
+    addr: 1,
+    cost: 1,
+    len: 8,
+};
+
+const FAULTS: [(Call, Answer); 21] = [
+    (Call::Open(&[1; 33], &[BAD], 4), Answer::Status(26)),
+    (Call::Open(&[1, 0, 70000], &[BAD], 4), Answer::Status(5)),
+    (Call::Open(&[1], &[BAD, HOST_BITS], 4), Answer::Status(3)),
+    (Call::Open(&[1], &[HOST_BITS], 4), Answer::Status(4)),
+    (Call::Down(0), Answer::Status(7)),
+    (Call::Release, Answer::Status(7)),
+    (Call::Publish(2), Answer::Status(7)),
+    (Call::Open(&[1, 1], &[], 4), DONE),
+    (Call::Up(2, 1, 0), Answer::Status(5)),
+    (Call::Up(2, 1, 1), Answer::Status(11)),
+    (Call::Up(0, 0, 1), Answer::Status(36)),
+    (Call::Down(0), Answer::Status(14)),
+    (Call::Message(UPDATE, 0, 1), Answer::Status(14)),
+    (Call::Up(0, 2, 1), DONE),
+    (Call::Up(0, 3, 1), Answer::Status(13)),
+    (Call::Message(UPDATE, 0, 1), Answer::Status(36)),
+    (Call::Message(3, 0, 1), Answer::Status(6)),
+    (Call::Attached(0x0a00_0000, 8, 0), Answer::Status(5)),
+    (Call::Attached(0x0a00_0000, 8, 1), DONE),
+    (Call::Rows(0), Answer::Status(8)),
+    (Call::Open(&[1], &OURS, 0), Answer::Status(27)),
+];
 
 #[test]
 fn each_fault_has_its_number(rt: HostRuntime) {
-    let alloc = rt.alloc();
-    let mut router = RouterHandle::none(alloc);
-    let bad = [attachment(0x0a00_0000, 33, 0), attachment(1, 8, 1)];
-    equal(
-        &rt,
-        tuhvondi_router_new(alloc, &[1; 33], &bad, 4, &mut router),
-        26,
-    );
-    equal(
-        &rt,
-        tuhvondi_router_new(alloc, &[1, 0, 70000], &bad, 4, &mut router),
-        5,
-    );
-    equal(
-        &rt,
-        tuhvondi_router_new(alloc, &[1], &bad, 4, &mut router),
-        3,
-    );
-    equal(
-        &rt,
-        tuhvondi_router_new(alloc, &[1], &bad[1..], 4, &mut router),
-        4,
-    );
-    equal(&rt, tuhvondi_router_link_down(alloc, &mut router, 0), 7);
-    equal(&rt, release(alloc, &mut router), Err(7));
-    equal(&rt, publish(alloc, &mut router), Err(7));
-    equal(
-        &rt,
-        tuhvondi_router_new(alloc, &[1, 1], &[], 4, &mut router),
-        0,
-    );
-    equal(&rt, tuhvondi_router_link_up(alloc, &mut router, 2, 1, 0), 5);
-    equal(
-        &rt,
-        tuhvondi_router_link_up(alloc, &mut router, 2, 1, 1),
-        11,
-    );
-    equal(
-        &rt,
-        tuhvondi_router_link_up(alloc, &mut router, 0, 0, 1),
-        36,
-    );
-    equal(&rt, tuhvondi_router_link_down(alloc, &mut router, 0), 14);
-    equal(
-        &rt,
-        tuhvondi_router_message(alloc, &mut router, &frame(UPDATE, 0, 1)),
-        14,
-    );
-    equal(&rt, tuhvondi_router_link_up(alloc, &mut router, 0, 2, 1), 0);
-    equal(
-        &rt,
-        tuhvondi_router_link_up(alloc, &mut router, 0, 3, 1),
-        13,
-    );
-    equal(
-        &rt,
-        tuhvondi_router_message(alloc, &mut router, &frame(UPDATE, 0, 1)),
-        36,
-    );
-    equal(
-        &rt,
-        tuhvondi_router_message(alloc, &mut router, &frame(3, 0, 1)),
-        6,
-    );
-    equal(
-        &rt,
-        tuhvondi_router_attached(alloc, &mut router, 0x0a00_0000, 8, 0),
-        5,
-    );
-    equal(
-        &rt,
-        tuhvondi_router_attached(alloc, &mut router, 0x0a00_0000, 8, 1),
-        0,
-    );
-    let mut written = 9;
-    equal(
-        &rt,
-        tuhvondi_router_rows(alloc, &mut router, &mut [], &mut written),
-        8,
-    );
-    equal(&rt, written, 9);
-    equal(
-        &rt,
-        tuhvondi_router_new(alloc, &[1], &[attachment(0, 0, 1)], 0, &mut router),
-        27,
-    );
-    equal(&rt, CallFault::GenerationsSpent.number(), 37);
+    make(&rt, rt.alloc(), &FAULTS);
+    assert!(&rt; CallFault::GenerationsSpent.number() == 37);
 }

@@ -7,7 +7,8 @@
 //! A program hands a [`SingleRouter`] what its links bring, an [`Input`] each, which is a link that comes up
 //! or goes down, a cost, a message, or an attachment. It publishes when that is due, and puts the messages on
 //! their links that the router then releases. All comes and goes as numbers, as a program in C has them, of
-//! which each is tested, and what is refused changes nothing.
+//! which each is tested, and what is refused changes nothing. Such a program has it behind a handle
+//! ([`RouterHandle`]), of which `router_ffi` exports the calls.
 //!
 //! ```text
 //!   connection, timer ──> Input ──> tell ──> ┌────────────┐ ──> publish ──> rows ──> the program's image
@@ -43,12 +44,14 @@
 #![tactic(auto)]
 
 mod frame;
+mod handle;
 mod input;
 mod opening;
 mod single;
 mod state;
 
 pub use frame::Frame;
+pub use handle::RouterHandle;
 pub use input::Input;
 pub use opening::Attachment;
 pub use single::{Published, SingleRouter};

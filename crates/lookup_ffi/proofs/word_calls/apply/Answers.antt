@@ -1,5 +1,0 @@
-use Rattle.std.proofs.Common.{rules}
-use Rattle.lookup_ffi.proofs.word_calls.apply.Goals as goal
-
-pub returns-clause-patched : goal.returns-clause-patched
-returns-clause-patched c = search rules
