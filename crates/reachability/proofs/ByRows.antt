@@ -9,7 +9,7 @@ use Rattle.network_model.proofs.ListLaws.{None_not_Some, Some_injective}
 use Rattle.no_packet_loops.specs.Packets.{published_entry}
 use Rattle.quiet_routes.specs.Routes.{IsChain, SendsBy}
 use Rattle.reachability.specs.{Ways.HasWay, Marks.is_in}
-use Rattle.reachability.specs.Rounds.{AllRouted, OnlyRouted, leads_home, row_leads}
+use Rattle.reachability.specs.Rounds.{AllRouted, OnlyRouted, leads_home, next_by_row, row_leads}
 use Rattle.reachability.proofs.Marking.{holds_more}
 
 -- a Via row of router i leads out of this place, over a link that is up in the row's session, to router k
@@ -45,7 +45,7 @@ module _ (w : World) (i q session : ℕ) where
       by_place (Some x) is_place h = by_link x is_place (slice_get w.links x.link) refl h
 
 -- a row that sends by a place leads to the router across
-leads_across : (w : World) (p : Prefix) (i : ℕ) (x : Place) (h : SendsBy w p i x) → entry_leads w i (Via h.port (h.link).session) ≡ Some (side (other x.end) h.link).router
+pub leads_across : (w : World) (p : Prefix) (i : ℕ) (x : Place) (h : SendsBy w p i x) → entry_leads w i (Via h.port (h.link).session) ≡ Some (side (other x.end) h.link).router
 leads_across w p i x h =
     let session : ℕ = (h.link).session in
     ap (λ (o : Option Place). if option_map_or (is_up_in session) (option_and_then (λ y. slice_get w.links y.link) o) false then option_map (λ s. s.router) (option_and_then (λ y. option_map (side (other y.end)) (slice_get w.links y.link)) o) else None) h.is_place
@@ -60,30 +60,35 @@ row_within w i p e h = by_router (slice_get w.routers i) refl h
     by_router None at g = absurd (None_not_Some g)
     by_router (Some r) at g = slice_get_within w.routers i r at
 
+-- over the row of a router a way leads on
+pub way_on : (w : World) (p : Prefix) (i k : ℕ) → next_by_row w p i ≡ Some k → HasWay w p k → HasWay w p i
+way_on w p i k leads W = by_row (published_entry w i p) refl leads
+  where
+    by_row : (o : Option Entry) → published_entry w i p ≡ o → option_and_then (entry_leads w i) o ≡ Some k → HasWay w p i
+    by_row (Some (Via q session)) row h = (let C = crosses w i q session k h in record {
+      home = W.home;
+      chain = C.place ∷ W.chain;
+      leads = (
+        record { port = q; link = C.link; is_place = C.is_place; is_link = C.is_link; is_up = C.is_up; row = row ∙ ap (λ (m : ℕ). Some (Via q m)) (sym C.in_session) },
+        subst (λ (j : ℕ). IsChain w p j W.chain W.home) (sym C.far) W.leads,
+      );
+      cost = W.cost;
+      attached = W.attached;
+    })
+    by_row _ row h = absurd (None_not_Some h)
+
 module _ (w : World) (p : Prefix) (marks : List Bool) where
   -- from a router whose row leads home there is a way
-  way_from_row : (i : ℕ) → leads_home w p marks i ≡ true → OnlyRouted w p marks → HasWay w p i
+  pub way_from_row : (i : ℕ) → leads_home w p marks i ≡ true → OnlyRouted w p marks → HasWay w p i
   way_from_row i leads only = by_row (published_entry w i p) refl leads
     where
       at_home : published_entry w i p ≡ Some Local → (o : Option ℕ) → attachment_at w i p ≡ o → is_some o ≡ true → HasWay w p i
       at_home row None attached h = absurd (false≢true h)
       at_home row (Some cost) attached h = record { home = i; chain = []; leads = (refl, row); cost = cost; attached = attached }
 
-      over_link : (q session k : ℕ) → published_entry w i p ≡ Some (Via q session) → Crosses w i q session k → HasWay w p k → HasWay w p i
-      over_link q session k row C W = record {
-        home = W.home;
-        chain = C.place ∷ W.chain;
-        leads = (
-          record { port = q; link = C.link; is_place = C.is_place; is_link = C.is_link; is_up = C.is_up; row = row ∙ ap (λ (m : ℕ). Some (Via q m)) (sym C.in_session) },
-          subst (λ (j : ℕ). IsChain w p j W.chain W.home) (sym C.far) W.leads,
-        );
-        cost = W.cost;
-        attached = W.attached;
-      }
-
       by_far : (q session : ℕ) → published_entry w i p ≡ Some (Via q session) → (o : Option ℕ) → entry_leads w i (Via q session) ≡ o → option_map_or (is_in marks) o false ≡ true → HasWay w p i
       by_far q session row None far h = absurd (false≢true h)
-      by_far q session row (Some k) far h = over_link q session k row (crosses w i q session k far) (only k h)
+      by_far q session row (Some k) far h = way_on w p i k (ap (option_and_then (entry_leads w i)) row ∙ far) (only k h)
 
       by_row : (o : Option Entry) → published_entry w i p ≡ o → row_leads w p marks i o ≡ true → HasWay w p i
       by_row (Some Local) row h = at_home row (attachment_at w i p) refl h

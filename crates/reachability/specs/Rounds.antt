@@ -1,5 +1,5 @@
 -- What one round over the links, or over the rows, adds to the routers that are marked.
-use Rattle.std.specs.Prelude.{◌≡◌, ℕ, ◌<◌, Bool, true, false, List, Option, Some, None, is_some, slice_get, length}
+use Rattle.std.specs.Prelude.{◌≡◌, ◌≢◌, ℕ, ◌<◌, Bool, true, false, List, Option, Some, None, is_some, slice_get, length, option_and_then}
 use Rattle.std.specs.Option.{option_map_or}
 use Rattle.ipv4_prefix.specs.Prefix.{Prefix}
 use Rattle.network_model.specs.{declared.network.End.End, declared.route.Entry.Entry, declared.route.Entry.TheVariants.Local, declared.route.Entry.TheVariants.Via, declared.route.Entry.TheVariants.Unreachable, Forwarding.entry_leads}
@@ -64,3 +64,13 @@ LeavesRow w p marks i = leads_home w p marks i ≡ true → is_in marks i ≡ tr
 -- so it is of each router
 abbrev pub AllRouted : World → Prefix → List Bool → Type 0
 AllRouted w p marks = (i : ℕ) → i < length w.routers → LeavesRow w p marks i
+
+-- ---- the last of a way
+
+-- the router to which the row leads that router i published, if it leads to one
+abbrev pub next_by_row : World → Prefix → ℕ → Option ℕ
+next_by_row w p i = option_and_then (entry_leads w i) (published_entry w i p)
+
+-- rows lead home from router i, and no row leads to it
+abbrev pub IsLast : World → Prefix → ℕ → Type 0
+IsLast w p i = HasWay w p i × ((j : ℕ) → next_by_row w p j ≢ Some i)

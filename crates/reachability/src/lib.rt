@@ -39,5 +39,6 @@ mod run_worlds;
 
 pub use cut_off::CutOff;
 pub use network_model::Prefix;
+pub use rows::is_last;
 pub use run_worlds::always_joined;
 pub use world::{Network, World};

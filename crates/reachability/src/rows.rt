@@ -1,7 +1,8 @@
 //! From which routers the published rows lead to a prefix.
 
-ghost use Rattle.std.specs.Prelude.{ℕ, ◌≡◌, ◌<◌, ◌↔◌, ◌&&◌, true, false, not, length};
-ghost use Rattle.reachability.specs.{Ways.HasWay, Ways.IsJoined, Marks.is_in, Marks.unmarked, Rounds.AllRouted, Rounds.OnlyRouted, Rounds.leads_home};
+ghost use Rattle.std.specs.Prelude.{ℕ, IsTrue, Some, ◌≡◌, ◌≢◌, ◌<◌, ◌↔◌, ◌&&◌, true, false, not, length};
+ghost use Rattle.no_packet_loops.specs.Packets.{published_entry};
+ghost use Rattle.reachability.specs.{Ways.HasWay, Ways.IsJoined, Marks.is_in, Marks.unmarked, Rounds.AllRouted, Rounds.OnlyRouted, Rounds.leads_home, Rounds.next_by_row, Rounds.IsLast};
 
 use crate::marks::{clear, is_in, mark};
 use network_model::{Entry, Prefix, SmallAllocator};
@@ -45,8 +46,6 @@ fn is_added<A: SmallAllocator>(
     marks: &[bool],
     router: u16,
 ) -> bool
-    requires known { router < length (world.now).routers }
-    requires joined { IsJoined world.now }
     ensures { result ≡ (not (is_in marks.now router)
         && leads_home world.now prefix marks.now router) }
 {
@@ -61,11 +60,9 @@ fn leads_home<A: SmallAllocator>(
     marks: &[bool],
     router: u16,
 ) -> bool
-    requires known { router < length (world.now).routers }
-    requires joined { IsJoined world.now }
     ensures { result ≡ leads_home world.now prefix marks.now router }
 {
-    match world.router(router).table().published(prefix) {
+    match published(world, prefix, router) {
         Some(Entry::Local) => world.attachment(router, prefix).is_some(),
         Some(Entry::Via { port, session }) => match world.far_router(router, port, session) {
             Some(next) => is_in(marks, next),
@@ -73,4 +70,57 @@ fn leads_home<A: SmallAllocator>(
         },
         Some(Entry::Unreachable) | None => false,
     }
+}
+
+// The row that a router published.
+fn published<A: SmallAllocator>(world: &World<A>, prefix: Prefix, router: u16) -> Option<Entry>
+    ensures { result ≡ published_entry world.now router prefix }
+{
+    world
+        .routers()
+        .get(usize::from(router))?
+        .table()
+        .published(prefix)
+}
+
+// The router to which the row leads that this one published, over a link that is up in the row's session.
+fn next_by_row<A: SmallAllocator>(world: &World<A>, prefix: Prefix, router: u16) -> Option<u16>
+    ensures { result ≡ next_by_row world.now prefix router }
+{
+    match published(world, prefix, router)? {
+        Entry::Via { port, session } => world.far_router(router, port, session),
+        Entry::Local | Entry::Unreachable => None,
+    }
+}
+
+// Whether a published row leads to the router.
+fn is_met<A: SmallAllocator>(world: &World<A>, prefix: Prefix, router: u16) -> bool
+    requires { IsJoined world.now }
+    ensures { result ≡ false → (i : ℕ) → next_by_row world.now prefix i ≢ Some router }
+{
+    for place in 0..world.routers().len() {
+        if let Some(next) = next_by_row(world, prefix, place as u16)
+            && next == router
+        {
+            return true;
+        }
+    }
+    false
+}
+
+/// Whether no published row leads to the router, and rows lead home from it.
+pub fn is_last<A: SmallAllocator>(world: &World<A>, prefix: Prefix, router: u16) -> bool
+    requires { IsJoined world.now }
+    ensures { IsTrue result → IsLast world.now prefix router }
+{
+    let mut at = router;
+    for _ in 0..world.routers().len() {
+        match next_by_row(world, prefix, at) {
+            Some(next) => at = next,
+            None => {
+                return leads_home(world, prefix, &[], at) && !is_met(world, prefix, router);
+            }
+        }
+    }
+    false
 }

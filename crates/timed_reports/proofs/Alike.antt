@@ -1,11 +1,11 @@
 -- Steps that move no way to a prefix: links stay up or down in their sessions, and the rows that were published for it and the attachments to it stay.
-use Rattle.std.proofs.Common.{refl, sym, ap, subst, ◌∙◌, inl, inr, ◌≡◌, ℕ, ◌+◌, Bool, true, false, not, cond, List, [], ◌∷◌, map, Option, Some, None, option_map, option_and_then, slice_get}
+use Rattle.std.proofs.Common.{refl, sym, ap, subst, ◌∙◌, inl, inr, ◌≡◌, ◌⊎◌, ℕ, ◌+◌, Bool, true, false, not, cond, List, [], ◌∷◌, map, Option, Some, None, option_map, option_and_then, slice_get}
 use Rattle.no_packet_loops.proofs.Common.{find-where_key, option_map_or, option_map_or-ind, map-changed_at, slice_get-map, false≢true, None_not_Some, Some_injective, prefix_cmp, prefix_eq, Prefix, Item, Held, End, A, B, Link, Router, Attachments, World, Place, side, other, changed_at, changed_side, changed_router, changed_link, changed_attachments, with_cost, with_item, with_front_taken, with_message, with_notice_taken, with_attachment, without_attachment, with_delivered, with_noticed, with_released, router_accepting, router_at_home, router_publishing, router_releasing, front_at, notice_at, release_at, place_at, next, Entry, attachment_at, IsWalk, walk_cost, Equal, is_eq, find as row_of, Step, SetCost, Deliver, Publish, Release, Attach, Detach}
 use Rattle.no_packet_loops.specs.Packets.{control_entry, published_entry}
 use Rattle.no_packet_loops.proofs.{Machines.prefix_same, Releasing.by_message, WorldLaws.row_of-put_other}
 use Rattle.quiet_routes.specs.Routes.{IsChain}
 use Rattle.reachability.specs.Ways.{HasWay, IsCutOff}
-use Rattle.timed_reports.specs.{declared.spells.Watched.Watched, Looks.IsStill, Looks.MarksMoved, Records.MovesNoWay, Records.moves_ways}
+use Rattle.timed_reports.specs.{declared.spells.Watched.Watched, Looks.IsUnmarked, Looks.MarksMoved, Records.MovesNoWay, Records.moves_ways}
 
 -- what a way sees of a link: whether it is up, its session, and the routers at its ends
 pub record Shape : Type 0 where
@@ -154,9 +154,6 @@ module _ (p : Prefix) where
       sym (ap (option_and_then (λ (x : Router). row_of prefix_cmp p (x.table).control)) at) ∙ kept ∙ ap (option_and_then (row_in p)) at
 
   -- attachments to another prefix
-  cost_attaching : (q : Prefix) (cost : ℕ) → prefix_eq p q ≡ false → (a : Attachments) → cost_in p (with_attachment q cost a) ≡ cost_in p a
-  cost_attaching q cost apart a = row_of-put_other p q cost a.costs apart
-
   cost_detaching : (q : Prefix) → prefix_eq p q ≡ false → (a : Attachments) → cost_in p (without_attachment q a) ≡ cost_in p a
   cost_detaching q apart a =
       find-where_key prefix_cmp (λ x. not (prefix_eq x q)) p tied a.costs ∙ ap (λ (b : Bool). cond (not b) (cost_in p a) None) apart
@@ -174,7 +171,7 @@ module _ (p : Prefix) where
   alike_after w (Publish i) still = record { places = refl; links = refl; routers = map-changed_at router_publishing (row_in p) i w.routers (row_publishing w i still); attachments = refl }
   alike_after w (Release i) still = option_map_or-ind (IsAlike p w) (with_released i w) (release_at w i) w (alike_itself p w)
       (λ h is. alike_router w (changed_link i h.port (with_message h) w) i router_releasing (λ r. refl) (alike_link w i h.port (with_message h) (shape_message h)))
-  alike_after w (Attach i q cost) still = alike_attached w i (with_attachment q cost) (cost_attaching q cost still)
+  alike_after w (Attach i q cost) still = alike_attached w i (with_attachment q cost) (λ a. row_of-put_other p q cost a.costs still)
   alike_after w (Detach i q) still = alike_attached w i (without_attachment q) (cost_detaching q still)
   alike_after w _ still = absurd still
 
@@ -186,7 +183,7 @@ still_moves_none w (Release i) p none = tt
 still_moves_none w _ p none = absurd (false≢true (sym none))
 
 -- so where nothing says that ways to a prefix moved, none did
-pub none_moved : (w : World) (s : Step) (marks : List Bool) → (moves_ways s ≡ true → MarksMoved w s marks) → (c : Watched) → IsStill s w.prefixes marks c → MovesNoWay w s c.prefix
+pub none_moved : (w : World) (s : Step) (marks : List Bool) → (moves_ways s ≡ true → MarksMoved w s marks) → (c : Watched) → (moves_ways s ≡ false) ⊎ IsUnmarked w.prefixes marks c → MovesNoWay w s c.prefix
 none_moved w s marks marked c (inl none) = still_moves_none w s c.prefix none
 none_moved w s marks marked c (inr (k, at, unmarked)) = by_step (moves_ways s) refl
   where

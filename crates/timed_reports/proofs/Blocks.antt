@@ -51,17 +51,14 @@ module _ (n : ℕ) where
 
     module _ (k : ℕ) (p : Prefix) (at : slice_get ps k ≡ Some p) (x : ℕ) (c : Watched) (from : k * n ≤ x) (below : x < k * n + n) (there : slice_get cs x ≡ Some c) where
       -- whatever stands among those of a prefix is of it, and of the router of that place
-      parts : (c.prefix ≡ p) × (c.router ≡ x - k * n)
-      parts =
+      pub of_block : (c.prefix ≡ p) × (c.router ≡ x - k * n)
+      of_block =
           let place : k * n + (x - k * n) ≡ x = omega (arith, from) in
           let is : ◌≡◌ {A = Option (Prefix × ℕ)} (Some (c.prefix, c.router)) (Some (p, x - k * n))
           = sym (slice_get-map watched_at cs x ∙ ap (option_map watched_at) there) ∙ ap (λ (xs : List (Prefix × ℕ)). slice_get xs x) order ∙ ap (slice_get (flat_map (with_routers n) ps)) (sym place) ∙ at_block ps k (x - k * n) p at (omega (arith, from, below)) in
           some_pair_parts c.prefix p c.router (x - k * n) is
 
-      pub of_prefix : c.prefix ≡ p
-      of_prefix = parts.0
-
       pub of_other : (i : ℕ) → x ≢ k * n + i → c.router ≢ i
       of_other i apart = λ (same : c.router ≡ i).
-          let router = parts.1 in
+          let router = of_block.1 in
           apart (omega (arith, from, router, same))

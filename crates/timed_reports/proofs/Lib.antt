@@ -5,6 +5,7 @@ pub mod Recorded
 pub mod OneByOne
 pub mod Machines
 pub mod Alike
+pub mod Beside
 pub mod Known
 pub mod AtRest
 pub mod Stops

@@ -73,13 +73,9 @@ front_there w i q x item at answer =
     by_link None h = let never : ◌≡◌ {A = Result Item LinkRefusal} (Err UnknownLink) (Ok item) = h in cc
     by_link (Some k) h = front_of-Some x.end k item h
 
--- whoever is passed by is elsewhere: so where a message is delivered
-unmet_elsewhere : (w : World) (i q : ℕ) (told : Option Prefix) → IfSome told (IsToldPrefix w (Deliver i q)) → (c : Watched) → IsPassedBy (Deliver i q) told c → IsElsewhere w (Deliver i q) c
-unmet_elsewhere w i q None tells c (inl other) = inl other
-unmet_elsewhere w i q None tells c (inr unmet) = absurd (false≢true (sym unmet))
-unmet_elsewhere w i q (Some p) tells c (inl other) = inl other
-unmet_elsewhere w i q (Some p) (m, front, same) c (inr unmet) = inr (m, front, ap (prefix_eq c.prefix) same ∙ unmet)
-
+-- whoever is passed by is elsewhere
 pub passed_elsewhere : (w : World) (s : Step) (told : Option Prefix) → IfSome told (IsToldPrefix w s) → (c : Watched) → IsPassedBy s told c → IsElsewhere w s c
-passed_elsewhere w (Deliver i q) told tells c passed = unmet_elsewhere w i q told tells c passed
+passed_elsewhere w (Deliver i q) told tells c (inl other) = inl other
+passed_elsewhere w (Deliver i q) None tells c (inr unmet) = absurd (false≢true (sym unmet))
+passed_elsewhere w (Deliver i q) (Some p) (m, front, same) c (inr unmet) = inr (m, front, ap (prefix_eq c.prefix) same ∙ unmet)
 passed_elsewhere w _ told tells c passed = tt

@@ -188,19 +188,3 @@ looked_beside_more K v now Aside More more below old new before after L = record
     end_with_more [] ss none = none
     end_with_more (c ∷ cs) ss (inl (aside, E)) = inl (more c aside, end_with_more cs ss E)
     end_with_more (c ∷ cs) ss (inr (holds, rest, is, all, E)) = inr (holds, rest, is, all, end_with_more cs rest E)
-
-pub look_beside_more : (K : Kind) (v : World) (now : ℕ) (Aside More : Watched → Type 0) → ((c : Watched) → Aside c → More c) → (place : ℕ) (old new : List Watched) (before after : List Spell) → IsLooked K v now Aside place old new before after → IsLooked K v now More place old new before after
-look_beside_more K v now Aside More more place old new before after looked c at = by_look (looked c at)
-  where
-    by_look : (Aside c × (new ≡ old) × (after ≡ before)) ⊎ ((holds : Bool) × (IsTrue holds ↔ HoldsOf K v c) × (new ≡ set old place (seen now holds c)) × (after ≡ before ++ option_to_list (ended_by now holds c)))
-        → (More c × (new ≡ old) × (after ≡ before)) ⊎ ((holds : Bool) × (IsTrue holds ↔ HoldsOf K v c) × (new ≡ set old place (seen now holds c)) × (after ≡ before ++ option_to_list (ended_by now holds c)))
-    by_look (inl (aside, same, none)) = inl (more c aside, same, none)
-    by_look (inr look) = inr look
-
--- it leaves as many
-pub look_keeps_many : (K : Kind) (v : World) (now : ℕ) (Aside : Watched → Type 0) (place : ℕ) (old new : List Watched) (before after : List Spell) → IsLooked K v now Aside place old new before after → place < length old → length new ≡ length old
-look_keeps_many K v now Aside place old new before after looked below = (let (c, at) = get_within old place below in by_look c (looked c at))
-  where
-    by_look : (c : Watched) → (Aside c × (new ≡ old) × (after ≡ before)) ⊎ ((holds : Bool) × (IsTrue holds ↔ HoldsOf K v c) × (new ≡ set old place (seen now holds c)) × (after ≡ before ++ option_to_list (ended_by now holds c))) → length new ≡ length old
-    by_look c (inl (aside, same, none)) = ap (λ (xs : List Watched). length xs) same
-    by_look c (inr (holds, rightly, written, ended)) = ap (λ (xs : List Watched). length xs) written ∙ length-set old place (seen now holds c)

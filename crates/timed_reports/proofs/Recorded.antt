@@ -3,7 +3,7 @@ use Rattle.std.proofs.Common.{refl, sym, ap, subst, ◌∙◌, arith, inl, inr, 
 use Rattle.no_packet_loops.proofs.Common.{None_not_Some, false≢true, slice_get_within, list_any, Prefix, prefix_eq, World, Lawful, next, Runs}
 use Rattle.timed_simulation.specs.{declared.events.Event.Event, Runs.steps_of}
 use Rattle.timed_reports.specs.{declared.spells.Spell.Spell, declared.spells.Watched.Watched, Spells.IsSpell}
-use Rattle.timed_reports.specs.Records.{AreInOrder, AreLooked, AreWatched, AtFirst, EndByLooks, EndWith, HaveEnded, HoldsOf, IsListed, IsRecorded, IsSeen, Kind, OneMore, ended_by, seen, spell, watched, watched_at}
+use Rattle.timed_reports.specs.Records.{AreLooked, AreWatched, AtFirst, EndByLooks, EndWith, HaveEnded, HoldsOf, IsListed, IsRecorded, IsSeen, Kind, OneMore, ended_by, seen, spell, watched, watched_at}
 use Rattle.timed_reports.proofs.Lists.{get_within, listed_behind, listed_either, listed_first, map_alike}
 use Rattle.timed_reports.proofs.OneByOne.{ending, is_ended}
 use Rattle.timed_reports.proofs.OneMore.{goes_on, one_goes_on, runs_all, spell_begins, spell_ended, spell_on, spell_past, spell_till}
@@ -33,7 +33,7 @@ watched_after K v now Aside past new cs ds count ps L each p i below one =
     (later, (x, there))
 
 -- and stands at its place
-places_after : (K : Kind) (v : World) (now : ℕ) (Aside : Watched → Type 0) (past new : List Spell) (cs ds : List Watched) → AreLooked K v now Aside (length cs) cs ds past new → map watched_at ds ≡ map watched_at cs
+pub places_after : (K : Kind) (v : World) (now : ℕ) (Aside : Watched → Type 0) (past new : List Spell) (cs ds : List Watched) → AreLooked K v now Aside (length cs) cs ds past new → map watched_at ds ≡ map watched_at cs
 places_after K v now Aside past new cs ds L = map_alike watched_at cs ds L.as_many (λ x c d at there. by_look c d (L.looked x c d (slice_get_within cs x c at) at there))
   where
     of_seen : (b : Bool) (c d : Watched) → d ≡ seen now b c → watched_at d ≡ watched_at c
@@ -43,9 +43,6 @@ places_after K v now Aside past new cs ds L = map_alike watched_at cs ds L.as_ma
     by_look : (c d : Watched) → ((d ≡ c) × Aside c) ⊎ IsSeen K v now c d → watched_at d ≡ watched_at c
     by_look c d (inl (is, aside)) = ap watched_at is
     by_look c d (inr look) = of_seen look.holds c d look.written
-
-pub order_after : (K : Kind) (v : World) (now : ℕ) (Aside : Watched → Type 0) (past new : List Spell) (cs ds : List Watched) (count : ℕ) (ps : List Prefix) → AreLooked K v now Aside (length cs) cs ds past new → AreInOrder count ps cs → AreInOrder count ps ds
-order_after K v now Aside past new cs ds count ps L order = places_after K v now Aside past new cs ds L ∙ order
 
 module _ (K : Kind) where
   -- ---- one router and one prefix

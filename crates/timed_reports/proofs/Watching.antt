@@ -1,7 +1,7 @@
 -- One for each router and each prefix.
 use Rattle.std.proofs.Common.{refl, sym, ap, subst, ◌∙◌, arith, inl, inr, append-nil, append_assoc, ◌≡◌, ◌⊎◌, ℕ, suc, ◌+◌, ◌<◌, ◌≤◌, Bool, true, false, ◌||◌, List, [], ◌∷◌, ◌++◌, map, flat_map, take, length, get_or, Option, Some, None, option_to_list, slice_get}
 use Rattle.std.proofs.lemmas.List.Concat.{flat_map-append}
-use Rattle.no_packet_loops.proofs.Common.{None_not_Some, false≢true, prefix_eq, Prefix, get_or_from_slice_get, slice_get_within, list_any, cases_lt, map-append, take_all, take_more, map-range_with_len_more}
+use Rattle.no_packet_loops.proofs.Common.{None_not_Some, false≢true, prefix_eq, Prefix, get_or_from_slice_get, slice_get_within, list_any, cases_lt, map-append, take_more, map-range_with_len_more}
 use Rattle.no_packet_loops.proofs.Machines.{prefix_same}
 use Rattle.timed_reports.specs.{declared.spells.Spell.Spell, declared.spells.Watched.Watched}
 use Rattle.timed_reports.specs.Records.{AreInOrder, IsListed, ended_by, watched, watched_at, with_routers}
@@ -64,13 +64,6 @@ routers_more p place before xs zs pushed order =
     ∙ append_assoc (map watched_at before) (with_routers place p) ((p, place) ∷ [])
     ∙ ap (λ (l : List (Prefix × ℕ)). map watched_at before ++ l) (sym (map-range_with_len_more {X = Prefix × ℕ} (λ i. (p, i)) 0 place place (omega arith)))
 
--- nothing is watched
-pub none_listed : (cs : List Watched) → cs ≡ [] → (k : ℕ) (c : Watched) → slice_get cs k ≡ Some c → c.since ≡ None
-none_listed cs none k c at = absurd (None_not_Some (sym (ap (λ (l : List Watched). slice_get l k) none) ∙ at))
-
-pub none_in_order : (count : ℕ) (ps : List Prefix) (cs : List Watched) → cs ≡ [] → AreInOrder count (take 0 ps) cs
-none_in_order count ps cs none = ap (map watched_at) none
-
 pub in_order_more : (count : ℕ) (ps : List Prefix) (n : ℕ) (q : Prefix) (xs zs : List Watched) → n < length ps → q ≡ get_or ps n q → AreInOrder count (take n ps) xs → map watched_at zs ≡ map watched_at xs ++ with_routers count q → AreInOrder count (take (n + 1) ps) zs
 in_order_more count ps n q xs zs below read order pushed =
     pushed
@@ -78,9 +71,6 @@ in_order_more count ps n q xs zs below read order pushed =
     ∙ ap (λ (l : List (Prefix × ℕ)). flat_map (with_routers count) (take n ps) ++ l) (sym (append-nil (with_routers count q)))
     ∙ sym (flat_map-append (with_routers count) (take n ps) (q ∷ []))
     ∙ ap (flat_map (with_routers count)) (ap (λ (p : Prefix). take n ps ++ p ∷ []) read ∙ sym (take_more ps n q below))
-
-pub all_in_order : (count : ℕ) (ps : List Prefix) (n : ℕ) (cs : List Watched) → length ps ≤ n → AreInOrder count (take n ps) cs → AreInOrder count ps cs
-all_in_order count ps n cs over order = order ∙ ap (flat_map (with_routers count)) (take_all n ps over)
 
 -- ---- a look
 

@@ -1,14 +1,10 @@
 -- What looks at a world rest on: which routers are cut off from a prefix, as marks say, and which routers and prefixes an event does not concern.
-use Rattle.std.specs.Prelude.{ℕ, ◌≡◌, ◌≢◌, ◌+◌, ◌*◌, ◌⊎◌, ◌↔◌, Bool, true, false, List, length, get_or, Option, Some, None, slice_get}
+use Rattle.std.specs.Prelude.{ℕ, ◌≡◌, ◌≢◌, ◌+◌, ◌*◌, ◌⊎◌, Bool, true, false, List, length, get_or, Option, Some, None, slice_get}
 use Rattle.ipv4_prefix.specs.Prefix.{Prefix, prefix_eq}
-use Rattle.network_model.specs.{declared.item.Item.Item, declared.item.Message.Message, declared.step.Step.Step, declared.step.Step.TheVariants.Deliver, Step.front_at, World.World}
-use Rattle.reachability.specs.{Marks.Marks, Marks.is_marked, Marks.size, Ways.IsCutOff}
+use Rattle.network_model.specs.{declared.item.Item.Item, declared.item.Message.Message, declared.step.Step.Step, declared.step.Step.TheVariants.Deliver, declared.step.Step.TheVariants.Publish, Step.front_at, World.World}
+use Rattle.reachability.specs.{Marks.Marks, Marks.size, Rounds.IsLast, Ways.IsCutOff}
 use Rattle.timed_reports.specs.{declared.spells.Spell.Spell, declared.spells.Watched.Watched}
 use Rattle.timed_reports.specs.Records.{AreInOrder, AreLooked, MovesNoWay, moves_ways}
-
--- the routers that are marked are those that are cut off from the prefix
-abbrev pub AreMarked : Prefix → World → Marks → Type 0
-AreMarked p w m = (i : ℕ) → (is_marked m i ≡ true) ↔ IsCutOff p i w
 
 -- there is room for a mark of each router
 abbrev pub HasRoomForMarks : World → Marks → Type 0
@@ -49,12 +45,21 @@ HasMarks w marks = length marks ≡ length w.prefixes
 abbrev pub IsUnmarked : List Prefix → List Bool → Watched → Type 0
 IsUnmarked ps marks c = (k : ℕ) × (slice_get ps k ≡ Some c.prefix) × (get_or marks k false ≡ false)
 
--- the step moves no ways at all, or none to its prefix
-abbrev pub IsStill : Step → List Prefix → List Bool → Watched → Type 0
-IsStill s ps marks c = (moves_ways s ≡ false) ⊎ IsUnmarked ps marks c
+-- another router published, and from it rows lead home, and no row leads to it: so nobody else is concerned
+abbrev pub IsBeside : World → Step → Watched → Type 0
+IsBeside v (Publish i) c = (c.router ≢ i) × IsLast v c.prefix i
+IsBeside v _ c = ⊥
 
--- those of prefix number k were looked at too, unless it is not marked
-abbrev pub AreLookedFurther : World → ℕ → List Prefix → List Bool → ℕ → List Watched → List Watched → List Spell → List Spell → Type 0
-AreLookedFurther v now ps marks k mid new between after = (old : List Watched) (before : List Spell) → AreInOrder (length v.routers) ps old
-    → AreLooked IsCutOff v now (IsUnmarked ps marks) (k * length v.routers) old mid before between
-    → AreLooked IsCutOff v now (IsUnmarked ps marks) (k * length v.routers + length v.routers) old new before after
+-- its prefix is not marked, or another router alone is concerned
+abbrev pub IsSpared : World → Step → List Prefix → List Bool → Watched → Type 0
+IsSpared v s ps marks c = IsUnmarked ps marks c ⊎ IsBeside v s c
+
+-- the step moves no ways at all, or it is spared
+abbrev pub IsStill : World → Step → List Bool → Watched → Type 0
+IsStill v s marks c = (moves_ways s ≡ false) ⊎ IsSpared v s v.prefixes marks c
+
+-- those of prefix number k were looked at too, unless they are spared
+abbrev pub AreLookedFurther : World → Step → ℕ → List Prefix → List Bool → ℕ → List Watched → List Watched → List Spell → List Spell → Type 0
+AreLookedFurther v s now ps marks k mid new between after = (old : List Watched) (before : List Spell) → AreInOrder (length v.routers) ps old
+    → AreLooked IsCutOff v now (IsSpared v s ps marks) (k * length v.routers) old mid before between
+    → AreLooked IsCutOff v now (IsSpared v s ps marks) (k * length v.routers + length v.routers) old new before after

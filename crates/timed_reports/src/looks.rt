@@ -11,12 +11,12 @@ ghost use Rattle.network_model.specs.Step.{entry_eq};
 ghost use Rattle.no_packet_loops.specs.Packets.{control_entry, published_entry};
 ghost use Rattle.reachability.specs.{Marks.size, Ways.IsCutOff, Ways.IsJoined};
 ghost use Rattle.timed_reports.specs.Going.{IsComputing};
-ghost use Rattle.timed_reports.specs.Looks.{AreLookedFurther, AreMarked, HasMarks, IsPassedBy, IsStill, IsToldPrefix, IsUnmet, MarksMoved, meets};
+ghost use Rattle.timed_reports.specs.Looks.{AreLookedFurther, HasMarks, IsPassedBy, IsStill, IsToldPrefix, IsUnmet, MarksMoved, meets};
 ghost use Rattle.timed_reports.specs.Records.{AreInOrder, AreLooked, IsLooked, MovesNoWay, moves_ways};
 
 use crate::spells::{Spell, Watched, note};
 use network_model::{Entry, Item, Prefix, SmallAllocator, Step};
-use reachability::CutOff;
+use reachability::{CutOff, is_last};
 use world::World;
 
 // ---- before an event
@@ -250,54 +250,6 @@ pub fn look_for_computations<A: SmallAllocator>(
     }
 }
 
-// Finds the routers that are cut off from a prefix, if they were not found last.
-fn find_cut_off<A: SmallAllocator>(
-    world: &World<A>,
-    cut: &mut CutOff<A>,
-    last: Option<Prefix>,
-    prefix: Prefix,
-)
-    requires size { size cut.old ≡ length (world.now).routers }
-    requires joined { IsJoined world.now }
-    requires last { IfSome last (λ p. AreMarked p world.now cut.old) }
-    ensures marked { AreMarked prefix world.now cut.new }
-    ensures size { size cut.new ≡ size cut.old }
-{
-    match last {
-        Some(found) if found == prefix => {}
-        _ => cut.look(world, prefix),
-    }
-}
-
-// Looks at one: whether its router is cut off from its prefix.
-fn look_for_outage<A: SmallAllocator>(
-    world: &World<A>,
-    now: u64,
-    cut: &mut CutOff<A>,
-    last: Option<Prefix>,
-    all: &mut Vec<Watched, A>,
-    ended: &mut Vec<Spell, A>,
-    place: usize,
-) -> Prefix
-    requires size { size cut.old ≡ length (world.now).routers }
-    requires joined { IsJoined world.now }
-    requires last { IfSome last (λ p. AreMarked p world.now cut.old) }
-    requires place { place < length all.old.items }
-    requires room { vec_len ended.old < vec_capacity ended.old }
-    ensures marked { AreMarked result world.now cut.new }
-    ensures size { size cut.new ≡ size cut.old }
-    ensures looked { IsLooked IsCutOff world.now now (λ _. ⊥) place
-        all.old.items all.new.items ended.old.items ended.new.items }
-    ensures room { vec_len ended.new ≤ vec_len ended.old + 1 }
-    ensures capacity { vec_capacity ended.old ≤ vec_capacity ended.new }
-{
-    let one = all[place];
-    find_cut_off(world, cut, last, one.prefix);
-    let holds = cut.is_cut_off(one.router);
-    note(all, ended, place, now, holds);
-    one.prefix
-}
-
 // Whether a prefix is marked.
 fn is_marked(marks: &[bool], place: usize) -> bool
     ensures { result ≡ slice_index_or marks.now place false }
@@ -308,8 +260,10 @@ fn is_marked(marks: &[bool], place: usize) -> bool
     }
 }
 
+// Looks at the routers for a prefix, if it is marked: at the one alone that published, if it is the last of a way.
 fn look_at_prefix<A: SmallAllocator>(
     world: &World<A>,
+    step: &Step,
     prefixes: &[Prefix],
     marks: &[bool],
     number: usize,
@@ -325,9 +279,8 @@ fn look_at_prefix<A: SmallAllocator>(
         ≤ length all.old.items }
     requires room { vec_len ended.old + length (world.now).routers ≤ vec_capacity ended.old }
     ensures size { size cut.new ≡ size cut.old }
-    ensures looked { AreLookedFurther world.now now prefixes.now marks.now number
+    ensures looked { AreLookedFurther world.now step.now now prefixes.now marks.now number
         all.old.items all.new.items ended.old.items ended.new.items }
-    ensures many { length all.new.items ≡ length all.old.items }
     ensures room { vec_len ended.new ≤ vec_len ended.old + length (world.now).routers }
     ensures capacity { vec_capacity ended.old ≤ vec_capacity ended.new }
 {
@@ -336,10 +289,18 @@ fn look_at_prefix<A: SmallAllocator>(
     }
     let routers = world.routers().len();
     let first = place_of(number, routers, 0);
-    let end = place_of(number, routers, routers);
-    let mut last = None;
-    for place in first..end {
-        last = Some(look_for_outage(world, now, cut, last, all, ended, place));
+    if let Step::Publish { router } = *step
+        && usize::from(router) < routers
+        && is_last(world, prefixes[number], router)
+    {
+        note(all, ended, first + usize::from(router), now, false);
+        return;
+    }
+    cut.look(world, prefixes[number]);
+    for place in first..first + routers {
+        let one = all[place];
+        let holds = cut.is_cut_off(one.router);
+        note(all, ended, place, now, holds);
     }
 }
 
@@ -357,7 +318,7 @@ pub fn look_for_outages<A: SmallAllocator>(
     requires joined { IsJoined world.now }
     requires order { AreInOrder (length (world.now).routers) (world.now).prefixes all.old.items }
     requires room { vec_len ended.old + length all.old.items ≤ vec_capacity ended.old }
-    ensures looked { AreLooked IsCutOff world.now now (IsStill step.now (world.now).prefixes marks.now)
+    ensures looked { AreLooked IsCutOff world.now now (IsStill world.now step.now marks.now)
         (length all.old.items) all.old.items all.new.items ended.old.items ended.new.items }
     ensures size { size cut.new ≡ size cut.old }
 {
@@ -366,6 +327,6 @@ pub fn look_for_outages<A: SmallAllocator>(
     }
     let prefixes = world.prefixes();
     for number in 0..prefixes.len() {
-        look_at_prefix(world, prefixes, marks, number, now, cut, all, ended);
+        look_at_prefix(world, step, prefixes, marks, number, now, cut, all, ended);
     }
 }

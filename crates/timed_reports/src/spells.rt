@@ -109,6 +109,7 @@ pub fn note<A: SmallAllocator>(
         → all.new.items ≡ slice_set all.old.items place (seen now holds c) }
     ensures ended { (c : Watched) → slice_get all.old.items place ≡ Some c
         → ended.new.items ≡ ended.old.items ++ option_to_list (ended_by now holds c) }
+    ensures many { length all.new.items ≡ length all.old.items }
     ensures room { vec_len ended.new ≤ vec_len ended.old + 1 }
     ensures capacity { vec_capacity ended.old ≤ vec_capacity ended.new }
 {

@@ -31,6 +31,3 @@ loop-place-preserved g c = elim c.match-added_by.branch [
       (subst (λ (o : Option ℕ). IfSome o (λ k. IsAddedBy c.args.world.now c.loop-place.marks c.loop-place.place k)) b.in-Some.is c.added_by.ensures.some) c.match-added_by.marks (b.marks-is ∙ b.mark.ensures) c.match-added_by.grown b.grown-is
   | in_default b ↦ passed c.args.world.now c.args.marks.now c.loop-place.marks c.loop-place.grown c.loop-place.place c.loop-place.invariant (c.added_by.ensures.none (search rules)) c.match-added_by.marks b.marks-is c.match-added_by.grown b.grown-is
 ]
-
-pub returns-clause-closed : goal.returns-clause-closed
-returns-clause-closed g c = λ none l below. c.loop-place.invariant.closed none l (search rules)

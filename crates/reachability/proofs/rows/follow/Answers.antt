@@ -45,6 +45,3 @@ loop-place-preserved g c = elim c.if-added.branch [
   | else-added b ↦ passed c.args.world.now c.args.prefix c.args.marks.now c.loop-place.marks c.loop-place.grown c.loop-place.place c.loop-place.invariant c.is_added-added.result c.is_added-added.ensures b.if-added.false
       c.if-added.marks b.marks-is c.if-added.grown b.grown-is
 ]
-
-pub returns-clause-closed : goal.returns-clause-closed
-returns-clause-closed g c = λ none i below. c.loop-place.invariant.closed none i (search rules)

@@ -1,8 +1,8 @@
-use Rattle.std.proofs.Common.{◌≡◌, ◌∙◌, ◌+◌, ◌*◌, ◌≤◌, ℕ, List, Some, false, arith, inl, inr, length, refl, sym, ap, subst, slice_get}
+use Rattle.std.proofs.Common.{◌≡◌, ◌∙◌, ◌+◌, ◌*◌, ◌≤◌, ℕ, List, Some, false, arith, inl, inr, length, refl, sym, ap, subst, slice_get, slice_set}
 use Rattle.std.proofs.lemmas.Option.{slice_get_read}
-use Rattle.timed_reports.specs.{declared.spells.Watched.Watched, Going.IsComputing, Looks.IsUnmet, Looks.meets, Records.AreLooked, Records.IsLooked}
-use Rattle.timed_reports.proofs.Blocks.{block_fits, many_watched, of_other, of_prefix}
-use Rattle.timed_reports.proofs.OneByOne.{look_beside_more, looked_among, looked_none}
+use Rattle.timed_reports.specs.{declared.spells.Watched.Watched, Going.IsComputing, Looks.IsUnmet, Records.AreLooked, Records.IsLooked, Records.seen}
+use Rattle.timed_reports.proofs.Blocks.{block_fits, many_watched, of_block, of_other}
+use Rattle.timed_reports.proofs.OneByOne.{looked_among, looked_none}
 use Rattle.timed_reports.proofs.looks.look_at_router.Goals as goal
 
 pub loop-number-init : goal.loop-number-init
@@ -46,7 +46,7 @@ look_for_computation-requires-clause-of g c = λ d there.
     let from = c.from.ensures in
     let place = c.place_of-place.ensures in
     let rest = c.loop-number.invariant.looked.rest c.place_of-place.result (omega (arith, place)) in
-    of_prefix n ps old c.requires.order k c.index-prefixes-number.result at c.place_of-place.result d (omega (arith, place)) (omega (arith, place, known, from)) (sym rest ∙ there)
+    (of_block n ps old c.requires.order k c.index-prefixes-number.result at c.place_of-place.result d (omega (arith, place)) (omega (arith, place, known, from)) (sym rest ∙ there)).0
 
 pub look_for_computation-requires-clause-room : goal.look_for_computation-requires-clause-room
 look_for_computation-requires-clause-room g c =
@@ -69,8 +69,10 @@ loop-number-preserved g c =
     let as_many = c.loop-number.invariant.looked.as_many in
     let place : c.place_of-place.result ≡ k * n + i = c.place_of-place.ensures ∙ ap (λ (m : ℕ). k * n + m) c.from.ensures in
     let one : IsLooked IsComputing c.args.world.now c.args.now (IsUnmet i c.args.told.now) (k * n + i) cs ds c.loop-number.ended.items c.look_for_computation.new.ended.items
-    = look_beside_more IsComputing c.args.world.now c.args.now (λ (d : Watched). meets c.args.told.now d.prefix ≡ false) (IsUnmet i c.args.told.now) (λ d unmet. inr unmet) (k * n + i) cs ds c.loop-number.ended.items c.look_for_computation.new.ended.items
-    (subst (λ (m : ℕ). IsLooked IsComputing c.args.world.now c.args.now (λ (d : Watched). meets c.args.told.now d.prefix ≡ false) m cs ds c.loop-number.ended.items c.look_for_computation.new.ended.items) place c.look_for_computation.ensures.looked) in
+    = λ d there. elim (c.look_for_computation.ensures.looked d (ap (slice_get cs) place ∙ there)) [
+      | inl (unmet, same, none) ↦ inl (inr unmet, same, none)
+      | inr (holds, is, written, ended) ↦ inr (holds, is, written ∙ ap (λ (m : ℕ). slice_set cs m (seen c.args.now holds d)) place, ended)
+    ] in
     let next = looked_among IsComputing c.args.world.now c.args.now (IsUnmet i c.args.told.now) old c.args.ended.now.items (k * n) n i cs ds c.loop-number.ended.items c.look_for_computation.new.ended.items c.requires.known c.loop-number.invariant.looked (omega (arith, fits, as_many))
     (λ x d from below apart there. inl (of_other n ps old c.requires.order k c.index-prefixes-number.result at x d from below there i apart)) one in
     let more : k * n + n ≡ (k + 1) * n = omega arith in

@@ -15,10 +15,6 @@ look_at_router-requires-clause-order g c =
     let many : length c.args.world.now.routers ≡ length c.routers-routers.result.now = sym (ap (λ (rs : List Router). length rs) c.routers-routers.ensures.routers) in
     subst (λ (n : ℕ). AreInOrder n c.prefixes.result.now c.args.all.now.items) many (subst (λ (ps : List Prefix). AreInOrder (length c.args.world.now.routers) ps c.args.all.now.items) (sym c.prefixes.ensures) c.requires.order)
 
-pub look_at_router-requires-clause-known : goal.look_at_router-requires-clause-known
-look_at_router-requires-clause-known g c =
-    subst (λ (n : ℕ). c.in-Deliver.router < n) (sym (ap (λ (rs : List Router). length rs) c.routers-routers.ensures.routers)) (c.requires.known _ _ c.in-Deliver.is)
-
 pub returns-in-Deliver : goal.returns-in-Deliver
 returns-in-Deliver g c =
     subst (λ (s : Step). AreLooked IsComputing c.args.world.now c.args.now (IsPassedBy s c.args.told) (length c.args.all.now.items) c.args.all.now.items c.look_at_router.new.all.items c.args.ended.now.items c.look_at_router.new.ended.items) (sym c.in-Deliver.is)

@@ -1,21 +1,7 @@
 use Rattle.std.proofs.Common.{◌≡◌, ◌∙◌, List, Some, arith, refl, sym, ap, length, slice_get}
-use Rattle.no_packet_loops.proofs.Common.{false≢true, Prefix, World, slice_get_read, slice_get_within}
+use Rattle.no_packet_loops.proofs.Common.{Prefix, World, slice_get_read, slice_get_within}
 use Rattle.timed_reports.proofs.Marking.{marked_more}
 use Rattle.timed_reports.proofs.looks.mark_moved.Goals as goal
-
-pub returns-then-not-moves_ways-clause-marked : goal.returns-then-not-moves_ways-clause-marked
-returns-then-not-moves_ways-clause-marked g c = λ moves. absurd (false≢true (sym (sym c.moves_ways.ensures ∙ c.if-not-moves_ways.true) ∙ moves))
-
-pub set_mark-requires : goal.set_mark-requires
-set_mark-requires g c =
-    let test = c.loop-number-test.true in
-    let all : length c.args.marks.now.items ≡ length c.args.world.now.prefixes = c.requires in
-    let many = c.loop-number.invariant.many in
-    let prefixes = ap (λ (ps : List Prefix). length ps) c.prefixes-prefixes.ensures in
-    omega (arith, test, all, many, prefixes)
-
-pub loop-number-init : goal.loop-number-init
-loop-number-init g c = record { marked = λ k p below. absurd (omega (arith, below)); many = refl }
 
 pub loop-number-preserved : goal.loop-number-preserved
 loop-number-preserved g c =

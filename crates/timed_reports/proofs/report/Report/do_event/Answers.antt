@@ -11,9 +11,6 @@ use Rattle.timed_reports.proofs.report.Report.do_event.Goals as goal
 pub do_next-requires : goal.do_next-requires
 do_next-requires g c = ap (λ (r : Reported). next_event r.timed) c.self.view_is ∙ c.requires
 
-pub look_ahead-told-requires : goal.look_ahead-told-requires
-look_ahead-told-requires g c = c.self.invariant.2
-
 -- not done
 pub invariant_of-self : goal.invariant_of-self
 invariant_of-self g c =
@@ -62,7 +59,7 @@ invariant_of-self-2 g c =
     let new : Reported = reported_of c.do_next.new.timed c.look_for_computations.new.ended.items c.look_for_computations.new.all.items c.look_for_outages.new.ended.items c.look_for_outages.new.all.items in
     let records : RecordsEvent old c.args.event new = records_event old c.args.event c.do_next.new.timed c.look_ahead-told.result c.look_ahead-told.new.marks.items c.world.result.now c.world-2.result.now c.do_next.new.computations.items c.do_next.new.outages.items c.look_for_computations.new.ended.items c.look_for_computations.new.all.items c.look_for_outages.new.ended.items c.look_for_outages.new.all.items
     c.in_default.ensures.ok.0 c.in_default.ensures.ok.1 c.look_ahead-told.ensures.told c.look_ahead-told.ensures.marked (c.world.ensures ∙ ap (λ (s : Simulation). s.world) c.simulation.ensures) (c.world-2.ensures ∙ ap (λ (s : Simulation). s.world) c.simulation-2.ensures) c.do_next.ensures.computations c.do_next.ensures.outages c.look_for_computations.ensures
-    (subst (λ (ms : List Bool). AreLooked IsCutOff c.world-2.result.now c.args.event.moment (IsStill c.args.event.step c.world-2.result.now.prefixes ms) (length c.self.inside.cut_off.items) c.self.inside.cut_off.items c.look_for_outages.new.all.items c.do_next.new.outages.items c.look_for_outages.new.ended.items) c.deref.ensures.value c.look_for_outages.ensures.looked) in (
+    (subst (λ (ms : List Bool). AreLooked IsCutOff c.world-2.result.now c.args.event.moment (IsStill c.world-2.result.now c.args.event.step ms) (length c.self.inside.cut_off.items) c.self.inside.cut_off.items c.look_for_outages.new.all.items c.do_next.new.outages.items c.look_for_outages.new.ended.items) c.deref.ensures.value c.look_for_outages.ensures.looked) in (
       kept_after old new c.args.event c.self.invariant.0 records,
       c.look_for_outages.ensures.size ∙ c.self.invariant.1 ∙ sym (as_many_after c.self.inside.timed c.do_next.new.timed c.args.event c.in_default.ensures.ok.1),
       c.look_ahead-told.ensures.many ∙ c.self.invariant.2 ∙ ap (λ (ps : List Prefix). length ps) (sym (same_prefixes_after c.self.inside.timed c.do_next.new.timed c.args.event c.in_default.ensures.ok.1)),
@@ -74,5 +71,5 @@ returns-clause-ok g c =
     let new : Reported = reported_of c.do_next.new.timed c.look_for_computations.new.ended.items c.look_for_computations.new.all.items c.look_for_outages.new.ended.items c.look_for_outages.new.all.items in
     let records : RecordsEvent old c.args.event new = records_event old c.args.event c.do_next.new.timed c.look_ahead-told.result c.look_ahead-told.new.marks.items c.world.result.now c.world-2.result.now c.do_next.new.computations.items c.do_next.new.outages.items c.look_for_computations.new.ended.items c.look_for_computations.new.all.items c.look_for_outages.new.ended.items c.look_for_outages.new.all.items
     c.in_default.ensures.ok.0 c.in_default.ensures.ok.1 c.look_ahead-told.ensures.told c.look_ahead-told.ensures.marked (c.world.ensures ∙ ap (λ (s : Simulation). s.world) c.simulation.ensures) (c.world-2.ensures ∙ ap (λ (s : Simulation). s.world) c.simulation-2.ensures) c.do_next.ensures.computations c.do_next.ensures.outages c.look_for_computations.ensures
-    (subst (λ (ms : List Bool). AreLooked IsCutOff c.world-2.result.now c.args.event.moment (IsStill c.args.event.step c.world-2.result.now.prefixes ms) (length c.self.inside.cut_off.items) c.self.inside.cut_off.items c.look_for_outages.new.all.items c.do_next.new.outages.items c.look_for_outages.new.ended.items) c.deref.ensures.value c.look_for_outages.ensures.looked) in
+    (subst (λ (ms : List Bool). AreLooked IsCutOff c.world-2.result.now c.args.event.moment (IsStill c.world-2.result.now c.args.event.step ms) (length c.self.inside.cut_off.items) c.self.inside.cut_off.items c.look_for_outages.new.all.items c.do_next.new.outages.items c.look_for_outages.new.ended.items) c.deref.ensures.value c.look_for_outages.ensures.looked) in
     subst (λ (r : Reported). IsNext r.timed c.args.event × (c.do_next.new.timed ≡ after_event r.timed c.args.event) × RecordsEvent r c.args.event new) c.self.view_is (c.in_default.ensures.ok.0, c.in_default.ensures.ok.1, records)
