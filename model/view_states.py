@@ -100,7 +100,7 @@ class Recorder(Network):
         parts["machines"] = [
             record
             for r in routers
-            for prefix, machine in r.machines.items()
+            for prefix, machine in sorted(r.machines.items())
             for record in self.new("machine", (r, prefix), self.machine_record(r, prefix, machine))
         ]
         parts["queues"] = [queue for port in ports for queue in self.queue_change(port)]
