@@ -35,14 +35,12 @@ pub mod case;
 pub mod example;
 pub mod soak;
 
-ghost use Rattle.std.specs.Prelude.{Option};
-ghost use Rattle.texts.specs.Words.{Text};
 ghost use Rattle.harness.specs.Outcomes.{Gave};
 
 use command_line::Words;
 use play::{Fault, Host, NoGate, Platform, Streams, THRESHOLDS, Thresholds, TurnGate, play};
 use std::alloc::Global;
-use std::io::Read;
+use std::io::{Read, Write};
 
 /// What the program gave.
 #[derive(Drop)]
@@ -105,9 +103,12 @@ where
         thresholds,
         gate,
     };
+    // Of the type that `run_quietly` has, so that no command is compiled once more.
+    let mut to_out: &mut dyn Write = &mut out;
+    let mut to_err: &mut dyn Write = &mut err;
     let mut streams = Streams {
-        out: &mut out,
-        err: &mut err,
+        out: &mut to_out,
+        err: &mut to_err,
     };
     let status = play(
         &by,
@@ -126,17 +127,4 @@ where
         kept,
         fault,
     }
-}
-
-/// The same where there is no journal to replay.
-pub fn run_in_memory<H: Host, R: Read + Drop>(
-    rt: &H,
-    alloc: Global,
-    words: &Words<'_>,
-    scenario: R,
-) -> Outcome
-    ensures { (journal : Option Text)
-        × Gave words.now (R.remaining scenario) journal result.status result.kept.items }
-{
-    play_in_memory(rt, alloc, words, scenario, b"".as_slice())
 }

@@ -2,13 +2,15 @@
 //! started whenever there is something to publish: the networks of cases reach no threshold of the program.
 
 use crate::examples::REPLAY;
+use crate::soak::do_in_memory;
 use advice::explain;
 use command_line::{Error, Words, exit_status, read_words};
+use harness::Outcome;
 use harness::case::{Given, Verdict, Wanted, judge};
-use harness::{Outcome, play_in_memory, play_in_memory_by};
-use play::{Host, NO_THRESHOLDS, NoGate};
+use play::Host;
 use std::alloc::{AllocError, Global};
 use std::io::Write;
+use std::time::Clock;
 
 /// What is asked, of which texts, and what it should give.
 #[derive(Clone, Copy)]
@@ -24,7 +26,7 @@ pub struct Case<'a> {
 }
 
 /// Whether there is a command line, and each gives what it should; tells of those that do not.
-pub fn is_right<H: Host, W: Write>(
+pub fn is_right<H: Host + Clock, W: Write>(
     wait: &H,
     alloc: Global,
     case: &Case<'_>,
@@ -42,7 +44,7 @@ pub fn is_right<H: Host, W: Write>(
 }
 
 // Whether a line asks something, and gives what it should.
-fn is_line_right<H: Host, W: Write>(
+fn is_line_right<H: Host + Clock, W: Write>(
     wait: &H,
     alloc: Global,
     case: &Case<'_>,
@@ -63,7 +65,7 @@ fn is_line_right<H: Host, W: Write>(
 }
 
 // What a command line gives.
-fn ask_words<H: Host>(
+fn ask_words<H: Host + Clock>(
     wait: &H,
     alloc: Global,
     case: &Case<'_>,
@@ -76,7 +78,7 @@ fn ask_words<H: Host>(
     }
 }
 
-fn do_words<H: Host>(
+fn do_words<H: Host + Clock>(
     wait: &H,
     alloc: Global,
     case: &Case<'_>,
@@ -85,15 +87,7 @@ fn do_words<H: Host>(
     let words = format!(in alloc; "{asked:?}\n")?;
     let scenario = case.scenario.as_bytes();
     let journal = case.journal.as_bytes();
-    let mut outcome = play_in_memory_by(
-        wait,
-        alloc,
-        NO_THRESHOLDS,
-        &NoGate,
-        asked,
-        scenario,
-        journal,
-    );
+    let mut outcome = do_in_memory(wait, alloc, asked, scenario, journal);
     // Where two outputs are right, it may be the other.
     let counted = case.wanted.other.is_some()
         || is_alike_counted(wait, alloc, asked, scenario, journal, &outcome);
@@ -110,7 +104,7 @@ fn do_words<H: Host>(
 }
 
 // The status of the replay of a run or a shell that kept its steps and came to its end, else 0.
-fn replay_status<H: Host>(
+fn replay_status<H: Host + Clock>(
     wait: &H,
     alloc: Global,
     asked: &Words<'_>,
@@ -126,7 +120,7 @@ fn replay_status<H: Host>(
             no_journal: false,
             ..
         } if ran.status == 0 => {
-            play_in_memory(wait, alloc, &REPLAY, scenario, ran.kept.as_slice()).status
+            do_in_memory(wait, alloc, &REPLAY, scenario, ran.kept.as_slice()).status
         }
         _ => 0,
     }
@@ -134,7 +128,7 @@ fn replay_status<H: Host>(
 
 // Whether a run by one thread, or a shell, gives the same if its steps are counted and not kept. One that saves is
 // another then.
-fn is_alike_counted<H: Host>(
+fn is_alike_counted<H: Host + Clock>(
     wait: &H,
     alloc: Global,
     asked: &Words<'_>,
@@ -176,7 +170,7 @@ fn is_alike_counted<H: Host>(
         },
         _ => return true,
     };
-    let again = play_in_memory(wait, alloc, &counted, scenario, journal);
+    let again = do_in_memory(wait, alloc, &counted, scenario, journal);
     let is_same = again.status == ran.status && again.out == ran.out && again.err == ran.err;
     is_same || tells_of_saving(&ran.out) || tells_of_saving(&ran.err)
 }

@@ -24,10 +24,11 @@ use play::Host;
 use std::alloc::{AllocError, Global};
 use std::fs;
 use std::io::{self, Write};
+use std::time::Clock;
 
 /// Whether a file, of cases or a table of faults, can be read, has cases, and all of them are right; tells
 /// how many there are, and of those that are not right.
-pub fn are_cases_right<H: Host, W: Write>(
+pub fn are_cases_right<H: Host + Clock, W: Write>(
     rt: &HostRuntime,
     wait: &H,
     file: &str,
@@ -46,7 +47,7 @@ pub fn are_cases_right<H: Host, W: Write>(
 }
 
 // Does the cases of a file, of either kind.
-fn do_file<H: Host, W: Write>(
+fn do_file<H: Host + Clock, W: Write>(
     rt: &HostRuntime,
     wait: &H,
     file: &str,
@@ -62,7 +63,7 @@ fn do_file<H: Host, W: Write>(
 }
 
 // Does the cases of a text, and tells of those that give something else.
-fn do_cases<H: Host, W: Write>(
+fn do_cases<H: Host + Clock, W: Write>(
     wait: &H,
     alloc: Global,
     file: &str,
@@ -99,7 +100,7 @@ fn is_comment(text: &str) -> bool {
 }
 
 // Whether a part of a file gives what it should.
-fn is_part_right<H: Host, W: Write>(
+fn is_part_right<H: Host + Clock, W: Write>(
     wait: &H,
     alloc: Global,
     file: &str,

@@ -2,14 +2,15 @@
 //! of the two has to print what stands beside it, in the file of the same name that ends in `.out`; and
 //! the journal of the run has to be replayed.
 
+use crate::soak::do_in_memory;
 use command_line::{Format, Words};
 use harness::example::{Verdict, judge};
-use harness::{play_in_memory, run_in_memory};
 use plans::read_scenario;
 use play::Host;
 use std::alloc::{AllocError, Global};
 use std::fs;
 use std::io::{self, Write};
+use std::time::Clock;
 
 /// A run by one thread.
 pub const RUN: Words<'static> = Words::Run {
@@ -41,7 +42,7 @@ const SHELL: Words<'static> = Words::Shell {
 };
 
 /// Whether the example of this scenario's file is as it should be; tells what is found of it.
-pub fn is_example_right<H: Host, W: Write>(
+pub fn is_example_right<H: Host + Clock, W: Write>(
     rt: &HostRuntime,
     wait: &H,
     file: &str,
@@ -56,7 +57,7 @@ pub fn is_example_right<H: Host, W: Write>(
 }
 
 // Reads a scenario, and what it should print, and tries it.
-fn try_example<H: Host>(rt: &HostRuntime, wait: &H, file: &str) -> io::Result<Verdict> {
+fn try_example<H: Host + Clock>(rt: &HostRuntime, wait: &H, file: &str) -> io::Result<Verdict> {
     let alloc = rt.alloc();
     let name = file.strip_suffix(".toml").unwrap_or(file);
     let output = format!(in alloc; "{name}.out")?;
@@ -67,16 +68,16 @@ fn try_example<H: Host>(rt: &HostRuntime, wait: &H, file: &str) -> io::Result<Ve
 }
 
 // Runs a scenario, types these lines into a shell of it, and replays the run's journal.
-fn try_texts<H: Host>(
+fn try_texts<H: Host + Clock>(
     wait: &H,
     alloc: Global,
     scenario: &[u8],
     typed: &[u8],
     wanted: &[u8],
 ) -> Verdict {
-    let ran = run_in_memory(wait, alloc, &RUN, scenario);
-    let replayed = play_in_memory(wait, alloc, &REPLAY, scenario, ran.kept.as_slice());
-    let shown = play_in_memory(wait, alloc, &SHELL, scenario, typed);
+    let ran = do_in_memory(wait, alloc, &RUN, scenario, b"");
+    let replayed = do_in_memory(wait, alloc, &REPLAY, scenario, ran.kept.as_slice());
+    let shown = do_in_memory(wait, alloc, &SHELL, scenario, typed);
     judge(&ran, &shown, wanted, &replayed)
 }
 

@@ -7,9 +7,10 @@ use harness::case::{Tally, Text, Wanted};
 use play::Host;
 use std::alloc::{AllocError, Global};
 use std::io::Write;
+use std::time::Clock;
 
 /// Does the rows of a table, and tells of those that give something else.
-pub fn do_faults<H: Host, W: Write>(
+pub fn do_faults<H: Host + Clock, W: Write>(
     wait: &H,
     alloc: Global,
     file: &str,
@@ -26,7 +27,7 @@ pub fn do_faults<H: Host, W: Write>(
 }
 
 // Whether the scenario of a row has the row's fault.
-fn is_refused<H: Host, W: Write>(
+fn is_refused<H: Host + Clock, W: Write>(
     wait: &H,
     alloc: Global,
     file: &str,

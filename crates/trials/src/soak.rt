@@ -8,7 +8,7 @@ use crate::random::{Scenario, draw};
 use crate::traces::{PART, are_straight, step_lines, trace_all};
 use command_line::{Format, Words};
 use harness::soak::is_good;
-use harness::{play_in_memory, play_in_memory_by, run_in_memory};
+use harness::{Outcome, play_in_memory_by};
 use play::{Host, NO_THRESHOLDS, TurnGate};
 use std::alloc::{AllocError, Global};
 use std::io::Write;
@@ -32,7 +32,8 @@ struct Turnout<'a, H> {
 }
 
 impl<'a, H: Clock> Turnout<'a, H> {
-    fn new(rt: &'a H) -> Self {
+    // Threads have waited so often.
+    fn new(rt: &'a H, waits: u64) -> Self {
         Turnout {
             rt,
             published: [
@@ -41,7 +42,7 @@ impl<'a, H: Clock> Turnout<'a, H> {
                 AtomicU64::new(0),
                 AtomicU64::new(0),
             ],
-            waits: AtomicU64::new(0),
+            waits: AtomicU64::new(waits),
         }
     }
 
@@ -81,6 +82,18 @@ impl<H: Clock> TurnGate for Turnout<'_, H> {
     fn after(&self, _thread: u8, _turn: u64) {}
 }
 
+/// What the program gives if no thread waits for others. The gate is of the same type, so that all is compiled once.
+pub fn do_in_memory<H: Host + Clock>(
+    rt: &H,
+    alloc: Global,
+    words: &Words<'_>,
+    scenario: &[u8],
+    journal: &[u8],
+) -> Outcome {
+    let gate = Turnout::new(rt, MOST_WAITS);
+    play_in_memory_by(rt, alloc, NO_THRESHOLDS, &gate, words, scenario, journal)
+}
+
 /// Whether the scenarios of so many seeds, from this one on, are good, and there is one; tells of those
 /// that are not.
 pub fn are_scenarios_good<H: Host + Clock, W: Write>(
@@ -91,7 +104,7 @@ pub fn are_scenarios_good<H: Host + Clock, W: Write>(
     out: &mut W,
 ) -> bool {
     let _ = writeln!(out, "seed {seed}");
-    let turnout = Turnout::new(rt);
+    let turnout = Turnout::new(rt, 0);
     let mut good = 0u32;
     for number in 0..count {
         match draw(alloc, seed.wrapping_add(u64::from(number))) {
@@ -137,14 +150,14 @@ fn try_scenario<H: Host + Clock>(
     let (words, text) = (&RUN_BY_THREADS, scenario.text.as_bytes());
     let none = b"".as_slice();
     let ran = play_in_memory_by(rt, alloc, NO_THRESHOLDS, turnout, words, text, none);
-    let replayed = play_in_memory(rt, alloc, &REPLAY, text, ran.kept.as_slice()).status;
+    let replayed = do_in_memory(rt, alloc, &REPLAY, text, ran.kept.as_slice()).status;
     let straight = is_straight(rt, alloc, scenario, &ran.kept)?;
     Ok(is_good(ran.status, replayed, straight))
 }
 
 // Whether the steps of a journal are done again with traces after each, none of which meets a router
 // twice.
-fn is_straight<H: Host>(
+fn is_straight<H: Host + Clock>(
     rt: &H,
     alloc: Global,
     scenario: &Scenario,
@@ -166,7 +179,7 @@ fn is_straight<H: Host>(
     Ok(true)
 }
 
-fn is_part_straight<H: Host>(
+fn is_part_straight<H: Host + Clock>(
     rt: &H,
     alloc: Global,
     scenario: &Scenario,
@@ -180,8 +193,8 @@ fn is_part_straight<H: Host>(
 }
 
 // Whether a script comes to its end, and prints traces, none of which meets a router twice.
-fn is_run_straight<H: Host>(rt: &H, alloc: Global, text: &str) -> bool {
-    let ran = run_in_memory(rt, alloc, &RUN, text.as_bytes());
+fn is_run_straight<H: Host + Clock>(rt: &H, alloc: Global, text: &str) -> bool {
+    let ran = do_in_memory(rt, alloc, &RUN, text.as_bytes(), b"");
     match str::from_utf8(&ran.out) {
         Ok(out) => ran.status == 0 && are_straight(out),
         Err(_) => false,
