@@ -49,7 +49,7 @@ pub const SHELL: Words<'static> = Words::Shell {
 };
 
 // A file that is read. It is one type, so that what does a command is compiled once for all tests.
-#[derive(Drop)]
+#[derive(Clone, Copy)]
 pub enum File<'a> {
     Holds(&'a [u8]),
     // It gives one byte, and then fails; and whether it has given it.
@@ -118,4 +118,13 @@ pub fn tells<H: Host + Abort>(
     equal(rt, got.out.as_slice(), b"".as_slice());
     equal(rt, got.kept.as_slice(), b"".as_slice());
     equal(rt, got.status, 1);
+}
+
+// A command over two files, and the fault that it tells.
+pub type Row = (Words<'static>, File<'static>, File<'static>, &'static str);
+
+pub fn are_told<H: Host + Abort>(rt: &H, alloc: Global, rows: &[Row]) {
+    for row in rows {
+        tells(rt, alloc, &row.0, row.1, row.2, row.3);
+    }
 }

@@ -1,6 +1,6 @@
 //! Files that cannot be read or written, and texts that are not UTF-8.
 
-use crate::commands::{BROKEN, CHECK, File, MISSING, REPLAY, RUN, SHELL, TIME, tells};
+use crate::commands::{BROKEN, CHECK, File, MISSING, REPLAY, RUN, Row, SHELL, TIME, are_told};
 use crate::equal_to::equal;
 use command_line::{exit_status, not_utf8};
 use play::{Host, NoGate, Platform, Streams, THRESHOLDS, play};
@@ -14,33 +14,36 @@ const SCENARIO: &[u8] = b"routers = [\"a\"]\nlinks = []\nprefixes = [\"0.0.0.0/0
 
 const HOLDS: File<'static> = File::Holds(SCENARIO);
 
-const NO_TEXT: &[u8] = b"\xff";
+const NO_TEXT: File<'static> = File::Holds(b"\xff");
 
-const NO_JOURNAL: &[u8] = b"dualnet journal 2\nend\n\xff\n";
+const NO_JOURNAL: File<'static> = File::Holds(b"dualnet journal 2\nend\n\xff\n");
 
 const UNREADABLE: &str = "dualnet: 47 Unreadable\n";
 
+static UNREAD: [Row; 7] = [
+    (CHECK, MISSING, MISSING, UNREADABLE),
+    (RUN, BROKEN, MISSING, UNREADABLE),
+    (REPLAY, HOLDS, MISSING, UNREADABLE),
+    (REPLAY, HOLDS, BROKEN, UNREADABLE),
+    (TIME, HOLDS, MISSING, UNREADABLE),
+    (TIME, HOLDS, BROKEN, UNREADABLE),
+    (SHELL, HOLDS, BROKEN, UNREADABLE),
+];
+
 #[test]
 fn what_cannot_be_read(rt: HostRuntime) {
-    let alloc = rt.alloc();
-    tells(&rt, alloc, &CHECK, MISSING, MISSING, UNREADABLE);
-    tells(&rt, alloc, &RUN, BROKEN, MISSING, UNREADABLE);
-    tells(&rt, alloc, &REPLAY, HOLDS, MISSING, UNREADABLE);
-    tells(&rt, alloc, &REPLAY, HOLDS, BROKEN, UNREADABLE);
-    tells(&rt, alloc, &TIME, HOLDS, MISSING, UNREADABLE);
-    tells(&rt, alloc, &TIME, HOLDS, BROKEN, UNREADABLE);
-    tells(&rt, alloc, &SHELL, HOLDS, BROKEN, UNREADABLE);
+    are_told(&rt, rt.alloc(), &UNREAD);
 }
+
+static NO_TEXTS: [Row; 3] = [
+    (RUN, NO_TEXT, MISSING, "dualnet: 40 BadToml\n"),
+    (TIME, HOLDS, NO_TEXT, "dualnet: 40 BadToml in the times\n"),
+    (REPLAY, HOLDS, NO_JOURNAL, "dualnet: 48 BadJournal\n"),
+];
 
 #[test]
 fn what_is_no_text(rt: HostRuntime) {
-    let alloc = rt.alloc();
-    let fault = "dualnet: 40 BadToml\n";
-    tells(&rt, alloc, &RUN, File::Holds(NO_TEXT), MISSING, fault);
-    let fault = "dualnet: 40 BadToml in the times\n";
-    tells(&rt, alloc, &TIME, HOLDS, File::Holds(NO_TEXT), fault);
-    let fault = "dualnet: 48 BadJournal\n";
-    tells(&rt, alloc, &REPLAY, HOLDS, File::Holds(NO_JOURNAL), fault);
+    are_told(&rt, rt.alloc(), &NO_TEXTS);
 }
 
 // A path of a file, and whether it leads to `/dev/null`.

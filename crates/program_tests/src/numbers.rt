@@ -3,7 +3,7 @@
 use crate::written::is_written;
 use command_line::Format;
 use lines::{
-    Answer, Asked, LinkLine, LinkState, MachineLine, MachineState, Printer, RouterLine,
+    Answer, Asked, Line, LinkLine, LinkState, MachineLine, MachineState, Printer, RouterLine,
     RouterState, Told,
 };
 use metric::{Cost, Distance};
@@ -84,69 +84,40 @@ fn numbers_that_no_run_reaches(rt: HostRuntime) {
         ..people
     };
     let prefix = Prefix::covering(0x0a00_0000, 8);
-    is_written(
-        &rt,
-        alloc,
-        &Told(people, link(&rt)),
-        "link b a down 65535 1 65535 queued 0 70000",
-    );
-    is_written(
-        &rt,
-        alloc,
-        &Told(json, link(&rt)),
-        "{\"kind\":\"link\",\"a\":\"b\",\"b\":\"a\",\"up\":false,\"session\":65535,\
-        \"costs\":[1,65535],\"queued\":[0,70000]}",
-    );
-    is_written(
-        &rt,
-        alloc,
-        &Told(people, ROUTER),
-        "b gen 18446744073709551615 held 3 ripe 2 attach 70000",
-    );
-    is_written(
-        &rt,
-        alloc,
-        &Told(json, ROUTER),
-        "{\"kind\":\"router\",\"router\":\"b\",\"generation\":18446744073709551615,\
-        \"held\":3,\"ripe\":2,\"notices\":70000}",
-    );
-    is_written(
-        &rt,
-        alloc,
-        &Told(people, machine(prefix)),
-        "b 10.0.0.0/8 active 3 RD 4294967294 FD inf unreachable",
-    );
-    is_written(
-        &rt,
-        alloc,
-        &Told(json, machine(prefix)),
-        "{\"kind\":\"machine\",\"router\":\"b\",\"prefix\":\"10.0.0.0/8\",\"active\":3,\
-        \"rd\":4294967294,\"fd\":null,\"entry\":\"unreachable\"}",
-    );
-    is_written(
-        &rt,
-        alloc,
-        &Told(people, row(prefix)),
-        "b 10.0.0.0/8 via a 65535",
-    );
-    is_written(
-        &rt,
-        alloc,
-        &Told(json, row(prefix)),
-        "{\"kind\":\"row\",\"router\":\"b\",\"prefix\":\"10.0.0.0/8\",\"entry\":\"via\",\
-        \"neighbour\":\"a\",\"session\":65535}",
-    );
-    is_written(
-        &rt,
-        alloc,
-        &Told(people, Asked::Packet(u64::MAX, ANSWER)),
-        "packet 18446744073709551615 a 255.255.255.255: none",
-    );
-    is_written(
-        &rt,
-        alloc,
-        &Told(json, Asked::Packet(u64::MAX, ANSWER)),
-        "{\"kind\":\"packet\",\"job\":18446744073709551615,\"router\":\"a\",\
-        \"address\":\"255.255.255.255\",\"prefix\":null,\"entry\":null}",
-    );
+    let rows = [
+        (
+            Line::Link(link(&rt)),
+            "link b a down 65535 1 65535 queued 0 70000",
+            "{\"kind\":\"link\",\"a\":\"b\",\"b\":\"a\",\"up\":false,\"session\":65535,\
+            \"costs\":[1,65535],\"queued\":[0,70000]}",
+        ),
+        (
+            Line::Router(ROUTER),
+            "b gen 18446744073709551615 held 3 ripe 2 attach 70000",
+            "{\"kind\":\"router\",\"router\":\"b\",\"generation\":18446744073709551615,\
+            \"held\":3,\"ripe\":2,\"notices\":70000}",
+        ),
+        (
+            Line::Machine(machine(prefix)),
+            "b 10.0.0.0/8 active 3 RD 4294967294 FD inf unreachable",
+            "{\"kind\":\"machine\",\"router\":\"b\",\"prefix\":\"10.0.0.0/8\",\"active\":3,\
+            \"rd\":4294967294,\"fd\":null,\"entry\":\"unreachable\"}",
+        ),
+        (
+            Line::Asked(row(prefix)),
+            "b 10.0.0.0/8 via a 65535",
+            "{\"kind\":\"row\",\"router\":\"b\",\"prefix\":\"10.0.0.0/8\",\"entry\":\"via\",\
+            \"neighbour\":\"a\",\"session\":65535}",
+        ),
+        (
+            Line::Asked(Asked::Packet(u64::MAX, ANSWER)),
+            "packet 18446744073709551615 a 255.255.255.255: none",
+            "{\"kind\":\"packet\",\"job\":18446744073709551615,\"router\":\"a\",\
+            \"address\":\"255.255.255.255\",\"prefix\":null,\"entry\":null}",
+        ),
+    ];
+    for (line, text, object) in &rows {
+        is_written(&rt, alloc, &Told(people, line), text);
+        is_written(&rt, alloc, &Told(json, line), object);
+    }
 }

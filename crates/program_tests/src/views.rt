@@ -210,26 +210,36 @@ fn step_of_a_journal_is_refused(rt: HostRuntime) {
 
 const REFUSED: &[u8] = b"routers = [\"a\"]\nlinks = []\nprefixes = []\nscript = [\"release a\"]\n";
 
+// What is shown of which scenario, beside what, and how it ends.
+static FAULTS: [(ViewWords<'static>, &[u8], &[u8], (&str, u8)); 4] = [
+    (PAGE, b"routers = 1", b"", ("dualnet: 41 BadKey\n", 1)),
+    (
+        IN_TIME,
+        SCENARIO,
+        b"link = -1\n",
+        ("dualnet: 41 BadKey in the times\n", 1),
+    ),
+    (
+        JOURNAL,
+        SCENARIO,
+        b"dualnet journal 3\n",
+        ("dualnet: 48 BadJournal at line 1\n", 1),
+    ),
+    (
+        LINES,
+        REFUSED,
+        b"",
+        ("dualnet: 18 NothingRipe at script 0\n", 2),
+    ),
+];
+
 // A scenario whose script is refused has no run.
 #[test]
 fn nothing_is_shown_of_a_fault(rt: HostRuntime) {
-    let alloc = rt.alloc();
-    let end = ("dualnet: 41 BadKey\n", 1);
-    is(&rt, &shown(&rt, alloc, &PAGE, b"routers = 1", b"", end), "");
-    let end = ("dualnet: 41 BadKey in the times\n", 1);
-    is(
-        &rt,
-        &shown(&rt, alloc, &IN_TIME, SCENARIO, b"link = -1\n", end),
-        "",
-    );
-    let end = ("dualnet: 48 BadJournal at line 1\n", 1);
-    is(
-        &rt,
-        &shown(&rt, alloc, &JOURNAL, SCENARIO, b"dualnet journal 3\n", end),
-        "",
-    );
-    let end = ("dualnet: 18 NothingRipe at script 0\n", 2);
-    is(&rt, &shown(&rt, alloc, &LINES, REFUSED, b"", end), "");
+    for row in &FAULTS {
+        let out = shown(&rt, rt.alloc(), &row.0, row.1, row.2, row.3);
+        is(&rt, &out, "");
+    }
 }
 
 #[test]
