@@ -1,14 +1,15 @@
 //! Images of an array and blocks, for each width of the array. A scan over a plain list of the rows says
 //! what they have to answer.
 
+use crate::equal_to::{equal, holds};
 use crate::images::NESTED;
-use crate::refusals::ballast;
-use crate::values::{addr, equal, prefix, via};
+use crate::refusals::{ROOM, ballast};
+use crate::values::{addr, prefix, via};
 use array_bitmap::parts::{
     FirstBits, copy, empty, remove_row, set_generation, set_row, set_rows, widen, widened, with,
 };
 use array_bitmap::{Entry, Image, Prefix, next_prefix};
-use linked_list_allocator::LocalHeap;
+use linked_list_allocator::LocalHeap as Heap;
 use std::alloc::{Allocator, Global};
 use std::process::Abort;
 
@@ -57,20 +58,20 @@ impl Both {
 
     fn set(&mut self, rt: &impl Abort, prefix: Prefix, entry: Entry) {
         set_row(&mut self.image, prefix, entry).expect(rt, "memory");
-        for row in self.rows.iter_mut() {
-            if row.0 == prefix {
-                row.1 = entry;
-                return;
-            }
-        }
+        self.forget(prefix);
         self.rows.push((prefix, entry)).expect(rt, "memory");
     }
 
     fn remove(&mut self, rt: &impl Abort, prefix: Prefix) {
+        let found = self.forget(prefix);
+        equal(rt, remove_row(&mut self.image, prefix), found);
+    }
+
+    // Takes the row of a prefix out of the list, and tells whether there was one.
+    fn forget(&mut self, prefix: Prefix) -> bool {
         let before = self.rows.len();
         self.rows.retain(|row| row.0 != prefix);
-        let found = self.rows.len() < before;
-        equal(rt, remove_row(&mut self.image, prefix), found);
+        self.rows.len() < before
     }
 
     // The row with the longest prefix that covers an address, by a scan.
@@ -164,20 +165,30 @@ fn remove_all(rt: &impl Abort, both: &mut Both) {
     }
 }
 
+static ADDRS: [u32; 4] = [AT, 0, u32::MAX, AT + 1];
+
+// Takes the rows that cover the address out, the longest first.
+fn remove_covering(rt: &impl Abort, alloc: Global, both: &mut Both) {
+    for len in 0..33u8 {
+        both.remove(rt, Prefix::covering(AT, 32 - len));
+        both.answers(rt, alloc, &ADDRS);
+    }
+}
+
+fn come_in_all_lengths(rt: &impl Abort, alloc: Global, both: &mut Both) {
+    both.answers(rt, alloc, &ADDRS);
+    set_hostile(rt, both);
+    both.agrees(rt, alloc);
+    both.lists(rt);
+    remove_covering(rt, alloc, both);
+    remove_all(rt, both);
+    both.answers(rt, alloc, &ADDRS);
+}
+
 #[test]
 fn rows_of_all_lengths(rt: HostRuntime) {
     for bits in WIDTHS {
-        let mut both = Both::new(&rt, rt.alloc(), bits);
-        both.answers(&rt, rt.alloc(), &[AT, 0, u32::MAX]);
-        set_hostile(&rt, &mut both);
-        both.agrees(&rt, rt.alloc());
-        both.lists(&rt);
-        for len in 0..33u8 {
-            both.remove(&rt, Prefix::covering(AT, 32 - len));
-            both.answers(&rt, rt.alloc(), &[AT, 0, u32::MAX, AT + 1]);
-        }
-        remove_all(&rt, &mut both);
-        both.answers(&rt, rt.alloc(), &[AT, 0, u32::MAX]);
+        come_in_all_lengths(&rt, rt.alloc(), &mut Both::new(&rt, rt.alloc(), bits));
     }
 }
 
@@ -222,31 +233,39 @@ fn change(rt: &impl Abort, both: &mut Both, draws: &mut Draws) {
     }
 }
 
+fn come_at_random(rt: &impl Abort, alloc: Global, both: &mut Both, draws: &mut Draws) {
+    change(rt, both, draws);
+    both.agrees(rt, alloc);
+    change(rt, both, draws);
+    both.agrees(rt, alloc);
+    both.lists(rt);
+}
+
 #[test]
 fn rows_at_random(rt: HostRuntime) {
     let mut draws = Draws { state: 1993 };
     for bits in WIDTHS {
         let mut both = Both::new(&rt, rt.alloc(), bits);
-        for _ in 0..2 {
-            change(&rt, &mut both, &mut draws);
-            both.agrees(&rt, rt.alloc());
-        }
-        both.lists(&rt);
+        come_at_random(&rt, rt.alloc(), &mut both, &mut draws);
     }
 }
 
 // As many addresses as go down side by side, one more, one less, one and none.
+fn answers_bursts(rt: &impl Abort, alloc: Global, both: &Both) {
+    let addrs = both.addrs(rt, alloc);
+    holds(rt, addrs.len() > 66);
+    for count in [0, 1, 31, 32, 33, 64, 65] {
+        both.answers(rt, alloc, &addrs[..count]);
+    }
+}
+
 #[test]
 fn bursts_of_each_size(rt: HostRuntime) {
     let mut draws = Draws { state: 7 };
     for bits in WIDTHS {
         let mut both = Both::new(&rt, rt.alloc(), bits);
         change(&rt, &mut both, &mut draws);
-        let addrs = both.addrs(&rt, rt.alloc());
-        assert!(rt; addrs.len() > 66);
-        for count in [0, 1, 31, 32, 33, 64, 65] {
-            both.answers(&rt, rt.alloc(), &addrs[..count]);
-        }
+        answers_bursts(&rt, rt.alloc(), &both);
     }
 }
 
@@ -260,20 +279,20 @@ fn come_and_go(rt: &impl Abort, both: &mut Both) {
 }
 
 // What rows needed that are gone serves those that come.
+fn come_and_go_again(rt: &impl Abort, both: &mut Both) {
+    come_and_go(rt, both);
+    let bytes = both.image.bytes();
+    for _ in 0..20 {
+        come_and_go(rt, both);
+    }
+    let left = (both.image.bytes(), both.image.lookup(AT));
+    equal(rt, left, (bytes, None));
+}
+
 #[test]
 fn array_rows_that_come_and_go_take_no_more_memory(rt: HostRuntime) {
     for bits in WIDTHS {
-        let mut both = Both::new(&rt, rt.alloc(), bits);
-        come_and_go(&rt, &mut both);
-        let bytes = both.image.bytes();
-        for _ in 0..20 {
-            come_and_go(&rt, &mut both);
-        }
-        equal(
-            &rt,
-            (both.image.bytes(), both.image.lookup(AT)),
-            (bytes, None),
-        );
+        come_and_go_again(&rt, &mut Both::new(&rt, rt.alloc(), bits));
     }
 }
 
@@ -284,15 +303,20 @@ fn copies_and_wider_images_have_the_rows(rt: HostRuntime) {
     change(&rt, &mut both, &mut draws);
     set_generation(&mut both.image, 5);
     for bits in WIDTHS {
-        let old = widened(&both.image, rt.alloc(), bits).expect(&rt, "memory");
-        let mut other = copy(&old, rt.alloc()).expect(&rt, "memory");
-        let gone = prefix(&rt, "10.0.0.0/8");
-        set_row(&mut other, gone, via(1)).expect(&rt, "memory");
-        equal(&rt, (old.generation(), other.generation()), (5, 5));
-        both.image = old;
-        both.agrees(&rt, rt.alloc());
-        equal(&rt, other.lookup(0x0a80_0000), Some((gone, via(1))));
+        is_copied(&rt, rt.alloc(), &mut both, bits);
     }
+}
+
+// A row that is set in a copy of the wider image is in no other.
+fn is_copied(rt: &impl Abort, alloc: Global, both: &mut Both, bits: FirstBits) {
+    both.image = widened(&both.image, alloc, bits).expect(rt, "memory");
+    let mut other = copy(&both.image, alloc).expect(rt, "memory");
+    let row = (prefix(rt, "10.0.0.0/8"), via(1));
+    set_row(&mut other, row.0, row.1).expect(rt, "memory");
+    both.agrees(rt, alloc);
+    let generations = (both.image.generation(), other.generation());
+    equal(rt, generations, (5, 5));
+    equal(rt, other.lookup(0x0a80_0000), Some(row));
 }
 
 #[test]
@@ -313,14 +337,19 @@ fn far(i: u32) -> Prefix {
     Prefix::covering(i.wrapping_mul(0x9e37_79b1), 32)
 }
 
-// An image with so many rows, which are set one by one, and is widened as it grows.
-fn grown<A: Allocator + Copy>(rt: &impl Abort, alloc: A, count: u32) -> Image<A> {
-    let mut image = empty(alloc).expect(rt, "memory");
+// Sets these rows one by one.
+fn set_far<A: Allocator + Copy>(rt: &impl Abort, image: &mut Image<A>, count: u32) {
     for i in 0..count {
-        set_row(&mut image, far(i), Entry::Local).expect(rt, "memory");
-        widen(&mut image, alloc);
+        set_row(image, far(i), Entry::Local).expect(rt, "memory");
     }
-    image
+}
+
+// Sets these rows one by one, in an image that is widened as it grows.
+fn grow<A: Allocator + Copy>(rt: &impl Abort, image: &mut Image<A>, alloc: A, from: u32, to: u32) {
+    for i in from..to {
+        set_row(image, far(i), Entry::Local).expect(rt, "memory");
+        widen(image, alloc);
+    }
 }
 
 // Whether two numbers differ by less than a fifth of the greater one.
@@ -328,95 +357,112 @@ fn close(one: usize, other: usize) -> bool {
     one / 5 * 4 < other && other / 5 * 4 < one
 }
 
-// Such an image takes as much memory as one that was made for so many rows.
+// An image that grew takes as much memory as one that was made for so many rows.
+fn is_as_large(rt: &impl Abort, alloc: Global, count: u32) {
+    let mut image = empty(alloc).expect(rt, "memory");
+    grow(rt, &mut image, alloc, 0, count);
+    let mut whole = with(alloc, FirstBits::for_rows(count as usize)).expect(rt, "memory");
+    set_far(rt, &mut whole, count);
+    holds(rt, close(image.bytes(), whole.bytes()));
+}
+
 #[test]
 fn images_are_widened_as_they_grow(rt: HostRuntime) {
     for count in [60, 200, 2000] {
-        let image = grown(&rt, rt.alloc(), count);
-        let bits = FirstBits::for_rows(count as usize);
-        let mut whole = with(rt.alloc(), bits).expect(&rt, "memory");
-        for i in 0..count {
-            set_row(&mut whole, far(i), Entry::Local).expect(&rt, "memory");
-        }
-        assert!(rt; close(image.bytes(), whole.bytes()), "of {count}");
+        is_as_large(&rt, rt.alloc(), count);
     }
 }
 
-// An image takes a heap, but for what is left in pieces of 1,024 bytes.
-#[test]
-fn an_image_that_cannot_be_widened_stays(rt: HostRuntime) {
-    let heap = LocalHeap::new(rt.alloc(), 1 << 17).expect(&rt, "memory");
-    let mut image = empty(&heap).expect(&rt, "room");
-    for i in 0..100 {
-        set_row(&mut image, far(i), Entry::Local).expect(&rt, "room");
-    }
-    let bytes = image.bytes();
-    let mut pieces = Vec::new(rt.alloc());
+// All of a heap that is left in pieces of 1,024 bytes.
+fn pieces<'h>(rt: &impl Abort, alloc: Global, heap: &'h Heap) -> Vec<Vec<u8, &'h Heap>> {
+    let mut pieces = Vec::new(alloc);
     for _ in 0..128 {
-        if let Ok(piece) = Vec::<u8, _>::with_capacity(&heap, 1024) {
-            pieces.push(piece).expect(&rt, "memory");
+        if let Ok(piece) = Vec::with_capacity(heap, 1024) {
+            pieces.push(piece).expect(rt, "memory");
         }
     }
-    widen(&mut image, &heap);
-    equal(&rt, (image.bytes(), image.row_count()), (bytes, 100));
-    drop(pieces);
+    pieces
+}
+
+// An image takes a heap, but for what is left in those pieces.
+fn stays<'h>(rt: &impl Abort, alloc: Global, heap: &'h Heap, image: &mut Image<&'h Heap>) {
+    let bytes = image.bytes();
+    let _pieces = pieces(rt, alloc, heap);
+    widen(image, heap);
+    equal(rt, (image.bytes(), image.row_count()), (bytes, 100));
+}
+
+#[test]
+fn an_image_that_cannot_be_widened_stays(rt: HostRuntime) {
+    let heap = Heap::new(rt.alloc(), 1 << 17).expect(&rt, "memory");
+    let mut image = empty(&heap).expect(&rt, "room");
+    set_far(&rt, &mut image, 100);
+    stays(&rt, rt.alloc(), &heap, &mut image);
     // It is tried again with twice the words.
-    for i in 100..250 {
-        set_row(&mut image, far(i), Entry::Local).expect(&rt, "room");
-        widen(&mut image, &heap);
-    }
-    equal(&rt, image.row_count(), 250);
-    equal(
-        &rt,
-        image.lookup(far(249).addr()),
-        Some((far(249), Entry::Local)),
-    );
+    grow(&rt, &mut image, &heap, 100, 250);
+    has_far(&rt, &image, 250, Entry::Local);
+}
+
+// The image has so many of these rows, the last of which has this entry.
+fn has_far(rt: &impl Abort, image: &Image<&Heap>, count: u32, entry: Entry) {
+    let last = far(count.saturating_sub(1));
+    equal(rt, image.row_count(), count as usize);
+    equal(rt, image.lookup(last.addr()), Some((last, entry)));
 }
 
 // An image with five rows, which fill its pool.
-fn five_rows<'h>(rt: &impl Abort, heap: &'h LocalHeap) -> Image<&'h LocalHeap> {
+fn five_rows<'h>(rt: &impl Abort, heap: &'h Heap) -> Image<&'h Heap> {
     let mut image = empty(heap).expect(rt, "room");
-    for i in 0..5 {
-        set_row(&mut image, far(i), Entry::Local).expect(rt, "room");
-    }
+    set_far(rt, &mut image, 5);
     image
 }
 
 // Whether two rows more are refused with so many bytes left.
-pub(crate) fn set_two(rt: &impl Abort, heap: &LocalHeap, left: usize) -> bool {
+fn are_two_refused(rt: &impl Abort, heap: &Heap, left: usize, image: &mut Image<&Heap>) -> bool {
+    let _weight = ballast(rt, heap, left);
     let rows = [(far(5), Entry::Local), (far(6), Entry::Unreachable)];
-    let mut image = five_rows(rt, heap);
-    let weight = ballast(rt, heap, left);
-    let first = set_rows(&mut image, &rows);
-    drop(weight);
-    if first.is_err() {
-        equal(rt, image.row_count(), 5);
-        set_rows(&mut image, &rows).expect(rt, "room");
-    }
-    equal(rt, image.row_count(), 7);
-    equal(rt, image.lookup(far(6).addr()), Some(rows[1]));
-    first.is_err()
+    set_rows(image, &rows).is_err()
 }
 
-// Whether a copy is refused, or an image made anew.
-pub(crate) fn copy_five(rt: &impl Abort, heap: &LocalHeap, left: usize, anew: bool) -> bool {
+// An image of five rows takes two more.
+pub(crate) fn set_two(rt: &impl Abort, heap: &Heap, left: usize) -> bool {
+    let mut image = five_rows(rt, heap);
+    let is_refused = are_two_refused(rt, heap, left, &mut image);
+    if is_refused {
+        equal(rt, image.row_count(), 5);
+        holds(rt, !are_two_refused(rt, heap, ROOM, &mut image));
+    }
+    has_far(rt, &image, 7, Entry::Unreachable);
+    is_refused
+}
+
+// Whether a copy is refused with so many bytes left, or an image made anew.
+fn is_copy_refused<'h>(
+    rt: &impl Abort,
+    heap: &'h Heap,
+    left: usize,
+    image: &Image<&'h Heap>,
+    anew: bool,
+) -> bool {
+    let _weight = ballast(rt, heap, left);
+    let other = if anew {
+        widened(image, heap, FirstBits::Four)
+    } else {
+        copy(image, heap)
+    };
+    if let Ok(other) = &other {
+        has_far(rt, other, 5, Entry::Local);
+    }
+    other.is_err()
+}
+
+// An image of five rows is copied, or made anew. A refusal leaves nothing behind.
+pub(crate) fn copy_five(rt: &impl Abort, heap: &Heap, left: usize, anew: bool) -> bool {
     let image = five_rows(rt, heap);
     let used = heap.used();
-    let weight = ballast(rt, heap, left);
-    let first = if anew {
-        widened(&image, heap, FirstBits::Four)
-    } else {
-        copy(&image, heap)
-    };
-    drop(weight);
-    if let Ok(other) = &first {
-        equal(
-            rt,
-            (other.row_count(), other.lookup(far(4).addr())),
-            (5, Some((far(4), Entry::Local))),
-        );
-        return false;
+    let is_refused = is_copy_refused(rt, heap, left, &image, anew);
+    if is_refused {
+        equal(rt, (heap.used(), image.row_count()), (used, 5));
     }
-    equal(rt, (heap.used(), image.row_count()), (used, 5));
-    true
+    is_refused
 }

@@ -1,12 +1,14 @@
 //! Copies of worlds and of what they are made of.
 
+use crate::equal_to::{equal, holds};
 use crate::gates::held;
 use crate::links::one_link;
 use crate::routers::{one_port, take, up};
-use crate::values::{equal, ten, update, via};
-use crate::worlds::{LEARNS, do_all, does, second, two_routers};
+use crate::values::{update, via};
+use crate::worlds::{LEARNS, do_all, does, one_link_is_up, second, two_routers};
 use network_model::{End, Entry, Item};
 use release_gate::Gate;
+use test_support::ten;
 use world::Step;
 
 // Router 1 learns that its link is gone, and publishes that.
@@ -31,7 +33,7 @@ fn a_copy_of_a_world_goes_its_own_way(rt: HostRuntime) {
         Some(via(0)),
     );
     does(&rt, &mut world, Step::Release { router: 1 }, Ok(()));
-    assert!(rt; world.links().len() == 1 && world.links().is_up(0));
+    one_link_is_up(&rt, &world);
 }
 
 #[test]

@@ -1,4 +1,5 @@
-use crate::values::{equal, update};
+use crate::equal_to::equal;
+use crate::values::update;
 use network_model::Held;
 use release_gate::Gate;
 

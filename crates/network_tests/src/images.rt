@@ -1,6 +1,7 @@
 //! Rows that are set, and addresses that are looked up.
 
-use crate::values::{addr, equal, prefix, via};
+use crate::equal_to::equal;
+use crate::values::{addr, prefix, via};
 use std::alloc::Global;
 use std::process::Abort;
 use tree_bitmap::parts::{empty, set_row, set_rows};
@@ -14,7 +15,7 @@ fn set(rt: &impl Abort, image: &mut Image, text: &str, port: u8) {
 // The longest match of an address is this row.
 pub(crate) fn finds(rt: &impl Abort, image: &Image, at: &str, text: &str, entry: Entry) {
     let row = (prefix(rt, text), entry);
-    assert_eq!(rt; image.lookup(addr(rt, at)), Some(row), "at {at}");
+    equal(rt, (at, image.lookup(addr(rt, at))), (at, Some(row)));
 }
 
 // Six rows, of which some lie in others, each by way of a port of its own.

@@ -43,6 +43,8 @@ mod compiled;
 #[cfg(test)]
 mod copies;
 #[cfg(test)]
+mod equal_to;
+#[cfg(test)]
 mod gates;
 #[cfg(test)]
 mod images;

@@ -1,4 +1,5 @@
-use crate::values::{cost, equal, update};
+use crate::equal_to::{equal, holds};
+use crate::values::{cost, update};
 use link_fifo::{LinkRefusal, Links, Put};
 use network_model::{End, Item, LinkSpec};
 use std::alloc::Allocator;
@@ -53,7 +54,7 @@ fn items_come_out_in_order(rt: HostRuntime) {
     links.set_cost(0, End::B, cost).expect(&rt, "cost");
     puts(&rt, &mut links, Put::Queued);
     takes_up(&rt, &mut links, 1);
-    assert_eq!(rt; links.front(0, End::B), told);
+    holds(&rt, links.front(0, End::B) == told);
     takes(&rt, &mut links, told);
     takes(&rt, &mut links, Ok(Item::Message(update())));
     takes_nothing(&rt, &mut links);
@@ -105,6 +106,6 @@ fn are_spent(rt: &impl Abort, links: &mut Links) {
 }
 
 fn is_in_session(rt: &impl Abort, links: &Links, session: u16) {
-    assert!(rt; links.len() == 1);
+    holds(rt, links.len() == 1);
     equal(rt, links.session(0), session);
 }

@@ -1,6 +1,6 @@
 //! Rows of a machine with ports 0 and 1 up at cost 1. Its attachment has the number 2.
 
-use crate::values::equal;
+use crate::equal_to::equal;
 use dual_machine::{Cost, Debt, Distance, Event, Kind, Machine, Mode, PortInfo, PortSet, Sends};
 use std::alloc::Global;
 use std::process::Abort;
@@ -9,7 +9,7 @@ use std::process::Abort;
 enum Told {
     Nothing,
     // A message, with a distance, comes from a port.
-    Message(Kind, u32, u8),
+    Heard(Kind, u32, u8),
     // The link of a port has a cost.
     Cost(u8, u32),
     Attached(u32),
@@ -43,7 +43,7 @@ impl Told {
     fn event(&self, rt: &impl Abort) -> Option<Event> {
         match *self {
             Told::Nothing => None,
-            Told::Message(kind, value, port) => {
+            Told::Heard(kind, value, port) => {
                 let value = Distance::new(value);
                 Some(Event::Message { port, kind, value })
             }
@@ -131,19 +131,13 @@ fn goes(rt: &impl Abort, alloc: Global, attachment: Option<Cost>, first: &[Row],
 
 static A_COST_RISES_AGAIN: [Row; 8] = [
     Row(
-        Told::Message(Kind::Update, 0, 0),
+        Told::Heard(Kind::Update, 0, 0),
         (1, 1),
         Some(0),
         None,
         &[(Kind::Update, 1, 0), (Kind::Update, 1, 1)],
     ),
-    Row(
-        Told::Message(Kind::Update, 2, 1),
-        (1, 1),
-        Some(0),
-        None,
-        &[],
-    ),
+    Row(Told::Heard(Kind::Update, 2, 1), (1, 1), Some(0), None, &[]),
     Row(
         Told::Cost(0, 10),
         (10, 1),
@@ -152,7 +146,7 @@ static A_COST_RISES_AGAIN: [Row; 8] = [
         &[(Kind::Query, 10, 0), (Kind::Query, 10, 1)],
     ),
     Row(
-        Told::Message(Kind::Reply, 0, 0),
+        Told::Heard(Kind::Reply, 0, 0),
         (10, 1),
         Some(0),
         Some((1, ONLY_1, None)),
@@ -166,21 +160,21 @@ static A_COST_RISES_AGAIN: [Row; 8] = [
         &[],
     ),
     Row(
-        Told::Message(Kind::Reply, 11, 1),
+        Told::Heard(Kind::Reply, 11, 1),
         (20, 10),
         Some(0),
         Some((1, BOTH, None)),
         &[(Kind::Query, 20, 0), (Kind::Query, 20, 1)],
     ),
     Row(
-        Told::Message(Kind::Reply, 0, 0),
+        Told::Heard(Kind::Reply, 0, 0),
         (20, 10),
         Some(0),
         Some((1, ONLY_1, None)),
         &[],
     ),
     Row(
-        Told::Message(Kind::Reply, 12, 1),
+        Told::Heard(Kind::Reply, 12, 1),
         (13, 13),
         Some(1),
         None,
@@ -196,35 +190,35 @@ fn a_cost_rises_again(rt: HostRuntime) {
 // The successor asks, and asks again; the other port asks in between, and its reply is awaited.
 static IS_ASKED_TWICE: [Row; 5] = [
     Row(
-        Told::Message(Kind::Update, 0, 0),
+        Told::Heard(Kind::Update, 0, 0),
         (1, 1),
         Some(0),
         None,
         &[(Kind::Update, 1, 0), (Kind::Update, 1, 1)],
     ),
     Row(
-        Told::Message(Kind::Query, 5, 0),
+        Told::Heard(Kind::Query, 5, 0),
         (6, 1),
         Some(0),
         Some((3, BOTH, Some(0))),
         &[(Kind::Query, 6, 0), (Kind::Query, 6, 1)],
     ),
     Row(
-        Told::Message(Kind::Query, 7, 0),
+        Told::Heard(Kind::Query, 7, 0),
         (6, 1),
         Some(0),
         Some((2, BOTH, Some(0))),
         &[],
     ),
     Row(
-        Told::Message(Kind::Reply, 7, 0),
+        Told::Heard(Kind::Reply, 7, 0),
         (6, 1),
         Some(0),
         Some((2, ONLY_1, Some(0))),
         &[],
     ),
     Row(
-        Told::Message(Kind::Query, 3, 1),
+        Told::Heard(Kind::Query, 3, 1),
         (6, 1),
         Some(0),
         Some((2, ONLY_1, Some(0))),
@@ -233,7 +227,7 @@ static IS_ASKED_TWICE: [Row; 5] = [
 ];
 
 static PAYS: [Row; 1] = [Row(
-    Told::Message(Kind::Reply, 4, 1),
+    Told::Heard(Kind::Reply, 4, 1),
     (5, 5),
     Some(1),
     None,
@@ -241,7 +235,7 @@ static PAYS: [Row; 1] = [Row(
 )];
 
 static KEEPS: [Row; 1] = [Row(
-    Told::Message(Kind::Reply, 20, 1),
+    Told::Heard(Kind::Reply, 20, 1),
     (8, 6),
     Some(0),
     Some((3, BOTH, Some(0))),
@@ -261,13 +255,7 @@ fn the_debt_is_kept(rt: HostRuntime) {
 // The attachment grows dearer, twice while the neighbours are asked, and a neighbour takes its place.
 static GROWS_DEARER: [Row; 6] = [
     Row(Told::Nothing, (3, 3), Some(2), None, &[]),
-    Row(
-        Told::Message(Kind::Update, 4, 0),
-        (3, 3),
-        Some(2),
-        None,
-        &[],
-    ),
+    Row(Told::Heard(Kind::Update, 4, 0), (3, 3), Some(2), None, &[]),
     Row(
         Told::Attached(8),
         (8, 3),
@@ -283,14 +271,14 @@ static GROWS_DEARER: [Row; 6] = [
         &[],
     ),
     Row(
-        Told::Message(Kind::Reply, 4, 0),
+        Told::Heard(Kind::Reply, 4, 0),
         (8, 3),
         Some(2),
         Some((0, ONLY_1, None)),
         &[],
     ),
     Row(
-        Told::Message(Kind::Reply, INF, 1),
+        Told::Heard(Kind::Reply, INF, 1),
         (5, 5),
         Some(0),
         None,
@@ -306,7 +294,7 @@ fn the_attachment_grows_dearer(rt: HostRuntime) {
 
 static IS_LOST: [Row; 5] = [
     Row(
-        Told::Message(Kind::Update, 4, 0),
+        Told::Heard(Kind::Update, 4, 0),
         (5, 5),
         Some(0),
         None,
@@ -327,14 +315,14 @@ static IS_LOST: [Row; 5] = [
         &[(Kind::Query, INF, 0), (Kind::Query, INF, 1)],
     ),
     Row(
-        Told::Message(Kind::Reply, INF, 1),
+        Told::Heard(Kind::Reply, INF, 1),
         (INF, 1),
         None,
         Some((1, ONLY_0, None)),
         &[],
     ),
     Row(
-        Told::Message(Kind::Reply, 4, 0),
+        Told::Heard(Kind::Reply, 4, 0),
         (5, 5),
         Some(0),
         None,

@@ -1,4 +1,4 @@
-use crate::values::equal;
+use crate::equal_to::{equal, holds};
 use node_pool::{Block, NodePool};
 
 #[test]
@@ -9,7 +9,9 @@ fn nodes_and_results_lie_apart(rt: HostRuntime) {
     let size = 16;
     let base = pool.take_nodes(size, 'n').expect(&rt, "memory");
     let results = pool.take_results(15, 7u8).expect(&rt, "memory");
-    assert_eq!(rt; (root, base, results), (0, 1, 0));
+    holds(&rt, root == 0);
+    holds(&rt, base == 1);
+    equal(&rt, results, 0);
     pool.give(Block::Nodes { base, size });
     let spare = (pool.nodes.spare(16), pool.results.spare(15));
     equal(&rt, spare, (1, 0));

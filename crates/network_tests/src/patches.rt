@@ -1,7 +1,8 @@
 //! An image with a row more.
 
+use crate::equal_to::equal;
 use crate::images::{finds, no_rows, set_all};
-use crate::values::{equal, prefix, via};
+use crate::values::{prefix, via};
 use image_patch::{Apply, Patch};
 use network_model::{Entry, Prefix};
 use std::alloc::Global;

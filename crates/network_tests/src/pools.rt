@@ -1,4 +1,4 @@
-use crate::values::equal;
+use crate::equal_to::equal;
 use node_pool::Pool;
 
 #[test]

@@ -2,25 +2,27 @@
 //! 0, 16, 32 or more bytes; once there is room it ends as if it had never been refused.
 
 use crate::array_images::{copy_five, set_two};
+use crate::equal_to::{equal, holds};
 use crate::gates::held;
 use crate::links::one_link;
 use crate::routers::{one_port, take, up};
-use crate::values::{addr, equal, prefix, ten, update};
+use crate::values::{addr, prefix, update};
 use crate::word_images::set_words;
 use dual_machine::{Cost, Distance, Event, Kind, Machine, PortInfo, Sends};
 use image_compiler::compile;
 use link_fifo::{LinkRefusal, Links};
-use linked_list_allocator::LocalHeap;
-use network_model::{End, Item, NoMemory, SmallAllocator};
+use linked_list_allocator::LocalHeap as Heap;
+use network_model::{End, Item, SmallAllocator};
 use release_gate::Gate;
 use route_table::{Entry, RouteTable};
 use router_core::Router;
 use std::alloc::Global;
 use std::process::Abort;
+use test_support::ten;
 use tree_bitmap::Image;
 
 // More than each of the calls takes.
-const HEAP: usize = 4096;
+pub(crate) const ROOM: usize = 4096;
 
 // What a heap gives is a multiple of so many bytes.
 const UNIT: usize = 16;
@@ -53,19 +55,23 @@ enum Call {
 impl Call {
     // Whether the call is refused with so many bytes left.
     fn is_refused(self, rt: &impl Abort, alloc: Global, left: usize) -> bool {
-        let heap = LocalHeap::new(alloc, HEAP).expect(rt, "memory");
+        let heap = Heap::new(alloc, ROOM).expect(rt, "memory");
+        self.is_refused_by(rt, alloc, &heap, left)
+    }
+
+    fn is_refused_by(self, rt: &impl Abort, alloc: Global, heap: &Heap, left: usize) -> bool {
         match self {
-            Call::Open(count) => open(rt, &heap, left, count),
-            Call::Event => hear(rt, &heap, left),
-            Call::Set => set(rt, &heap, left),
-            Call::Hold => hold(rt, &heap, left),
-            Call::Up => come_up(rt, &heap, left),
-            Call::Compile => compile_two(rt, alloc, &heap, left),
-            Call::SetTwo => set_two(rt, &heap, left),
-            Call::CopyFive(anew) => copy_five(rt, &heap, left, anew),
-            Call::SetWords => set_words(rt, &heap, left),
-            Call::AcceptNotice => accept_notice(rt, &heap, left),
-            Call::AcceptMessage => accept_message(rt, &heap, left),
+            Call::Open(count) => open(rt, heap, left, count),
+            Call::Event => hear(rt, heap, left),
+            Call::Set => set(rt, heap, left),
+            Call::Hold => hold(rt, heap, left),
+            Call::Up => come_up(rt, heap, left),
+            Call::Compile => compile_two(rt, alloc, heap, left),
+            Call::SetTwo => set_two(rt, heap, left),
+            Call::CopyFive(anew) => copy_five(rt, heap, left, anew),
+            Call::SetWords => set_words(rt, heap, left),
+            Call::AcceptNotice => accept_notice(rt, heap, left),
+            Call::AcceptMessage => accept_message(rt, heap, left),
         }
     }
 }
@@ -79,15 +85,12 @@ fn needs_room(rt: &impl Abort, alloc: Global, call: Call) {
             refused = units + 1;
         }
     }
-    assert!(rt; refused > 0 && refused < 128);
+    holds(rt, refused > 0);
+    holds(rt, refused < 128);
 }
 
 // Takes all of the heap but so many bytes, until it is dropped.
-pub(crate) fn ballast<'h>(
-    rt: &impl Abort,
-    heap: &'h LocalHeap,
-    left: usize,
-) -> Vec<u8, &'h LocalHeap> {
+pub(crate) fn ballast<'h>(rt: &impl Abort, heap: &'h Heap, left: usize) -> Vec<u8, &'h Heap> {
     Vec::with_capacity(heap, heap.free().saturating_sub(left)).expect(rt, "memory")
 }
 
@@ -108,7 +111,7 @@ fn shown<A: SmallAllocator>(machine: &Machine<A>) -> (Distance, Distance, Option
 }
 
 // A machine over no port, or so many, that has heard nothing.
-fn is_new(rt: &impl Abort, machine: &Machine<&LocalHeap>, count: usize) {
+fn is_new(rt: &impl Abort, machine: &Machine<&Heap>, count: usize) {
     equal(
         rt,
         shown(machine),
@@ -123,20 +126,25 @@ fn is_new(rt: &impl Abort, machine: &Machine<&LocalHeap>, count: usize) {
     }
 }
 
-fn open(rt: &impl Abort, heap: &LocalHeap, left: usize, count: usize) -> bool {
-    assert!(rt; count <= PORTS.len());
-    let ports = &PORTS[..count];
-    let weight = ballast(rt, heap, left);
-    let first = Machine::new(heap, None, ports);
-    drop(weight);
-    if let Ok(machine) = &first {
-        is_new(rt, machine, count);
-        return false;
+// Whether a machine is refused with so many bytes left.
+fn is_not_opened(rt: &impl Abort, heap: &Heap, left: usize, ports: &[PortInfo]) -> bool {
+    let _weight = ballast(rt, heap, left);
+    holds(rt, ports.len() <= PORTS.len());
+    let made = Machine::new(heap, None, ports);
+    if let Ok(machine) = &made {
+        is_new(rt, machine, ports.len());
     }
-    equal(rt, heap.used(), 0);
-    let again = Machine::new(heap, None, ports).expect(rt, "room");
-    is_new(rt, &again, count);
-    true
+    made.is_err()
+}
+
+fn open(rt: &impl Abort, heap: &Heap, left: usize, count: usize) -> bool {
+    holds(rt, count <= PORTS.len());
+    let is_refused = is_not_opened(rt, heap, left, &PORTS[..count]);
+    if is_refused {
+        equal(rt, heap.used(), 0);
+        holds(rt, !is_not_opened(rt, heap, ROOM, &PORTS[..count]));
+    }
+    is_refused
 }
 
 const UPDATE: Event = Event::Message {
@@ -145,93 +153,119 @@ const UPDATE: Event = Event::Message {
     value: Distance::ZERO,
 };
 
-fn hear(rt: &impl Abort, heap: &LocalHeap, left: usize) -> bool {
+// Whether an update is refused with so many bytes left.
+fn is_not_heard<'h>(
+    rt: &impl Abort,
+    heap: &Heap,
+    left: usize,
+    machine: &mut Machine<&'h Heap>,
+    sends: &mut Sends<&'h Heap>,
+) -> bool {
+    let _weight = ballast(rt, heap, left);
+    holds(rt, machine.is_timely(UPDATE));
+    machine.event(UPDATE, sends).is_err()
+}
+
+fn hear(rt: &impl Abort, heap: &Heap, left: usize) -> bool {
     let mut machine = Machine::new(heap, None, &PORTS[..2]).expect(rt, "room");
     let mut sends = Sends::new(heap);
     let before = shown(&machine);
-    let weight = ballast(rt, heap, left);
-    assert!(rt; machine.is_timely(UPDATE));
-    let first = machine.event(UPDATE, &mut sends);
-    drop(weight);
-    if first == Err(NoMemory) {
+    let is_refused = is_not_heard(rt, heap, left, &mut machine, &mut sends);
+    if is_refused {
         equal(rt, (shown(&machine), sends.as_slice().len()), (before, 0));
-        assert!(rt; machine.is_timely(UPDATE));
-        machine.event(UPDATE, &mut sends).expect(rt, "room");
+        holds(rt, !is_not_heard(rt, heap, ROOM, &mut machine, &mut sends));
     }
-    let one = Distance::new(1);
-    equal(rt, shown(&machine), (one, one, Some(0), true));
-    equal(rt, sends.as_slice().len(), 2);
-    first.is_err()
+    let after = (Distance::new(1), Distance::new(1), Some(0), true);
+    equal(rt, (shown(&machine), sends.as_slice().len()), (after, 2));
+    is_refused
 }
 
-fn set(rt: &impl Abort, heap: &LocalHeap, left: usize) -> bool {
+// Whether a row is refused with so many bytes left.
+fn is_not_set(rt: &impl Abort, heap: &Heap, left: usize, table: &mut RouteTable<&Heap>) -> bool {
+    let _weight = ballast(rt, heap, left);
+    table.set(ten(), Entry::Local).is_err()
+}
+
+fn set(rt: &impl Abort, heap: &Heap, left: usize) -> bool {
     let mut table = RouteTable::new(heap);
-    let weight = ballast(rt, heap, left);
-    let first = table.set(ten(), Entry::Local);
-    drop(weight);
-    if first == Err(NoMemory) {
+    let is_refused = is_not_set(rt, heap, left, &mut table);
+    if is_refused {
         equal(rt, (table.len(), table.get(ten())), (0, None));
-        assert!(rt; !table.is_changed());
-        table.set(ten(), Entry::Local).expect(rt, "room");
+        holds(rt, !table.is_changed());
+        holds(rt, !is_not_set(rt, heap, ROOM, &mut table));
     }
     equal(rt, (table.len(), table.get(ten())), (1, Some(Entry::Local)));
     equal(rt, table.published(ten()), None);
-    first.is_err()
+    is_refused
 }
 
-fn hold(rt: &impl Abort, heap: &LocalHeap, left: usize) -> bool {
+// Whether a message is refused with so many bytes left.
+fn is_not_held(rt: &impl Abort, heap: &Heap, left: usize, gate: &mut Gate<&Heap>) -> bool {
+    let _weight = ballast(rt, heap, left);
+    gate.hold(held(0)).is_err()
+}
+
+fn hold(rt: &impl Abort, heap: &Heap, left: usize) -> bool {
     let mut gate = Gate::new(heap);
-    let weight = ballast(rt, heap, left);
-    let first = gate.hold(held(0));
-    drop(weight);
-    if first == Err(NoMemory) {
+    let is_refused = is_not_held(rt, heap, left, &mut gate);
+    if is_refused {
         equal(rt, gate.held(), 0);
-        gate.hold(held(0)).expect(rt, "room");
+        holds(rt, !is_not_held(rt, heap, ROOM, &mut gate));
     }
     gate.ripen();
     equal(rt, (gate.held(), gate.release()), (1, Some(held(0))));
-    first.is_err()
+    is_refused
 }
 
 // Whether the link is up, and how many notices each end has yet to take.
-fn is_at(rt: &impl Abort, links: &Links<&LocalHeap>, up: bool, notices: usize) {
-    assert!(rt; !links.is_empty());
+fn is_at(rt: &impl Abort, links: &Links<&Heap>, up: bool, notices: usize) {
+    holds(rt, !links.is_empty());
     let queued = (links.queued(0, End::A), links.queued(0, End::B));
     equal(rt, (links.is_up(0), queued), (up, (notices, notices)));
 }
 
-fn come_up(rt: &impl Abort, heap: &LocalHeap, left: usize) -> bool {
-    let mut links = one_link(rt, heap);
-    let weight = ballast(rt, heap, left);
-    let first = links.up(0);
-    drop(weight);
-    if first == Err(LinkRefusal::NoMemory) {
-        is_at(rt, &links, false, 0);
-        links.up(0).expect(rt, "room");
-    }
-    is_at(rt, &links, true, 1);
-    first.is_err()
+// Whether the link may not come up with so many bytes left.
+fn is_not_up(rt: &impl Abort, heap: &Heap, left: usize, links: &mut Links<&Heap>) -> bool {
+    let _weight = ballast(rt, heap, left);
+    matches!(links.up(0), Err(LinkRefusal::NoMemory))
 }
 
-// An image of two rows answers by them, and one that was refused leaves nothing behind.
-fn compile_two(rt: &impl Abort, alloc: Global, heap: &LocalHeap, left: usize) -> bool {
+fn come_up(rt: &impl Abort, heap: &Heap, left: usize) -> bool {
+    let mut links = one_link(rt, heap);
+    let is_refused = is_not_up(rt, heap, left, &mut links);
+    if is_refused {
+        is_at(rt, &links, false, 0);
+        holds(rt, !is_not_up(rt, heap, ROOM, &mut links));
+    }
+    is_at(rt, &links, true, 1);
+    is_refused
+}
+
+// Whether an image is refused with so many bytes left. One that is not answers by the table's two rows.
+fn is_not_compiled(rt: &impl Abort, heap: &Heap, left: usize, table: &RouteTable) -> bool {
+    let _weight = ballast(rt, heap, left);
+    let image = compile(heap, table);
+    if let Ok(image) = &image {
+        answers_by_two(rt, image);
+    }
+    image.is_err()
+}
+
+// A refusal leaves nothing behind.
+fn compile_two(rt: &impl Abort, alloc: Global, heap: &Heap, left: usize) -> bool {
     let mut table = RouteTable::new(alloc);
     table.set(ten(), Entry::Local).expect(rt, "memory");
     let narrow = prefix(rt, "10.1.0.0/16");
     table.set(narrow, Entry::Unreachable).expect(rt, "memory");
-    let weight = ballast(rt, heap, left);
-    let first = compile(heap, &table);
-    drop(weight);
-    if let Ok(image) = &first {
-        answers_by_two(rt, image);
-        return false;
+    let is_refused = is_not_compiled(rt, heap, left, &table);
+    if is_refused {
+        equal(rt, heap.used(), 0);
+        holds(rt, !is_not_compiled(rt, heap, ROOM, &table));
     }
-    equal(rt, heap.used(), 0);
-    answers_by_two(rt, &compile(heap, &table).expect(rt, "room"));
-    true
+    is_refused
 }
 
-fn answers_by_two(rt: &impl Abort, image: &Image<&LocalHeap>) {
+fn answers_by_two(rt: &impl Abort, image: &Image<&Heap>) {
     let narrow = (prefix(rt, "10.1.0.0/16"), Entry::Unreachable);
     equal(rt, image.lookup(addr(rt, "10.1.0.1")), Some(narrow));
     let wide = (ten(), Entry::Local);
@@ -239,40 +273,50 @@ fn answers_by_two(rt: &impl Abort, image: &Image<&LocalHeap>) {
 }
 
 // What a router shows: how many rows it has chosen and messages it holds, and whether it would publish.
-fn told(router: &Router<&LocalHeap>) -> (usize, usize, bool) {
+fn told(router: &Router<&Heap>) -> (usize, usize, bool) {
     (router.table().len(), router.held(), router.due())
+}
+
+// Whether an item is refused with so many bytes left.
+fn is_not_taken(
+    rt: &impl Abort,
+    heap: &Heap,
+    left: usize,
+    router: &mut Router<&Heap>,
+    item: &Item,
+) -> bool {
+    let _weight = ballast(rt, heap, left);
+    holds(rt, router.can_take(0, item));
+    router.accept(0, item).is_err()
 }
 
 fn accept(
     rt: &impl Abort,
-    heap: &LocalHeap,
+    heap: &Heap,
     left: usize,
-    router: &mut Router<&LocalHeap>,
-    item: Item,
+    router: &mut Router<&Heap>,
+    item: &Item,
 ) -> bool {
     let before = told(router);
-    let weight = ballast(rt, heap, left);
-    assert!(rt; router.can_take(0, &item));
-    let first = router.accept(0, &item);
-    drop(weight);
-    if first == Err(NoMemory) {
+    let is_refused = is_not_taken(rt, heap, left, router, item);
+    if is_refused {
         equal(rt, told(router), before);
-        take(rt, router, item);
+        holds(rt, !is_not_taken(rt, heap, ROOM, router, item));
     }
-    first.is_err()
-}
-
-fn accept_notice(rt: &impl Abort, heap: &LocalHeap, left: usize) -> bool {
-    let mut router = one_port(rt, heap, &[]);
-    let is_refused = accept(rt, heap, left, &mut router, up(rt));
-    assert!(rt; router.can_take(0, &Item::Message(update())));
     is_refused
 }
 
-fn accept_message(rt: &impl Abort, heap: &LocalHeap, left: usize) -> bool {
+fn accept_notice(rt: &impl Abort, heap: &Heap, left: usize) -> bool {
+    let mut router = one_port(rt, heap, &[]);
+    let is_refused = accept(rt, heap, left, &mut router, &up(rt));
+    holds(rt, router.can_take(0, &Item::Message(update())));
+    is_refused
+}
+
+fn accept_message(rt: &impl Abort, heap: &Heap, left: usize) -> bool {
     let mut router = one_port(rt, heap, &[]);
     take(rt, &mut router, up(rt));
-    let is_refused = accept(rt, heap, left, &mut router, Item::Message(update()));
+    let is_refused = accept(rt, heap, left, &mut router, &Item::Message(update()));
     equal(rt, told(&router), (1, 1, true));
     is_refused
 }
@@ -327,5 +371,5 @@ fn a_router_needs_room_for_a_new_prefix(rt: HostRuntime) {
 
 #[test]
 fn a_router_without_prefixes_needs_no_room_for_a_notice(rt: HostRuntime) {
-    assert!(rt; !Call::AcceptNotice.is_refused(&rt, rt.alloc(), 0));
+    holds(&rt, !Call::AcceptNotice.is_refused(&rt, rt.alloc(), 0));
 }

@@ -1,6 +1,6 @@
 //! Replies that come.
 
-use crate::values::equal;
+use crate::equal_to::{equal, holds};
 use diffusing_replies::{PortSet, Replies};
 
 #[test]
@@ -13,14 +13,14 @@ fn the_last_reply_ends_the_wait(rt: HostRuntime) {
     replies.came(31);
     replies.lost(0);
     for port in 1..31 {
-        assert!(rt; !replies.is_done());
+        holds(&rt, !replies.is_done());
         replies.came(port);
     }
-    assert!(rt; replies.is_done());
+    holds(&rt, replies.is_done());
     let before = replies;
     replies.came(31);
     equal(&rt, replies, before);
-    assert!(rt; replies.is_done());
+    holds(&rt, replies.is_done());
 }
 
 #[test]
@@ -32,5 +32,6 @@ fn a_reply_that_came_comes_again(rt: HostRuntime) {
     equal(&rt, replies, before);
     let awaited = replies.awaited();
     equal(&rt, awaited, PortSet::empty().with(4));
-    assert!(rt; awaited.has(4) && !awaited.has(31) && !awaited.has(255));
+    let has = (awaited.has(4), awaited.has(31), awaited.has(255));
+    equal(&rt, has, (true, false, false));
 }

@@ -1,7 +1,9 @@
-use crate::values::{cost, equal, ten, update, via};
+use crate::equal_to::{equal, holds};
+use crate::values::{cost, update, via};
 use network_model::{Cost, Distance, Entry, Item, Port, Prefix, SmallAllocator};
 use router_core::Router;
 use std::process::Abort;
+use test_support::ten;
 
 // A router with one port, at cost 5, that is down.
 pub(crate) fn one_port<A: SmallAllocator>(
@@ -20,7 +22,7 @@ pub(crate) fn one_port<A: SmallAllocator>(
 
 // Takes the item, where it may be taken.
 pub(crate) fn take<A: SmallAllocator>(rt: &impl Abort, router: &mut Router<A>, item: Item) {
-    assert!(rt; router.can_take(0, &item));
+    holds(rt, router.can_take(0, &item));
     router.accept(0, &item).expect(rt, "memory");
 }
 
@@ -41,14 +43,14 @@ fn a_router_learns_a_prefix(rt: HostRuntime) {
     equal(&rt, router.table().get(ten()), Some(via(0)));
     let rows = router.patch_rows(rt.alloc()).expect(&rt, "memory");
     equal(&rt, (rows.len(), router.held(), router.ripe()), (1, 1, 0));
-    assert!(rt; router.due() && router.is_passive());
+    equal(&rt, (router.due(), router.is_passive()), (true, true));
 }
 
 #[test]
 fn is_attached_to_a_prefix(rt: HostRuntime) {
     let router = one_port(&rt, rt.alloc(), &[(ten(), cost(&rt, 3))]);
     equal(&rt, router.table().published(ten()), Some(Entry::Local));
-    assert!(rt; !router.due());
+    holds(&rt, !router.due());
 }
 
 // What the router has chosen for 10.0.0.0/8 once it is told this of its attachment, and its distance
@@ -73,5 +75,5 @@ fn is_told_of_its_attachment(rt: HostRuntime) {
         is_told(&rt, &mut router, Some(cost(&rt, value)), chosen);
     }
     is_told(&rt, &mut router, None, (Entry::Unreachable, Distance::INF));
-    assert!(rt; router.is_passive() && router.due());
+    equal(&rt, (router.due(), router.is_passive()), (true, true));
 }

@@ -1,10 +1,12 @@
 //! Networks within limits of the caller's.
 
-use crate::values::{cost, equal, prefix, ten};
+use crate::equal_to::{equal, holds};
+use crate::values::{cost, prefix};
 use crate::worlds::link;
 use network_model::{Cost, Limits};
 use std::alloc::Global;
 use std::process::Abort;
+use test_support::ten;
 use world::{LinkSpec, Network, NetworkFault, Prefix, World};
 
 const SMALL: Limits = Limits {
@@ -15,70 +17,82 @@ const SMALL: Limits = Limits {
     attachments: 3,
 };
 
+fn links_of(rt: &impl Abort, alloc: Global, ends: &[(u16, u16)]) -> Vec<LinkSpec> {
+    let mut links = Vec::new(alloc);
+    for (a, b) in ends {
+        links.push(link(*a, *b, Cost::ONE)).expect(rt, "memory");
+    }
+    links
+}
+
+fn attachments_of(rt: &impl Abort, alloc: Global, at: &[(&str, u16)]) -> Vec<(Prefix, u16, Cost)> {
+    let mut attachments = Vec::new(alloc);
+    for (text, router) in at {
+        let attachment = (prefix(rt, text), *router, Cost::ONE);
+        attachments.push(attachment).expect(rt, "memory");
+    }
+    attachments
+}
+
 // Why a network of these parts cannot be opened within the small limits.
 fn fault(
     rt: &impl Abort,
     alloc: Global,
     routers: usize,
     ends: &[(u16, u16)],
-    attachments: &[(Prefix, u16, Cost)],
+    at: &[(&str, u16)],
 ) -> Option<NetworkFault> {
-    let mut links = Vec::new(alloc);
-    for (a, b) in ends {
-        links.push(link(*a, *b, Cost::ONE)).expect(rt, "memory");
-    }
-    let attachments = Vec::from_slice(alloc, attachments).expect(rt, "memory");
-    assert!(rt; SMALL.are_within(&Limits::WIDEST));
+    let links = links_of(rt, alloc, ends);
+    let attachments = attachments_of(rt, alloc, at);
+    holds(rt, SMALL.are_within(&Limits::WIDEST));
     Network::within(SMALL, routers, links, attachments).err()
 }
 
+const TOO_MANY: Option<NetworkFault> = Some(NetworkFault::TooManyLinks { link: 2 });
+
+static LINKS: [(usize, &[(u16, u16)], Option<NetworkFault>); 7] = [
+    (4, &[(0, 1), (1, 2), (2, 3)], None),
+    (5, &[], Some(NetworkFault::BadRouters)),
+    (4, &[(0, 4)], Some(NetworkFault::BadLink { link: 0 })),
+    (
+        4,
+        &[(0, 1), (1, 0)],
+        Some(NetworkFault::BadLink { link: 1 }),
+    ),
+    (
+        4,
+        &[(0, 1), (1, 2), (2, 3), (3, 0)],
+        Some(NetworkFault::TooManyLinks { link: 3 }),
+    ),
+    (4, &[(0, 1), (0, 2), (0, 3)], TOO_MANY),
+    (4, &[(1, 0), (2, 0), (3, 0)], TOO_MANY),
+];
+
 #[test]
 fn links_are_refused_past_each_limit(rt: HostRuntime) {
-    let rows: [(usize, &[(u16, u16)], Option<NetworkFault>); 7] = [
-        (4, &[(0, 1), (1, 2), (2, 3)], None),
-        (5, &[], Some(NetworkFault::BadRouters)),
-        (4, &[(0, 4)], Some(NetworkFault::BadLink { link: 0 })),
-        (
-            4,
-            &[(0, 1), (1, 0)],
-            Some(NetworkFault::BadLink { link: 1 }),
-        ),
-        (
-            4,
-            &[(0, 1), (1, 2), (2, 3), (3, 0)],
-            Some(NetworkFault::TooManyLinks { link: 3 }),
-        ),
-        (
-            4,
-            &[(0, 1), (0, 2), (0, 3)],
-            Some(NetworkFault::TooManyLinks { link: 2 }),
-        ),
-        (
-            4,
-            &[(1, 0), (2, 0), (3, 0)],
-            Some(NetworkFault::TooManyLinks { link: 2 }),
-        ),
-    ];
-    for (routers, ends, wanted) in rows {
-        equal(&rt, fault(&rt, rt.alloc(), routers, ends, &[]), wanted);
+    for (routers, ends, wanted) in &LINKS {
+        equal(&rt, fault(&rt, rt.alloc(), *routers, ends, &[]), *wanted);
     }
 }
 
+const TEN: &str = "10.0.0.0/8";
+
+const ONE: &str = "10.1.0.0/16";
+
+// The attachment of this place is refused.
+static ATTACHMENTS: [(&[(&str, u16)], Option<usize>); 5] = [
+    (&[(TEN, 0), (ONE, 0), (TEN, 1)], None),
+    (&[(TEN, 0), (ONE, 0), ("0.0.0.0/0", 0)], Some(2)),
+    (&[(TEN, 0), (TEN, 1), (TEN, 2), (TEN, 3)], Some(3)),
+    (&[(TEN, 0), (ONE, 0), (TEN, 0)], Some(2)),
+    (&[(TEN, 4)], Some(0)),
+];
+
 #[test]
 fn attachments_are_refused_past_each_limit(rt: HostRuntime) {
-    let (one, other) = (prefix(&rt, "10.1.0.0/16"), prefix(&rt, "0.0.0.0/0"));
-    let at = |prefix, router| (prefix, router, Cost::ONE);
-    let ten = ten();
-    let rows: [(&[(Prefix, u16, Cost)], Option<usize>); 5] = [
-        (&[at(ten, 0), at(one, 0), at(ten, 1)], None),
-        (&[at(ten, 0), at(one, 0), at(other, 0)], Some(2)),
-        (&[at(ten, 0), at(ten, 1), at(ten, 2), at(ten, 3)], Some(3)),
-        (&[at(ten, 0), at(one, 0), at(ten, 0)], Some(2)),
-        (&[at(ten, 4)], Some(0)),
-    ];
-    for (attachments, place) in rows {
+    for (at, place) in &ATTACHMENTS {
         let wanted = place.map(|prefix| NetworkFault::BadOwner { prefix });
-        equal(&rt, fault(&rt, rt.alloc(), 4, &[], attachments), wanted);
+        equal(&rt, fault(&rt, rt.alloc(), 4, &[], at), wanted);
     }
 }
 
@@ -101,10 +115,8 @@ fn the_widest_line_opens(rt: HostRuntime) {
         &rt, "network",
     );
     let world = World::open(alloc, &network).expect(&rt, "memory");
-    assert_eq!(rt;
-        (world.routers().len(), world.links().len()),
-        (65_536, 65_535)
-    );
+    holds(&rt, world.routers().len() == 65_536);
+    equal(&rt, world.links().len(), 65_535);
     let last = world.router(65_535).table().published(ten());
     equal(&rt, last, Some(network_model::Entry::Local));
 }

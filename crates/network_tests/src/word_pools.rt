@@ -1,4 +1,4 @@
-use crate::values::equal;
+use crate::equal_to::{equal, holds};
 use word_pool::Pool;
 
 #[test]
@@ -10,7 +10,7 @@ fn a_new_pool_has_four_zeros(rt: HostRuntime) {
         (0, 0, 0),
     );
     equal(&rt, pool.word_count(), 128);
-    assert!(rt; pool.bytes() >= 512);
+    holds(&rt, pool.bytes() >= 512);
 }
 
 #[test]

@@ -1,8 +1,10 @@
-use crate::values::{cost, equal, prefix, ten, via};
+use crate::equal_to::{equal, holds};
+use crate::values::{cost, prefix, via};
 use network_model::{Cost, Entry};
 use router_core::Router;
 use std::alloc::Global;
 use std::process::Abort;
+use test_support::ten;
 use world::{LinkSpec, Network, NetworkFault, Prefix, Refusal, Step, World};
 
 // A link at this cost each way.
@@ -17,15 +19,13 @@ pub(crate) fn link(a: u16, b: u16, cost: Cost) -> LinkSpec {
 
 // Routers 0 and 1 with one link at cost 5 each way; router 0 is attached to 10.0.0.0/8 at cost 1.
 pub(crate) fn two_routers(rt: &impl Abort, alloc: Global) -> World {
-    let links = vec![in alloc; link(0, 1, cost(rt, 5))].expect(rt, "memory");
-    let attachments = vec![in alloc; (ten(), 0, Cost::ONE)].expect(rt, "memory");
-    let network = Network::new(2, links, attachments).expect(rt, "network");
+    let network = test_support::two_routers(alloc).expect(rt, "network");
     World::open(alloc, &network).expect(rt, "memory")
 }
 
 // Does the step, or is refused so.
 pub(crate) fn does(rt: &impl Abort, world: &mut World, step: Step, wanted: Result<(), Refusal>) {
-    assert!(rt; world.has_room_for(1));
+    holds(rt, world.has_room_for(1));
     equal(rt, world.step(step), wanted);
 }
 
@@ -41,7 +41,7 @@ fn refused(rt: &impl Abort, world: &mut World, step: Step, refusal: Refusal) {
 
 // The second router of the world.
 pub(crate) fn second<'a>(rt: &impl Abort, world: &'a World) -> &'a Router {
-    assert!(rt; world.routers().len() > 1);
+    holds(rt, world.routers().len() > 1);
     world.router(1)
 }
 
@@ -62,19 +62,21 @@ fn a_world_learns_the_way(rt: HostRuntime) {
     let nothing = Step::Deliver { router: 0, port: 0 };
     refused(&rt, &mut world, nothing, Refusal::NothingToDeliver);
     do_all(&rt, &mut world, &LEARNS);
-    assert_eq!(rt; world.routers().len(), 2);
-    equal(
-        &rt,
-        second(&rt, &world).table().published(ten()),
-        Some(via(0)),
-    );
+    equal(&rt, world.routers().len(), 2);
+    let learned = second(&rt, &world).table().published(ten());
+    equal(&rt, learned, Some(via(0)));
 }
 
 #[test]
 fn refuses_a_network_without_routers(rt: HostRuntime) {
     let alloc = rt.alloc();
     let made = Network::new(0, Vec::new(alloc), Vec::new(alloc));
-    assert!(rt; matches!(made, Err(NetworkFault::BadRouters)));
+    holds(&rt, matches!(made, Err(NetworkFault::BadRouters)));
+}
+
+pub(crate) fn one_link_is_up(rt: &impl Abort, world: &World) {
+    holds(rt, world.links().len() == 1);
+    holds(rt, world.links().is_up(0));
 }
 
 const STOPS: [Step; 3] = [
@@ -86,19 +88,16 @@ const STOPS: [Step; 3] = [
 #[test]
 fn runs_up_to_a_refused_step(rt: HostRuntime) {
     let mut world = two_routers(&rt, rt.alloc());
-    assert!(rt; world.has_room_for(STOPS.len()));
+    holds(&rt, world.has_room_for(STOPS.len()));
     let ran = world.run(&STOPS);
-    equal(
-        &rt,
-        (ran.done, ran.refusal),
-        (1, Some(Refusal::NothingRipe)),
-    );
-    assert!(rt; world.links().len() == 1 && world.links().is_up(0));
+    let stopped = (1, Some(Refusal::NothingRipe));
+    equal(&rt, (ran.done, ran.refusal), stopped);
+    one_link_is_up(&rt, &world);
 }
 
 // How many notices router 1 has yet to take.
 fn waits(rt: &impl Abort, world: &World, notices: usize) {
-    assert!(rt; world.routers().len() > 1);
+    holds(rt, world.routers().len() > 1);
     equal(rt, world.notices(1), notices);
 }
 
@@ -115,24 +114,26 @@ fn detach() -> Step {
 // Router 1 is attached, and no longer so.
 #[test]
 fn an_attachment_comes_and_goes(rt: HostRuntime) {
-    let mut world = two_routers(&rt, rt.alloc());
-    refused(&rt, &mut world, TAKE, Refusal::NothingToDeliver);
-    refused(&rt, &mut world, detach(), Refusal::NotAttached);
+    comes_and_goes(&rt, &mut two_routers(&rt, rt.alloc()));
+}
+
+fn comes_and_goes(rt: &impl Abort, world: &mut World) {
+    refused(rt, world, TAKE, Refusal::NothingToDeliver);
+    refused(rt, world, detach(), Refusal::NotAttached);
     let attach = Step::Attach {
         router: 1,
         prefix: ten(),
-        cost: cost(&rt, 3),
+        cost: cost(rt, 3),
     };
-    does(&rt, &mut world, attach, Ok(()));
-    does(&rt, &mut world, detach(), Ok(()));
-    waits(&rt, &world, 2);
-    does(&rt, &mut world, TAKE, Ok(()));
-    waits(&rt, &world, 1);
-    let chosen = second(&rt, &world).table().get(ten());
-    equal(&rt, chosen, Some(Entry::Local));
-    does(&rt, &mut world, TAKE, Ok(()));
-    waits(&rt, &world, 0);
-    are_unknown(&rt, &mut world);
+    does(rt, world, attach, Ok(()));
+    does(rt, world, detach(), Ok(()));
+    waits(rt, world, 2);
+    does(rt, world, TAKE, Ok(()));
+    waits(rt, world, 1);
+    equal(rt, second(rt, world).table().get(ten()), Some(Entry::Local));
+    does(rt, world, TAKE, Ok(()));
+    waits(rt, world, 0);
+    are_unknown(rt, world);
 }
 
 // A prefix, and a port, that router 1 does not have.
@@ -152,9 +153,8 @@ fn most_links(rt: &impl Abort, alloc: Global) -> Vec<LinkSpec> {
     }
     for apart in 1..5 {
         for a in 1..249 {
-            links
-                .push(link(a, a + apart, Cost::ONE))
-                .expect(rt, "memory");
+            let far = link(a, a + apart, Cost::ONE);
+            links.push(far).expect(rt, "memory");
         }
     }
     links
@@ -166,9 +166,8 @@ fn most_attachments(rt: &impl Abort, alloc: Global) -> Vec<(Prefix, u16, Cost)> 
     for router in [0, 253, 254, 255] {
         for block in 0..4096 {
             let prefix = Prefix::covering(0x0A00_0000 + block * 0x100, 24);
-            attachments
-                .push((prefix, router, Cost::ONE))
-                .expect(rt, "memory");
+            let attachment = (prefix, router, Cost::ONE);
+            attachments.push(attachment).expect(rt, "memory");
         }
     }
     attachments
@@ -220,7 +219,7 @@ fn learns_all(rt: &impl Abort, world: &mut World) {
         deliver(rt, world, router, 1);
     }
     does(rt, world, Step::Publish { router: 1 }, Ok(()));
-    assert_eq!(rt; world.routers().len(), 256);
+    equal(rt, world.routers().len(), 256);
     let found = second(rt, world);
     equal(rt, (found.table().len(), found.held()), (4096, 8192));
 }
