@@ -1,5 +1,5 @@
-//! Tests of addresses, costs, tables, images, machines, links, routers and worlds, each through its public
-//! surface.
+//! Tests of addresses, costs, tables, images, machines, links, routers, worlds and networks in simulated time,
+//! each through its public surface.
 //!
 //! A body that gives up for want of memory meets any contract, because such a refusal is always allowed. So
 //! calls that take memory are run here on a path on which they have to succeed, and some facts have no
@@ -16,6 +16,7 @@
 //!   machines, replies                 worked tables of one machine, with origin states and awaited ports
 //!   links, tables, gates, routers, worlds
 //!   copies, wide                      copies of networks; networks with other limits
+//!   timed, reports, ways              events at moments that are worked out by hand; who is cut off then
 //!   refusals                          want of memory
 //! ```
 //!
@@ -63,11 +64,17 @@ mod refusals;
 #[cfg(test)]
 mod replies;
 #[cfg(test)]
+mod reports;
+#[cfg(test)]
 mod routers;
 #[cfg(test)]
 mod tables;
 #[cfg(test)]
+mod timed;
+#[cfg(test)]
 mod values;
+#[cfg(test)]
+mod ways;
 #[cfg(test)]
 mod wide;
 #[cfg(test)]
