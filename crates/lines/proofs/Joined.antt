@@ -1,5 +1,5 @@
--- Texts put together piece by piece, and the one of a format.
-use Rattle.std.proofs.Common.{◌≡◌, List, [], ◌∷◌, ◌++◌, refl, sym, ap, ◌∙◌, append_assoc, append-nil}
+-- Texts put together piece by piece, in a format.
+use Rattle.std.proofs.Common.{◌≡◌, List, [], ◌∷◌, ◌++◌, refl, sym, ◌∙◌, append_assoc, append-nil}
 use Rattle.texts.specs.Words.{Text}
 use Rattle.command_line.specs.{declared.format.Format.Format, declared.format.Format.TheVariants.Text as ForPeople, declared.format.Format.TheVariants.Json}
 use Rattle.lines.specs.Formats.{in_format}
@@ -20,13 +20,9 @@ put_together text [] = sym (append-nil text)
 put_together text (piece ∷ []) = refl
 put_together text (piece ∷ next ∷ pieces) = put_together (text ++ piece) (next ∷ pieces) ∙ append_assoc text piece (joined (next ∷ pieces))
 
--- what is written piece by piece is the text that the definition puts together
-pub pieced : (head : Text) (pieces : List Text) {text : Text} → put_on head pieces ≡ text → head ++ joined pieces ≡ text
-pieced head pieces is = sym (put_together head pieces) ∙ is
-
--- the text for people is the one of its format, and so is that of JSON
-pub for_people : (format : Format) (text json : Text) → format ≡ ForPeople → text ≡ in_format format text json
-for_people format text json is = ap (λ f. in_format f text json) (sym is)
-
-pub as_json : (format : Format) (text json : Text) → format ≡ Json → json ≡ in_format format text json
-as_json format text json is = ap (λ f. in_format f text json) (sym is)
+-- what is written piece by piece in a format is the text that the definition of the format puts together
+pub told : (format : Format) (first : Text) (pieces : Format → List Text) (opening : Text) (members : Format → List Text) {words object : Text}
+    → put_on first (pieces ForPeople) ≡ words → put_on opening (members Json) ≡ object
+    → in_format format (first ++ joined (pieces format)) (opening ++ joined (members format)) ≡ in_format format words object
+told ForPeople first pieces opening members is _ = sym (put_together first (pieces ForPeople)) ∙ is
+told Json first pieces opening members _ is = sym (put_together opening (members Json)) ∙ is

@@ -1,5 +1,5 @@
 -- Lines in a format.
-use Rattle.std.specs.Prelude.{[], ◌∷◌, ◌++◌, if◌then◌else◌}
+use Rattle.std.specs.Prelude.{Option, None, Some, [], ◌∷◌, ◌++◌, if◌then◌else◌}
 use Rattle.texts.specs.Words.{Text}
 use Rattle.command_line.specs.{declared.format.Format.Format, declared.format.Format.TheVariants.Text as ForPeople, declared.format.Format.TheVariants.Json}
 use Rattle.script.specs.Directories.{Directory}
@@ -9,6 +9,12 @@ use Rattle.lines.specs.{Lines.line_json, Lines.line_text, declared.line.Line.Lin
 abbrev pub in_format : {A : Type 0} → Format → A → A → A
 in_format ForPeople text json = text
 in_format Json text json = json
+
+-- the same of texts that may not be there
+abbrev pub of_format : Format → Option Text → Option Text → Option Text
+of_format format (Some text) (Some json) = Some (in_format format text json)
+of_format format (Some text) None = None
+of_format format None json = None
 
 -- a line in the format
 abbrev pub line_in : Format → Directory → Line → Text

@@ -75,9 +75,7 @@ impl fmt::Display for Told<'_, Answer> {
         let Told(by, answer) = *self;
         let name = by.directory.name(Some(answer.router));
         let (addr, found) = (Addr(answer.addr), Told(by, (answer.router, answer.found)));
-        write_either!(f, by;
-            "{name} {addr}: {found}",
-            "\"router\":\"{name}\",\"address\":\"{addr}\",{found}")
+        write_either!(f, by; "{name} {addr}: {found}", "\"router\":\"{name}\",\"address\":\"{addr}\",{found}")
     }
 }
 
@@ -95,9 +93,7 @@ impl fmt::Display for Told<'_, Asked> {
             } => {
                 let name = by.directory.name(Some(router));
                 let row = Told(by, (router, Some((prefix, entry))));
-                write_either!(f, by;
-                    "{name} {row}",
-                    "{{\"kind\":\"row\",\"router\":\"{name}\",{row}}}")
+                write_either!(f, by; "{name} {row}", "{{\"kind\":\"row\",\"router\":\"{name}\",{row}}}")
             }
             Asked::Lookup(answer) => {
                 let answer = Told(by, answer);
@@ -105,9 +101,7 @@ impl fmt::Display for Told<'_, Asked> {
             }
             Asked::Packet(number, answer) => {
                 let answer = Told(by, answer);
-                write_either!(f, by;
-                    "packet {number} {answer}",
-                    "{{\"kind\":\"packet\",\"job\":{number},{answer}}}")
+                write_either!(f, by; "packet {number} {answer}", "{{\"kind\":\"packet\",\"job\":{number},{answer}}}")
             }
         }
     }

@@ -97,9 +97,8 @@ impl fmt::Display for Told<'_, Option<FaultKind>> {
         let Told(by, fault) = *self;
         match fault {
             None => write_either!(f, by; "done", "{{\"kind\":\"try\",\"refused\":null}}"),
-            Some(fault) => write_either!(f, by;
-                "refused {fault}",
-                "{{\"kind\":\"try\",\"refused\":\"{fault}\"}}"),
+            Some(fault) =>
+                write_either!(f, by; "refused {fault}", "{{\"kind\":\"try\",\"refused\":\"{fault}\"}}"),
         }
     }
 }

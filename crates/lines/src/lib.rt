@@ -57,10 +57,7 @@
 // Writes the first text if lines are told for people, and the second if they are told as JSON.
 macro_rules! write_either {
     ($f:ident, $by:ident; $text:literal, $json:literal) => {
-        match $by.format {
-            command_line::Format::Text => write!($f, $text),
-            command_line::Format::Json => write!($f, $json),
-        }
+        crate::told::either($f, $by.format, format_args!($text), format_args!($json))
     };
 }
 

@@ -62,9 +62,7 @@ impl fmt::Display for Told<'_, Neighbour> {
         let Told(by, known) = *self;
         if known.up {
             let (cost, reported) = (known.cost, Told(by, known.reported));
-            write_either!(f, by;
-                "up, cost {cost}, reported {reported}",
-                "true,\"cost\":{cost},\"reported\":{reported}")
+            write_either!(f, by; "up, cost {cost}, reported {reported}", "true,\"cost\":{cost},\"reported\":{reported}")
         } else {
             write_either!(f, by; "down", "false")
         }

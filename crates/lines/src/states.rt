@@ -122,9 +122,7 @@ impl fmt::Display for Told<'_, MachineState> {
     fn fmt<W: fmt::Write>(&self, f: &mut fmt::Formatter<W>) -> fmt::Result {
         let Told(by, at) = *self;
         let (origin, rd, fd) = (Told(by, at.origin), Told(by, at.rd), Told(by, at.fd));
-        write_either!(f, by;
-            "{origin} RD {rd} FD {fd}",
-            "\"active\":{origin},\"rd\":{rd},\"fd\":{fd}")
+        write_either!(f, by; "{origin} RD {rd} FD {fd}", "\"active\":{origin},\"rd\":{rd},\"fd\":{fd}")
     }
 }
 

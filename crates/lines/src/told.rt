@@ -1,8 +1,7 @@
 //! Lines as they are told: as text for people, or as objects of JSON.
 
-ghost use Rattle.std.specs.Prelude.{OnOk, Some};
-ghost use Rattle.std.specs.Io.KnownBytes.{Appends};
-ghost use Rattle.lines.specs.Formats.{line_in, printed};
+ghost use Rattle.std.specs.{Prelude.OnOk, Prelude.Some, Fmt.DisplaysOnOk, Io.KnownBytes.Appends};
+ghost use Rattle.lines.specs.Formats.{line_in, of_format, printed};
 
 use crate::line::Line;
 use command_line::Format;
@@ -36,6 +35,22 @@ impl Printer<'_> {
 /// A line as it is told, or a part of one.
 #[derive(Clone, Copy)]
 pub struct Told<'a, T>(pub Printer<'a>, pub T);
+
+// Writes the text of the format.
+pub(crate) fn either<W: fmt::Write, A: Display + Drop, B: Display + Drop>(
+    f: &mut fmt::Formatter<W>,
+    format: Format,
+    text: A,
+    json: B,
+) -> fmt::Result
+    ensures { DisplaysOnOk W.Write.write_str_gives f.old result
+        (of_format format (A.Display.output text) (B.Display.output json)) f.new }
+{
+    match format {
+        Format::Text => f.write(text),
+        Format::Json => f.write(json),
+    }
+}
 
 impl fmt::Display for Told<'_, &Line<'_>> {
     ghost output = { λ t. Some (line_in t.0.format t.0.directory.now t.1.now) };

@@ -90,9 +90,8 @@ impl fmt::Display for Told<'_, Notice> {
             Some(cost) => write_either!(f, by;
                 "attached {prefix} cost {cost}",
                 "\"item\":\"attached\",\"prefix\":\"{prefix}\",\"cost\":{cost}"),
-            None => write_either!(f, by;
-                "detached {prefix}",
-                "\"item\":\"detached\",\"prefix\":\"{prefix}\""),
+            None =>
+                write_either!(f, by; "detached {prefix}", "\"item\":\"detached\",\"prefix\":\"{prefix}\""),
         }
     }
 }
