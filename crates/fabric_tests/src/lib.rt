@@ -1,20 +1,25 @@
-//! Tests of fabrics, control threads and traces, each through its public surface.
+//! Tests of all that threads share: publications, queues and workers, and above them fabrics, control threads
+//! and traces, each through its public surface.
 //!
-//! Some facts of threads and of memory are in no clause. For example, a port answers a job while a turn
-//! waits. A turn lets the lock go while it publishes. A body that does neither meets every contract, so these
-//! tests make it happen: at a *gate* a thread waits until another has come so far.
+//! Some facts of threads and of memory are in no clause. For example, a reader sees what its writer publishes
+//! while both go on, and a turn lets the lock go while it publishes. A body that does neither meets every
+//! contract, so these tests make it happen: at a *gate* a thread waits until another has come so far.
 //!
 //! ```text
+//!   publications                  what readers see while a writer publishes; no network runs here
+//!   queues, workers               jobs through queues, and replies that are gathered
+//!   worker_pools                  200 jobs for one, two and sixteen threads
 //!   fabrics, controls, outside    steps, turns, threads that serve and settle side by side
 //!   tickets                       what is refused while a writer is out
 //!   turns                         whoever has something to do is found without asking all
 //!   jobs                          what readers answer meanwhile
 //!   traces                        packets along the images in force
-//!   scripts, rooms                want of memory
+//!   refusals, scripts, rooms      want of memory
 //! ```
 //!
-//! Want of memory is tried on scripts of two and three routers. Of each step the first, second, third ..
-//! allocation is refused, alone or with all behind it. That goes on until an attempt meets no refusal:
+//! Want of memory is tried on a publication, a queue and two workers, and on scripts of two and three routers.
+//! Of each step the first, second, third .. allocation is refused, alone or with all behind it. That goes on
+//! until an attempt meets no refusal:
 //!
 //! ```text
 //!   attempt 1   its first allocation is refused      nothing has changed
@@ -43,6 +48,12 @@ mod jobs;
 #[cfg(test)]
 mod outside;
 #[cfg(test)]
+mod publications;
+#[cfg(test)]
+mod queues;
+#[cfg(test)]
+mod refusals;
+#[cfg(test)]
 mod rooms;
 #[cfg(test)]
 mod scripts;
@@ -52,3 +63,7 @@ mod tickets;
 mod traces;
 #[cfg(test)]
 mod turns;
+#[cfg(test)]
+mod worker_pools;
+#[cfg(test)]
+mod workers;
