@@ -73,40 +73,31 @@ fn do_cases<H: Host + Clock, W: Write>(
     let mut tally = Tally::new();
     let mut before = NOTHING;
     for (place, part) in text.split("\n=== ").enumerate() {
-        if place == 0 && is_comment(part) {
-            continue;
-        }
-        match read_part(part, before) {
-            Some(part) => {
-                before = part.blocks;
-                tally.count(is_part_right(wait, alloc, file, part, out)?);
-            }
-            None => {
-                let _ = writeln!(out, "{file}: no case: {part}");
-                tally.count(false);
-            }
+        if place > 0 || !is_comment(part) {
+            tally.count(is_part_right(wait, alloc, file, part, &mut before, out)?);
         }
     }
     Ok(tally)
 }
 
 fn is_comment(text: &str) -> bool {
-    for line in text.lines() {
-        if !line.starts_with('#') {
-            return false;
-        }
-    }
-    true
+    text.lines().all(|line| line.starts_with('#'))
 }
 
-// Whether a part of a file gives what it should.
-fn is_part_right<H: Host + Clock, W: Write>(
+// Whether a part of a file is a case, and gives what it should.
+fn is_part_right<'a, H: Host + Clock, W: Write>(
     wait: &H,
     alloc: Global,
     file: &str,
-    part: Part<'_>,
+    text: &'a str,
+    before: &mut Blocks<'a>,
     out: &mut W,
 ) -> Result<bool, AllocError> {
+    let Some(part) = read_part(text, *before) else {
+        let _ = writeln!(out, "{file}: no case: {text}");
+        return Ok(false);
+    };
+    *before = part.blocks;
     let journal = journal(alloc, part)?;
     let case = Case {
         file,
@@ -155,24 +146,31 @@ const NOTHING: Blocks<'static> = Blocks {
 fn read_part<'a>(text: &'a str, before: Blocks<'a>) -> Option<Part<'a>> {
     let (head, rest) = text.split_once("--- ").unwrap_or((text, ""));
     let (name, commands) = head.split_once('\n')?;
-    let mut blocks = Blocks {
+    let blocks = Blocks {
         scenario: before.scenario,
         journal: before.journal,
         ..NOTHING
     };
-    for block in rest.split("--- ").filter(|block| !block.is_empty()) {
-        blocks = with_block(blocks, block)?;
-    }
     Some(Part {
         name,
         commands,
         rest,
-        blocks,
+        blocks: with_blocks(blocks, rest)?,
     })
 }
 
-fn with_block<'a>(before: Blocks<'a>, block: &'a str) -> Option<Blocks<'a>> {
-    let (head, text) = block.split_once('\n')?;
+fn with_blocks<'a>(before: Blocks<'a>, rest: &'a str) -> Option<Blocks<'a>> {
+    let mut blocks = before;
+    for block in rest.split("--- ") {
+        if !block.is_empty() {
+            let (head, text) = block.split_once('\n')?;
+            blocks = with_block(blocks, head, text)?;
+        }
+    }
+    Some(blocks)
+}
+
+fn with_block<'a>(before: Blocks<'a>, head: &str, text: &'a str) -> Option<Blocks<'a>> {
     let mut blocks = before;
     match head {
         "scenario" => blocks.scenario = text,
@@ -182,14 +180,17 @@ fn with_block<'a>(before: Blocks<'a>, block: &'a str) -> Option<Blocks<'a>> {
         "err" if blocks.err.is_none() => blocks.err = Some(text),
         "kept" if blocks.kept.is_none() => blocks.kept = Some(text),
         "words" if blocks.words.is_none() => blocks.words = Some(text),
-        _ => match head.strip_prefix("status ") {
-            Some(number) if text.is_empty() => blocks.status = number.parse().ok()?,
-            _ => {
-                line_number(head)?;
-            }
-        },
+        _ => blocks.status = status_of(blocks.status, head, text)?,
     }
     Some(blocks)
+}
+
+// The status after a block of a status or of a line.
+fn status_of(before: u8, head: &str, text: &str) -> Option<u8> {
+    match head.strip_prefix("status ") {
+        Some(number) if text.is_empty() => number.parse().ok(),
+        _ => line_number(head).and(Some(before)),
+    }
 }
 
 // The number of the line for which a block stands.
@@ -198,22 +199,17 @@ fn line_number(head: &str) -> Option<usize> {
 }
 
 fn read_wanted(blocks: Blocks<'_>) -> Wanted<'_> {
-    let other = match blocks.other {
-        Some(text) => Some(wanted_text(Some(text))),
-        None => None,
-    };
     Wanted {
         status: blocks.status,
-        out: wanted_text(blocks.out),
-        other,
-        err: wanted_text(blocks.err),
+        out: wanted_text(blocks.out.unwrap_or("")),
+        other: blocks.other.map(|text| wanted_text(text)),
+        err: wanted_text(blocks.err.unwrap_or("")),
         kept: blocks.kept,
         words: blocks.words,
     }
 }
 
-fn wanted_text(text: Option<&str>) -> Text<'_> {
-    let text = text.unwrap_or("");
+fn wanted_text(text: &str) -> Text<'_> {
     match text.strip_suffix("..\n") {
         Some(front) => Text::Begins(front),
         None => Text::Is(text),

@@ -59,12 +59,17 @@ pub fn is_example_right<H: Host + Clock, W: Write>(
 // Reads a scenario, and what it should print, and tries it.
 fn try_example<H: Host + Clock>(rt: &HostRuntime, wait: &H, file: &str) -> io::Result<Verdict> {
     let alloc = rt.alloc();
-    let name = file.strip_suffix(".toml").unwrap_or(file);
-    let output = format!(in alloc; "{name}.out")?;
-    let wanted = fs::read(rt, output.as_str())?;
+    let wanted = output_of(rt, file)?;
     let scenario = fs::read_to_string(rt, file)?;
     let typed = shell_input(alloc, scenario.as_str())?;
     Ok(try_texts(wait, alloc, scenario.as_bytes(), typed.as_bytes(), &wanted))
+}
+
+// What stands beside a scenario.
+fn output_of(rt: &HostRuntime, file: &str) -> io::Result<Vec<u8>> {
+    let name = file.strip_suffix(".toml").unwrap_or(file);
+    let output = format!(in rt.alloc(); "{name}.out")?;
+    fs::read(rt, output.as_str())
 }
 
 // Runs a scenario, types these lines into a shell of it, and replays the run's journal.

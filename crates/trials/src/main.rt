@@ -44,7 +44,7 @@ mod random;
 mod soak;
 mod traces;
 
-ghost use Rattle.std.specs.Prelude.{◌<◌, IfSome, length};
+ghost use Rattle.std.specs.Prelude.{◌≡◌, ◌<◌, IfSome, length};
 
 use crate::cases::are_cases_right;
 use crate::examples::is_example_right;
@@ -103,21 +103,36 @@ fn first_task<'w, 'a>(words: &'w [&'a str]) -> Option<(Task<'a>, &'w [&'a str])>
     ensures { IfSome result (λ found. length found.1.now < length words.now) }
 {
     match words {
-        ["soak", seed, count, rest @ ..] => {
-            let seed = seed.parse().ok()?;
-            let count = count.parse().ok()?;
-            Some((Task::Soak { seed, count }, rest))
-        }
-        ["load", workers, answers, rest @ ..] => {
-            let workers = workers.parse().ok()?;
-            let answers = answers.parse().ok()?;
-            Some((Task::Load { workers, answers }, rest))
-        }
-        [file, rest @ ..] if file.ends_with(".toml") => Some((Task::Example(*file), rest)),
-        [file, rest @ ..] if file.ends_with(".cases") || file.ends_with(".faults") => {
-            Some((Task::Cases(*file), rest))
-        }
+        ["soak", seed, count, rest @ ..] => with(soak_of(seed, count), rest),
+        ["load", workers, answers, rest @ ..] => with(load_of(workers, answers), rest),
+        [file, rest @ ..] => with(file_of(file), rest),
         _ => None,
+    }
+}
+
+fn with<'w, 'a>(task: Option<Task<'a>>, rest: &'w [&'a str]) -> Option<(Task<'a>, &'w [&'a str])>
+    ensures { IfSome result (λ found. found.1 ≡ rest.entry) }
+{
+    Some((task?, rest))
+}
+
+fn soak_of(seed: &str, count: &str) -> Option<Task<'static>> {
+    let (seed, count) = (seed.parse().ok()?, count.parse().ok()?);
+    Some(Task::Soak { seed, count })
+}
+
+fn load_of(workers: &str, answers: &str) -> Option<Task<'static>> {
+    let (workers, answers) = (workers.parse().ok()?, answers.parse().ok()?);
+    Some(Task::Load { workers, answers })
+}
+
+fn file_of(file: &str) -> Option<Task<'_>> {
+    if file.ends_with(".toml") {
+        Some(Task::Example(file))
+    } else if file.ends_with(".cases") || file.ends_with(".faults") {
+        Some(Task::Cases(file))
+    } else {
+        None
     }
 }
 

@@ -27,38 +27,14 @@ pub const ADDRESSES: [&str; 5] = [
 
 const COSTS: [&str; 9] = ["1", "2", "3", "4", "5", "6", "7", "8", "9"];
 
-// Commands, each as often as it is likely: of a router R, an address A, a prefix P, a cost C, and the two ends F and T of a
+// 28 commands, each as often as it is likely: of a router R, an address A, a prefix P, a cost C, and the two ends F and T of a
 // link. One that may be refused is tried.
-static COMMANDS: [&str; 28] = [
-    "settle",
-    "settle",
-    "settle",
-    "drain",
-    "inject R A",
-    "inject R A",
-    "inject R A",
-    "inject R A",
-    "try publish R",
-    "try publish R",
-    "try release R",
-    "try release R",
-    "try up F T",
-    "try up F T",
-    "try up F T",
-    "try up F T",
-    "try down F T",
-    "try down F T",
-    "try cost F T C",
-    "try cost F T C",
-    "try deliver F T",
-    "try deliver F T",
-    "try deliver F T",
-    "try deliver F T",
-    "try attach R P C",
-    "try attach R P C",
-    "try detach R P",
-    "try deliver R R",
-];
+const COMMANDS: &str =
+    "settle;settle;settle;drain;inject R A;inject R A;inject R A;inject R A;try publish R;\
+    try publish R;try release R;try release R;try up F T;try up F T;try up F T;try up F T;\
+    try down F T;try down F T;try cost F T C;try cost F T C;try deliver F T;try deliver F T;\
+    try deliver F T;try deliver F T;try attach R P C;try attach R P C;try detach R P;\
+    try deliver R R";
 
 // Numbers that look random: a sum of odd constants, mixed (SplitMix64 of Steele, Lea and Flood).
 #[derive(Drop)]
@@ -86,6 +62,10 @@ impl Dice {
     {
         words[self.below(words.len())]
     }
+
+    fn command(&mut self) -> Word {
+        COMMANDS.split(';').nth(self.below(28)).unwrap_or("")
+    }
 }
 
 /// A scenario of so many routers.
@@ -97,7 +77,12 @@ pub struct Scenario {
 }
 
 // Two routers.
-type Pair = (&'static str, &'static str);
+type Pair = (Word, Word);
+
+type Word = &'static str;
+
+/// Whether there was memory to write.
+pub type Done = Result<(), AllocError>;
 
 /// The scenario of this seed: 3 to 8 routers, links between half of all pairs, 2 to 5 prefixes, to each
 /// of which one router or two are attached, and 200 commands, none of which ends the run.
@@ -113,80 +98,95 @@ fn write_scenario(seed: u64, text: &mut String, links: &mut Vec<Pair>) -> Result
 {
     let mut dice = Dice { state: seed };
     let routers = 3 + dice.below(6);
+    name(routers, text)?;
+    link(&mut dice, routers, text, links)?;
+    write_script(&mut dice, routers, links, text)?;
+    Ok(routers as u8)
+}
+
+fn name(routers: usize, text: &mut String) -> Done
+    requires { routers ≤ 8 }
+{
     text.push_str("routers = [")?;
     for name in &NAMES[..routers] {
         push(text, &["\"", *name, "\", "])?;
     }
-    text.push_str("]\nlinks = [")?;
-    link(&mut dice, routers, text, links)?;
-    text.push_str("]\nprefixes = [")?;
-    let prefixes = 2 + dice.below(4);
-    for prefix in &PREFIXES[..prefixes] {
-        attach(&mut dice, routers, *prefix, text)?;
-    }
-    text.push_str("]\nscript = [\n")?;
-    for _ in 0..200u8 {
-        command(&mut dice, routers, prefixes, links, text)?;
-    }
-    text.push_str("]\n")?;
-    Ok(routers as u8)
+    text.push_str("]\nlinks = [")
 }
 
 /// Writes these texts one behind the other.
-pub fn push(text: &mut String, parts: &[&'static str]) -> Result<(), AllocError> {
+pub fn push(text: &mut String, parts: &[Word]) -> Done {
     for part in parts {
         text.push_str(part)?;
     }
     Ok(())
 }
 
-// Links between about half of all pairs of routers, at costs of 1 to 9.
-fn link(
-    dice: &mut Dice,
-    routers: usize,
-    text: &mut String,
-    links: &mut Vec<Pair>,
-) -> Result<(), AllocError>
+// Links between about half of all pairs of routers.
+fn link(dice: &mut Dice, routers: usize, text: &mut String, links: &mut Vec<Pair>) -> Done
     requires { routers ≤ 8 }
 {
     for one in 0..routers {
         for other in one + 1..routers {
             if dice.below(2) == 0 {
-                let (one, other) = (NAMES[one], NAMES[other]);
-                let (there, back) = (dice.one_of(&COSTS), dice.one_of(&COSTS));
-                push(
-                    text,
-                    &["\"", one, " ", other, " ", there, " ", back, "\", "],
-                )?;
-                links.push((one, other))?;
+                links.push((NAMES[one], NAMES[other]))?;
+                write_link(dice, NAMES[one], NAMES[other], text)?;
             }
         }
     }
-    Ok(())
+    text.push_str("]\nprefixes = [")
 }
 
-// One attachment of a prefix, or two at routers beside each other, at costs of 1 to 9.
-fn attach(
-    dice: &mut Dice,
-    routers: usize,
-    prefix: &'static str,
-    text: &mut String,
-) -> Result<(), AllocError>
+// A link at costs of 1 to 9.
+fn write_link(dice: &mut Dice, one: Word, other: Word, text: &mut String) -> Done {
+    let (there, back) = (dice.one_of(&COSTS), dice.one_of(&COSTS));
+    push(
+        text,
+        &["\"", one, " ", other, " ", there, " ", back, "\", "],
+    )
+}
+
+// Prefixes, and commands of a script.
+fn write_script(dice: &mut Dice, routers: usize, links: &[Pair], text: &mut String) -> Done
+    requires { (0 < routers) × (routers ≤ 8) }
+{
+    let prefixes = &PREFIXES[..2 + dice.below(4)];
+    for prefix in prefixes {
+        attach(dice, routers, *prefix, text)?;
+    }
+    text.push_str("]\nscript = [\n")?;
+    for _ in 0..200u8 {
+        command(dice, routers, prefixes, links, text)?;
+    }
+    text.push_str("]\n")
+}
+
+// One attachment of a prefix, or two at routers beside each other.
+fn attach(dice: &mut Dice, routers: usize, prefix: Word, text: &mut String) -> Done
     requires { (0 < routers) × (routers ≤ 8) }
 {
     let first = dice.below(routers);
-    let cost = dice.one_of(&COSTS);
-    push(text, &["\"", prefix, " ", NAMES[first], " ", cost, "\", "])?;
+    attach_at(dice, first, prefix, text)?;
     let second = (first + 1) % routers;
     if second != first && dice.below(2) == 0 {
-        let cost = dice.one_of(&COSTS);
-        push(text, &["\"", prefix, " ", NAMES[second], " ", cost, "\", "])?;
+        attach_at(dice, second, prefix, text)?;
     }
     Ok(())
 }
 
-// The two ends of a link, from either; none if there is no link.
-fn ends_of_one(dice: &mut Dice, links: &[Pair]) -> Option<Pair> {
+// An attachment at a cost of 1 to 9.
+fn attach_at(dice: &mut Dice, router: usize, prefix: Word, text: &mut String) -> Done
+    requires { router < 8 }
+{
+    let cost = dice.one_of(&COSTS);
+    push(text, &["\"", prefix, " ", NAMES[router], " ", cost, "\", "])
+}
+
+// The two ends of a link, from either, where a command is of one; none if there is no link.
+fn ends_of(dice: &mut Dice, command: &str, links: &[Pair]) -> Option<Pair> {
+    if !command.contains('F') {
+        return Some(("", ""));
+    }
     if links.is_empty() {
         return None;
     }
@@ -202,38 +202,46 @@ fn ends_of_one(dice: &mut Dice, links: &[Pair]) -> Option<Pair> {
 fn command(
     dice: &mut Dice,
     routers: usize,
-    prefixes: usize,
+    prefixes: &[Word],
     links: &[Pair],
     text: &mut String,
-) -> Result<(), AllocError>
+) -> Done
     requires routers { (0 < routers) × (routers ≤ 8) }
-    requires prefixes { (0 < prefixes) × (prefixes ≤ 5) }
+    requires prefixes { 0 < length prefixes.now }
 {
     let router = NAMES[dice.below(routers)];
-    let command = dice.one_of(&COMMANDS);
-    let ends = if command.contains('F') {
-        ends_of_one(dice, links)
-    } else {
-        Some(("", ""))
-    };
-    let Some((from, to)) = ends else {
-        return Ok(());
-    };
+    let command = dice.command();
+    match ends_of(dice, command, links) {
+        Some((from, to)) => fill(dice, command, [router, from, to], prefixes, text),
+        None => Ok(()),
+    }
+}
+
+// Writes a command with words in place of its letters.
+fn fill(dice: &mut Dice, form: Word, names: [Word; 3], prefixes: &[Word], text: &mut String) -> Done
+    requires { 0 < length prefixes.now }
+{
     text.push('"')?;
-    for letter in command.chars() {
-        let word = match letter {
-            'R' => router,
-            'A' => dice.one_of(&ADDRESSES),
-            'P' => dice.one_of(&PREFIXES[..prefixes]),
-            'C' => dice.one_of(&COSTS),
-            'F' => from,
-            'T' => to,
-            _ => {
-                text.push(letter)?;
-                continue;
-            }
-        };
-        text.push_str(word)?;
+    for letter in form.chars() {
+        match word_of(dice, letter, names, prefixes) {
+            Some(word) => text.push_str(word)?,
+            None => text.push(letter)?,
+        }
     }
     text.push_str("\",\n")
+}
+
+// What stands for a letter, if it is not itself.
+fn word_of(dice: &mut Dice, letter: char, names: [Word; 3], prefixes: &[Word]) -> Option<Word>
+    requires { 0 < length prefixes.now }
+{
+    match letter {
+        'R' => Some(names[0]),
+        'A' => Some(dice.one_of(&ADDRESSES)),
+        'P' => Some(dice.one_of(prefixes)),
+        'C' => Some(dice.one_of(&COSTS)),
+        'F' => Some(names[1]),
+        'T' => Some(names[2]),
+        _ => None,
+    }
 }

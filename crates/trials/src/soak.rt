@@ -10,7 +10,7 @@ use command_line::{Format, Words};
 use harness::soak::is_good;
 use harness::{Outcome, play_in_memory_by};
 use play::{Host, NO_THRESHOLDS, TurnGate};
-use std::alloc::{AllocError, Global};
+use std::alloc::Global;
 use std::io::Write;
 use std::sync::atomic::{AtomicU64, Ordering};
 use std::thread;
@@ -23,11 +23,11 @@ const WORKERS: u8 = 4;
 // So often a thread waits for the others at most, 1000 polls each time.
 const MOST_WAITS: u64 = 10;
 
-// Which threads have published, each a step. One that is to publish waits until all of them are.
+// Which threads have published, a bit for each. One that is to publish waits until all of them are.
 #[derive(Drop)]
 struct Turnout<'a, H> {
     rt: &'a H,
-    published: [AtomicU64; 4],
+    published: AtomicU64,
     waits: AtomicU64,
 }
 
@@ -36,30 +36,19 @@ impl<'a, H: Clock> Turnout<'a, H> {
     fn new(rt: &'a H, waits: u64) -> Self {
         Turnout {
             rt,
-            published: [
-                AtomicU64::new(0),
-                AtomicU64::new(0),
-                AtomicU64::new(0),
-                AtomicU64::new(0),
-            ],
+            published: AtomicU64::new(0),
             waits: AtomicU64::new(waits),
         }
     }
 
     // How many threads have published.
-    fn count(&self) -> u8 {
-        let mut count = 0u8;
-        for published in &self.published {
-            if published.load(Ordering::SeqCst) > 0 {
-                count = count.saturating_add(1);
-            }
-        }
-        count
+    fn count(&self) -> u32 {
+        self.published.load(Ordering::SeqCst).count_ones()
     }
 
     fn wait(&self) {
         for _ in 0..1000u16 {
-            if self.count() >= THREADS {
+            if self.count() >= u32::from(THREADS) {
                 return;
             }
             thread::sleep(self.rt, Duration::from_millis(1));
@@ -71,10 +60,12 @@ impl<H: Clock> TurnGate for Turnout<'_, H> {
     fn before(&self, _thread: u8, _turn: u64) {}
 
     fn publishing(&self, thread: u8, _router: u16) {
-        if let Some(published) = self.published.get(usize::from(thread)) {
-            published.fetch_add(1, Ordering::SeqCst);
+        if let Some(bit) = 1u64.checked_shl(u32::from(thread)) {
+            self.published.fetch_or(bit, Ordering::SeqCst);
         }
-        if self.count() < THREADS && self.waits.fetch_add(1, Ordering::SeqCst) < MOST_WAITS {
+        if self.count() < u32::from(THREADS)
+            && self.waits.fetch_add(1, Ordering::SeqCst) < MOST_WAITS
+        {
             self.wait();
         }
     }
@@ -107,16 +98,8 @@ pub fn are_scenarios_good<H: Host + Clock, W: Write>(
     let turnout = Turnout::new(rt, 0);
     let mut good = 0u32;
     for number in 0..count {
-        match draw(alloc, seed.wrapping_add(u64::from(number))) {
-            Ok(scenario) => match try_scenario(rt, alloc, &turnout, &scenario) {
-                Ok(true) => good = good.saturating_add(1),
-                _ => {
-                    let _ = write!(out, "scenario {number}:\n{}", scenario.text);
-                }
-            },
-            Err(_) => {
-                let _ = writeln!(out, "scenario {number}: no memory");
-            }
+        if is_seed_good(alloc, &turnout, seed, number, out) {
+            good = good.saturating_add(1);
         }
     }
     let did = turnout.count();
@@ -126,6 +109,25 @@ pub fn are_scenarios_good<H: Host + Clock, W: Write>(
          replayed and traced"
     );
     count > 0 && good == count
+}
+
+// Whether the scenario of a seed is good; tells of one that is not.
+fn is_seed_good<H: Host + Clock, W: Write>(
+    alloc: Global,
+    turnout: &Turnout<'_, H>,
+    seed: u64,
+    number: u32,
+    out: &mut W,
+) -> bool {
+    let Ok(scenario) = draw(alloc, seed.wrapping_add(u64::from(number))) else {
+        let _ = writeln!(out, "scenario {number}: no memory");
+        return false;
+    };
+    let is_good = try_one(alloc, turnout, &scenario);
+    if !is_good {
+        let _ = write!(out, "scenario {number}:\n{}", scenario.text);
+    }
+    is_good
 }
 
 const RUN_BY_THREADS: Words<'static> = Words::Run {
@@ -141,42 +143,28 @@ const RUN_BY_THREADS: Words<'static> = Words::Run {
 
 // Whether a scenario is run to its end, what its journal tells is done again, and no packet that is
 // traced after a step of it meets a router twice.
-fn try_scenario<H: Host + Clock>(
-    rt: &H,
-    alloc: Global,
-    turnout: &Turnout<'_, H>,
-    scenario: &Scenario,
-) -> Result<bool, AllocError> {
-    let (words, text) = (&RUN_BY_THREADS, scenario.text.as_bytes());
+fn try_one<H: Host + Clock>(alloc: Global, turnout: &Turnout<'_, H>, scenario: &Scenario) -> bool {
+    let (rt, words, text) = (turnout.rt, &RUN_BY_THREADS, scenario.text.as_bytes());
     let none = b"".as_slice();
     let ran = play_in_memory_by(rt, alloc, NO_THRESHOLDS, turnout, words, text, none);
     let replayed = do_in_memory(rt, alloc, &REPLAY, text, ran.kept.as_slice()).status;
-    let straight = is_straight(rt, alloc, scenario, &ran.kept)?;
-    Ok(is_good(ran.status, replayed, straight))
+    let straight = is_straight(rt, alloc, scenario, &ran.kept);
+    is_good(ran.status, replayed, straight)
 }
 
 // Whether the steps of a journal are done again with traces after each, none of which meets a router
 // twice.
-fn is_straight<H: Host + Clock>(
-    rt: &H,
-    alloc: Global,
-    scenario: &Scenario,
-    journal: &[u8],
-) -> Result<bool, AllocError> {
-    let steps = match str::from_utf8(journal) {
-        Ok(journal) => step_lines(journal),
-        Err(_) => None,
-    };
-    let Some(steps) = steps else {
-        return Ok(false);
+fn is_straight<H: Host + Clock>(rt: &H, alloc: Global, scenario: &Scenario, kept: &[u8]) -> bool {
+    let Some(steps) = step_lines(kept) else {
+        return false;
     };
     let last = steps.lines().count().saturating_sub(1) / PART;
     for part in 0..=last {
-        if !is_part_straight(rt, alloc, scenario, steps, part)? {
-            return Ok(false);
+        if !is_part_straight(rt, alloc, scenario, steps, part) {
+            return false;
         }
     }
-    Ok(true)
+    true
 }
 
 fn is_part_straight<H: Host + Clock>(
@@ -185,15 +173,10 @@ fn is_part_straight<H: Host + Clock>(
     scenario: &Scenario,
     steps: &str,
     part: usize,
-) -> Result<bool, AllocError> {
-    match trace_all(alloc, scenario, steps, part)? {
-        Some(text) => Ok(is_run_straight(rt, alloc, &text)),
-        None => Ok(false),
-    }
-}
-
-// Whether a script comes to its end, and prints traces, none of which meets a router twice.
-fn is_run_straight<H: Host + Clock>(rt: &H, alloc: Global, text: &str) -> bool {
+) -> bool {
+    let Some(text) = trace_all(alloc, scenario, steps, part) else {
+        return false;
+    };
     let ran = do_in_memory(rt, alloc, &RUN, text.as_bytes(), b"");
     match str::from_utf8(&ran.out) {
         Ok(out) => ran.status == 0 && are_straight(out),
