@@ -4,10 +4,12 @@ ghost use Rattle.std.specs.Prelude.{◌≡◌, ◌≤◌, ◌<◌, true, vec_len
 ghost use Rattle.fabric.specs.{Fabric.count_lent, Writers.opening_tables};
 ghost use Rattle.guarded.specs.Names.{IsNamed};
 
-use crate::equal_to::equal;
+use crate::equal_to::{equal, holds};
+use crate::jobs::{gives_jobs, port};
 use crate::outside::{publish_outside, settle_side_by_side};
 use control::{Control, ControlName, Opening, Refusal, Share, Step, TurnGate};
 use fabric::{Fabric, MOST_STEPS, Network, Unnamed};
+use forwarder::ForwardPort;
 use network_model::Cost;
 use publication::FabricName;
 use std::alloc::Global;
@@ -28,8 +30,9 @@ const ADDR: u32 = 0x0A01_0203;
 
 // What is done with the fabric of that network.
 #[derive(Clone, Copy)]
-enum Trial {
+pub(crate) enum Trial {
     ByHand,
+    GivesJobs,
     Meets,
     Serves,
     IsRefused { router: u16 },
@@ -37,7 +40,9 @@ enum Trial {
     Settles,
 }
 
-fn two<H: Threads + Wait + Abort + Clock + Sync>(rt: &H, alloc: Global, shares: u8, trial: Trial)
+pub(crate) fn two<H>(rt: &H, alloc: Global, shares: u8, trial: Trial)
+where
+    H: Threads + Wait + Abort + Clock + Sync,
     requires { 0 < shares }
 {
     let network = two_routers(alloc).expect(rt, "network");
@@ -62,12 +67,14 @@ where
     requires openings { opening_tables network ≡ B.openings }
     requires some { 0 < shares }
 {
-    let Ok((fabric, _ports)) = Fabric::<B>::open(rt, alloc, network, unnamed, 0) else {
+    holds(rt, unnamed.len() == 2);
+    let Ok((fabric, ports)) = Fabric::<B>::open(rt, alloc, network, unnamed, 1) else {
         panic!(rt; "open");
     };
+    let mut port = port(rt, alloc, ports);
     let fabric = match trial {
         Trial::Settles => settle_side_by_side(rt, alloc, fabric),
-        _ => controlled::<B, Brand, H>(rt, alloc, Opening::new(shares), fabric, trial),
+        _ => controlled::<B, Brand, H>(rt, alloc, Opening::new(shares), fabric, &mut port, trial),
     };
     fabric.close(rt);
 }
@@ -78,6 +85,7 @@ fn controlled<B, N, H>(
     alloc: Global,
     opening: Opening,
     fabric: Fabric<B>,
+    port: &mut ForwardPort<B>,
     trial: Trial,
 ) -> Fabric<B>
 where
@@ -91,8 +99,8 @@ where
     requires asked { (s : Step) → N.asked s ≡ true }
 {
     match Control::<B, N>::new(alloc, opening, fabric) {
-        Ok((control, mut shares)) => {
-            tried(rt, &control, &mut shares, trial);
+        Ok((control, shares)) => {
+            let shares = tried(rt, &control, shares, port, trial);
             let sum = sum_of(&shares);
             let fabric = control.close(shares);
             equal(rt, fabric.sum(), sum);
@@ -113,22 +121,30 @@ fn sum_of<N: ControlName>(shares: &[Share<N>]) -> u128 {
     sum
 }
 
-fn tried<B, N, H>(rt: &H, control: &Control<B, N>, shares: &mut Vec<Share<N>>, trial: Trial)
+fn tried<B, N, H>(
+    rt: &H,
+    control: &Control<B, N>,
+    mut shares: Vec<Share<N>>,
+    port: &mut ForwardPort<B>,
+    trial: Trial,
+) -> Vec<Share<N>>
 where
     B: FabricName + Send + Sync,
     N: ControlName + Send + Sync,
     H: Threads + Wait + Abort + Clock + Sync,
-    requires some { 0 < vec_len shares.old }
+    requires some { 0 < vec_len shares }
     requires asked { (s : Step) → N.asked s ≡ true }
-    ensures { vec_len shares.new ≡ vec_len shares.old }
+    ensures { vec_len result ≡ vec_len shares }
 {
     match trial {
+        Trial::GivesJobs => return gives_jobs(rt, control, shares, port),
         Trial::ByHand => by_hand(rt, control, &mut shares[0]),
-        Trial::Meets => meets(rt, control, shares),
-        Trial::PublishOutside => publish_outside(rt, control, shares),
-        Trial::IsRefused { router } => is_refused(rt, control, shares, router),
-        _ => serves(rt, control, shares),
+        Trial::Meets => meets(rt, control, &mut shares),
+        Trial::PublishOutside => publish_outside(rt, control, &mut shares),
+        Trial::IsRefused { router } => is_refused(rt, control, &mut shares, router),
+        _ => serves(rt, control, &mut shares),
     }
+    shares
 }
 
 // ---- one thread
@@ -170,12 +186,12 @@ fn by_hand<B: FabricName, N: ControlName, H: Wait + Abort>(
 {
     let deliver = Step::Deliver { router: 1, port: 0 };
     let (up, delivered) = (UP.number(), UP.number() + deliver.number());
-    assert!(rt; share.number() == 0 && control.is_settled(rt));
+    equal(rt, (share.number(), control.is_settled(rt)), (0, true));
     has_sum(rt, share, 0);
     turns(rt, control, share, 0, Ok(None));
     steps(rt, control, share, UP, Ok(()));
     has_sum(rt, share, up);
-    assert!(rt; !control.is_settled(rt));
+    holds(rt, !control.is_settled(rt));
     steps(rt, control, share, UP, Err(Refusal::AlreadyUp));
     turns(rt, control, share, 2, Err(Refusal::UnknownRouter));
     has_sum(rt, share, up);
@@ -222,7 +238,7 @@ where
 {
     control.step(rt, step, &mut shares[0]).expect(rt, "step");
     control.serve(rt, shares, gate).expect(rt, "turns");
-    assert!(rt; control.is_settled(rt));
+    holds(rt, control.is_settled(rt));
 }
 
 fn serves<B, N, H>(rt: &H, control: &Control<B, N>, shares: &mut Vec<Share<N>>)
@@ -235,7 +251,7 @@ where
     ensures { vec_len shares.new ≡ vec_len shares.old }
 {
     serves_after(rt, control, shares, UP, &Open);
-    assert!(rt; shares[0].sum() > UP.number());
+    holds(rt, shares[0].sum() > UP.number());
     serves_after(rt, control, shares, DOWN, &Open);
 }
 
@@ -262,6 +278,21 @@ fn priced(router: u16, cost: Cost) -> Step {
     }
 }
 
+// Takes turns until nothing is left to do.
+fn settles<B: FabricName, N: ControlName, H: Wait + Abort>(
+    rt: &H,
+    control: &Control<B, N>,
+    share: &mut Share<N>,
+)
+    requires asked { (s : Step) → N.asked s ≡ true }
+{
+    steps(rt, control, share, UP, Ok(()));
+    for turn in 0..20u16 {
+        control.turn(rt, turn % 2, share).expect(rt, "turn");
+    }
+    holds(rt, control.is_settled(rt));
+}
+
 // Fills the journal with the same cost, told again and again, so that this router has something to
 // do, and no other.
 fn fill<B: FabricName, N: ControlName, H: Wait + Abort>(
@@ -272,15 +303,9 @@ fn fill<B: FabricName, N: ControlName, H: Wait + Abort>(
 )
     requires asked { (s : Step) → N.asked s ≡ true }
 {
-    control.step(rt, UP, share).expect(rt, "step");
-    for turn in 0..20u16 {
-        control.turn(rt, turn % 2, share).expect(rt, "turn");
-    }
-    assert!(rt; control.is_settled(rt));
+    settles(rt, control, share);
     let cost = Cost::new(5).expect(rt, "cost");
-    control
-        .step(rt, priced(router, cost), share)
-        .expect(rt, "step");
+    steps(rt, control, share, priced(router, cost), Ok(()));
     for _ in 0..MOST_STEPS {
         let told = control.step(rt, priced(router, cost), share);
         if told.is_err() || control.turn(rt, router, share).is_err() {

@@ -4,6 +4,8 @@ ghost use Rattle.std.specs.Prelude.{◌≡◌, vec_len};
 ghost use Rattle.fabric.specs.Writers.{opening_tables};
 
 use crate::equal_to::equal;
+use crate::tickets::lends;
+use crate::traces::ends;
 use fabric::{Answer, Entry, Fabric, FabricName, ImageReader, Network, Refusal, Step, Unnamed};
 use std::alloc::Global;
 use std::marker::Brand;
@@ -25,9 +27,11 @@ pub const LEARNS: [Step; 7] = [
 // An address of that prefix.
 const ADDR: u32 = 0x0A01_0203;
 
-// What is done with the fabric of that network.
+// What is done with the fabric of a network.
 #[derive(Clone, Copy)]
-enum Trial {
+pub(crate) enum Trial {
+    LendsAWriter,
+    EndsTraces,
     PublishesTheWay,
     AnswersByWhatIsInForce,
     StopsAtARefusedStep,
@@ -50,6 +54,8 @@ fn opened<B: FabricName, H: Wait + Abort>(
         panic!(rt; "open");
     };
     match trial {
+        Trial::LendsAWriter => lends(rt, alloc, &mut fabric),
+        Trial::EndsTraces => ends(rt, alloc, &mut fabric),
         Trial::PublishesTheWay => publishes(rt, &mut fabric),
         Trial::AnswersByWhatIsInForce => answers(rt, &mut fabric),
         Trial::StopsAtARefusedStep => stops(rt, &mut fabric),
@@ -58,22 +64,27 @@ fn opened<B: FabricName, H: Wait + Abort>(
     fabric.close(rt);
 }
 
-fn two<H: Wait + Abort>(rt: &H, alloc: Global, trial: Trial) {
-    let network = two_routers(alloc).expect(rt, "network");
+pub(crate) fn two<H: Wait + Abort>(rt: &H, alloc: Global, trial: Trial) {
+    within(rt, alloc, two_routers(alloc).expect(rt, "network"), trial);
+}
+
+pub(crate) fn within<H: Wait + Abort>(rt: &H, alloc: Global, network: Network, trial: Trial) {
     let unnamed = Unnamed::many(alloc, network.routers()).expect(rt, "memory");
     opened::<Brand, H>(rt, alloc, network, unnamed, trial);
 }
 
-// What the prefix of router 0 answers at router 1, once it has learned the way.
-fn way() -> Answer {
-    let via = Entry::Via {
-        port: 0,
-        session: 1,
-    };
+// What an address of that prefix answers, and by which row.
+pub(crate) fn by(generation: u64, entry: Entry) -> Answer {
     Answer {
-        generation: 1,
-        matched: Some((ten(), via)),
+        generation,
+        matched: Some((ten(), entry)),
     }
+}
+
+// What router 1 answers, once it has learned the way.
+pub(crate) fn way() -> Answer {
+    let (port, session) = (0, 1);
+    by(1, Entry::Via { port, session })
 }
 
 // Runs these steps, so many of them up to this refusal.

@@ -3,7 +3,7 @@
 ghost use Rattle.std.specs.Prelude.{◌≡◌, ◌<◌, true, vec_len};
 
 use crate::controls::{UP, serves_after};
-use crate::equal_to::equal;
+use crate::equal_to::{equal, holds};
 use control::{Control, ControlName, Crew, NO_THRESHOLDS, Share, Step, TurnGate, settle};
 use fabric::Fabric;
 use network_model::Cost;
@@ -69,8 +69,8 @@ where
         missed: AtomicU64::new(0),
     };
     serves_after(rt, control, shares, UP, &gate);
-    equal(rt, gate.met.load(Ordering::SeqCst), 1);
-    equal(rt, gate.missed.load(Ordering::SeqCst), 0);
+    let missed = gate.missed.load(Ordering::SeqCst);
+    equal(rt, (gate.met.load(Ordering::SeqCst), missed), (1, 0));
 }
 
 // Each of two threads that settle waits, before it publishes, until the other is to publish too.
@@ -127,10 +127,10 @@ where
         thresholds: NO_THRESHOLDS,
     };
     settle(rt, alloc, &mut fabric, crew, &gate, &mut ()).expect(rt, "turns");
-    assert!(rt; fabric.is_settled());
-    assert!(rt; gate.first.load(Ordering::SeqCst) > 0);
-    assert!(rt; gate.second.load(Ordering::SeqCst) > 0);
+    holds(rt, gate.first.load(Ordering::SeqCst) > 0);
+    holds(rt, gate.second.load(Ordering::SeqCst) > 0);
     equal(rt, gate.missed.load(Ordering::SeqCst), 0);
-    equal(rt, fabric.missed_turns(), 0);
+    let end = (fabric.is_settled(), fabric.missed_turns());
+    equal(rt, end, (true, 0));
     fabric
 }

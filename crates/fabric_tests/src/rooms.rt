@@ -4,8 +4,9 @@
 ghost use Rattle.std.specs.Prelude.{◌≡◌, vec_len};
 ghost use Rattle.fabric.specs.Writers.{opening_tables};
 
-use crate::equal_to::equal;
-use fabric::{Fabric, FabricName, MOST_STEPS, Network, Refusal, Step, Unnamed};
+use crate::equal_to::{equal, holds};
+use crate::scripts::end_opening;
+use fabric::{Fabric, FabricName, MOST_STEPS, Network, Step, Unnamed};
 use linked_list_allocator::LocalHeap;
 use packet_queue::PacketQueue;
 use std::alloc::Global;
@@ -40,33 +41,36 @@ fn ballast<'h>(
             let Ok(weight) = Vec::with_capacity(heap, size) else {
                 break;
             };
-            let pushed = weights.push(weight);
-            assert!(rt; pushed.is_ok());
+            holds(rt, weights.push(weight).is_ok());
         }
     }
     weights
 }
 
-// A queue for two workers, of which nothing is taken where it is refused.
-fn is_queue_refused<'h, B: FabricName>(
+// Whether a queue for two workers is made.
+fn is_made<B: FabricName>(rt: &impl Abort, heap: &LocalHeap) -> bool {
+    match PacketQueue::new::<B, _>(heap, 2) {
+        Ok((_injector, takers)) => {
+            equal(rt, takers.len(), 2);
+            true
+        }
+        Err(_) => false,
+    }
+}
+
+// Whether such a queue needs more than so many bytes. Nothing is taken where it is refused.
+fn is_queue_refused<B: FabricName>(
     rt: &impl Abort,
     alloc: Global,
-    heap: &'h LocalHeap,
+    heap: &LocalHeap,
     left: usize,
 ) -> bool {
     let weight = ballast(rt, alloc, heap, left);
-    let first = PacketQueue::new::<B, &'h LocalHeap>(heap, 2);
+    let was_made = is_made::<B>(rt, heap);
     drop(weight);
-    let is_refused = first.is_err();
-    let (_injector, takers) = match first {
-        Ok(made) => made,
-        Err(_) => {
-            equal(rt, heap.used(), 0);
-            PacketQueue::new::<B, &'h LocalHeap>(heap, 2).expect(rt, "room")
-        }
-    };
-    equal(rt, takers.len(), 2);
-    is_refused
+    equal(rt, heap.used(), 0);
+    holds(rt, was_made || is_made::<B>(rt, heap));
+    !was_made
 }
 
 #[test]
@@ -80,7 +84,7 @@ fn a_queue_needs_room_for_its_places(rt: HostRuntime) {
             refused = units + 1;
         }
     }
-    assert!(&rt; refused > 0 && refused < 1024);
+    holds(&rt, refused > 0 && refused < 1024);
 }
 
 // Whether an opening needs more than so many bytes.
@@ -99,16 +103,9 @@ fn is_opening_refused_over<'h, B: FabricName, H: Wait + Abort>(
     let weight = ballast(rt, alloc, heap, left);
     let end = Fabric::<B, &'h LocalHeap>::open(rt, heap, network, unnamed, 1);
     drop(weight);
-    match end {
-        Ok((fabric, _ports)) => {
-            fabric.close(rt);
-            false
-        }
-        Err(refusal) => {
-            assert!(rt; refusal == Refusal::NoMemory || refusal == Refusal::NoReaderPlace);
-            true
-        }
-    }
+    let is_refused = end.is_err();
+    end_opening(rt, end);
+    is_refused
 }
 
 // Whether two routers, and a reader of each for one worker, need more than so many bytes. A refusal leaves
@@ -126,11 +123,11 @@ fn is_opening_refused<H: Wait + Abort>(rt: &H, alloc: Global, left: usize) -> bo
 fn an_opening_needs_room(rt: HostRuntime) {
     let mut refused = 0;
     for units in 0..1024usize {
-        assert!(&rt; is_opening_refused(&rt, rt.alloc(), units * 16));
+        holds(&rt, is_opening_refused(&rt, rt.alloc(), units * 16));
         if is_opening_refused(&rt, rt.alloc(), JOURNAL + units * 64) {
             equal(&rt, refused, units);
             refused = units + 1;
         }
     }
-    assert!(&rt; refused > 0 && refused < 1024);
+    holds(&rt, refused > 0 && refused < 1024);
 }

@@ -2,15 +2,17 @@
 //! it, until an attempt meets no refusal. A refused attempt changes nothing that can be read, and the end is
 //! that of the run which is never refused.
 
-ghost use Rattle.std.specs.Prelude.{◌≡◌, vec_len, false};
+ghost use Rattle.std.specs.Prelude.{◌≡◌, vec_len};
 ghost use Rattle.fabric.specs.Writers.{opening_tables};
 
-use crate::equal_to::equal;
+use crate::equal_to::{equal, holds};
 use crate::tickets::give_back;
-use fabric::{Entry, Fabric, FabricName, Network, Prefix, Refusal, Step, Ticket, Unnamed};
+use fabric::{
+    Entry, Fabric, FabricName, ImageReader, Network, Prefix, Refusal, Step, Ticket, Unnamed,
+};
 use network_model::{Cost, Distance, SmallAllocator};
 use router_core::Router;
-use std::alloc::Global;
+use std::alloc::{AllocError, Global};
 use std::fmt;
 use std::fmt::Write;
 use std::marker::Brand;
@@ -24,11 +26,12 @@ const MOST: u64 = 4096;
 // An address of 10.0.0.0/8.
 const ADDR: u32 = 0x0A00_0001;
 
-// What is done: a step; steps until nothing is left to do; or a publication by a ticket, with a step while
-// the writer is out.
+// What is done: a step; steps until nothing is left to do, after so many links came up or at once; or a
+// publication by a ticket, with a step while the writer is out.
 #[derive(Clone, Copy)]
 enum Act {
     Do(Step),
+    Start(u16),
     Settle,
     Lend(u16, Step),
 }
@@ -60,14 +63,37 @@ struct Sweep {
     all: bool,
 }
 
-impl Sweep {
-    fn refused(self, nth: u64) -> Refused {
-        if self.all {
+// Where a script runs: what reports are made of, the memory of the fabric, and what is refused of it.
+#[derive(Drop)]
+struct Means<'m, H> {
+    rt: &'m H,
+    alloc: Global,
+    memory: &'m Refusing<Global>,
+    sweep: Sweep,
+}
+
+// The fabric of a script.
+type Tried<'m, B> = Fabric<B, &'m Refusing<Global>>;
+
+impl<H: Abort> Means<'_, H> {
+    // Refuses the n-th allocation of the call to come.
+    fn refuse(&self, nth: u64) {
+        self.memory.refuse(if self.sweep.all {
             Refused::From(nth)
         } else {
             Refused::One(nth)
-        }
+        });
     }
+
+    // Whether that was met, when it ends.
+    fn was_met(&self, has_failed: bool) -> bool {
+        self.memory.was_met(has_failed).expect(self.rt, "refusal")
+    }
+}
+
+// Shows it on a line.
+fn print<T: fmt::Debug>(out: &mut String, shown: &T) -> Result<(), AllocError> {
+    writeln!(out, "{shown:?}")
 }
 
 // What is shown of a router.
@@ -75,16 +101,23 @@ fn print_router<A: SmallAllocator + fmt::Debug>(
     out: &mut String,
     router: &Router<A>,
     notices: usize,
-) -> fmt::Result {
-    let (generation, held, ripe) = (router.generation(), router.held(), router.ripe());
-    let front = router.front();
-    writeln!(out, "{generation} {held} {ripe} {front:?} {notices}")?;
+) -> Result<(), AllocError> {
+    let waiting = (router.held(), router.ripe(), router.front());
+    print(out, &(router.generation(), waiting, notices))?;
     for number in 0..3u8 {
-        writeln!(out, "{:?}", router.port(number))?;
+        print(out, &router.port(number))?;
     }
-    for (prefix, chosen) in router.table().rows() {
-        let (published, machine) = (router.table().published(prefix), router.machine(prefix));
-        writeln!(out, "{prefix:?} {chosen:?} {published:?} {machine:?}")?;
+    print_rows(out, router)
+}
+
+// What is shown of each prefix.
+fn print_rows<A: SmallAllocator + fmt::Debug>(
+    out: &mut String,
+    router: &Router<A>,
+) -> Result<(), AllocError> {
+    for row in router.table().rows() {
+        let published = router.table().published(row.0);
+        print(out, &(row, published, router.machine(row.0)))?;
     }
     Ok(())
 }
@@ -93,10 +126,10 @@ fn print_router<A: SmallAllocator + fmt::Debug>(
 fn print_network<B: FabricName, A: SmallAllocator + fmt::Debug>(
     out: &mut String,
     fabric: &mut Fabric<B, A>,
-) -> fmt::Result {
-    writeln!(out, "{:?}\n{:?}", fabric.journal(), fabric.world().links())?;
+) -> Result<(), AllocError> {
+    print(out, &(fabric.journal(), fabric.world().links()))?;
     for number in 0..3u16 {
-        writeln!(out, "{number} {:?}", fabric.lookup(number, ADDR))?;
+        print(out, &(number, fabric.lookup(number, ADDR)))?;
         let world = fabric.world();
         if usize::from(number) < world.routers().len() {
             print_router(out, world.router(number), world.notices(number))?;
@@ -116,162 +149,206 @@ fn report_of<B: FabricName, A: SmallAllocator + fmt::Debug>(
     report
 }
 
-// Does a step, of which one allocation after another is refused before.
-fn step<B: FabricName, H: Wait + Abort>(
-    rt: &H,
+// It shows what it showed before.
+fn is_unchanged<B: FabricName, A: SmallAllocator + fmt::Debug>(
+    rt: &impl Abort,
     alloc: Global,
-    memory: &Refusing<Global>,
-    fabric: &mut Fabric<B, &Refusing<Global>>,
-    next: &Step,
-    sweep: Sweep,
+    fabric: &mut Fabric<B, A>,
+    before: &String,
 ) {
-    let before = report_of(rt, alloc, fabric);
-    for nth in sweep.first..MOST + 1 {
-        memory.refuse(sweep.refused(nth));
-        let end = fabric.step(rt, *next);
-        let _was_met = memory.was_met(end.is_err()).expect(rt, "refusal");
-        if end.is_ok() {
+    holds(rt, report_of(rt, alloc, fabric) == *before);
+}
+
+// Whether the step is done, of which this allocation is refused.
+fn is_done<B: FabricName, H: Wait + Abort>(
+    on: &Means<'_, H>,
+    fabric: &mut Tried<'_, B>,
+    next: &Step,
+    nth: u64,
+) -> bool {
+    on.refuse(nth);
+    let end = fabric.step(on.rt, *next);
+    on.was_met(end.is_err());
+    holds(on.rt, matches!(end, Ok(()) | Err(Refusal::NoMemory)));
+    end.is_ok()
+}
+
+// Does a step, of which one allocation after another is refused before.
+fn step<B: FabricName, H: Wait + Abort>(on: &Means<'_, H>, fabric: &mut Tried<'_, B>, next: &Step) {
+    let before = report_of(on.rt, on.alloc, fabric);
+    for nth in on.sweep.first..MOST + 1 {
+        if is_done(on, fabric, next, nth) {
             return;
         }
-        equal(rt, end, Err(Refusal::NoMemory));
-        assert!(rt; report_of(rt, alloc, fabric) == before);
+        is_unchanged(on.rt, on.alloc, fabric, &before);
     }
-    panic!(rt; "refused for ever");
+    panic!(on.rt; "refused for ever");
+}
+
+// The ticket of a router, unless this allocation is refused to it.
+fn ticket<'h, B: FabricName, H: Abort>(
+    on: &Means<'_, H>,
+    fabric: &mut Tried<'h, B>,
+    router: u16,
+    nth: u64,
+) -> Option<Ticket<B, &'h Refusing<Global>>> {
+    on.refuse(nth);
+    let end = fabric.ticket(router);
+    on.was_met(end.is_err());
+    match end {
+        Ok(ticket) => Some(ticket),
+        Err(refusal) => {
+            equal(on.rt, refusal, Refusal::NoMemory);
+            None
+        }
+    }
 }
 
 // A router's writer goes out, after as many refusals.
-fn lent<'h, B: FabricName, H: Wait + Abort>(
-    rt: &H,
-    alloc: Global,
-    memory: &Refusing<Global>,
-    fabric: &mut Fabric<B, &'h Refusing<Global>>,
+fn lent<'h, B: FabricName, H: Abort>(
+    on: &Means<'_, H>,
+    fabric: &mut Tried<'h, B>,
     router: u16,
-    sweep: Sweep,
-) -> Ticket<B, &'h Refusing<Global>>
-    ensures { result.is_published ≡ false }
-{
-    let before = report_of(rt, alloc, fabric);
-    for nth in sweep.first..MOST + 1 {
-        memory.refuse(sweep.refused(nth));
-        let end = fabric.ticket(router);
-        let _was_met = memory.was_met(end.is_err()).expect(rt, "refusal");
-        match end {
-            Ok(ticket) => return ticket,
-            Err(refusal) => equal(rt, refusal, Refusal::NoMemory),
+) -> Ticket<B, &'h Refusing<Global>> {
+    let before = report_of(on.rt, on.alloc, fabric);
+    for nth in on.sweep.first..MOST + 1 {
+        if let Some(ticket) = ticket(on, fabric, router, nth) {
+            return ticket;
         }
-        assert!(rt; report_of(rt, alloc, fabric) == before);
+        is_unchanged(on.rt, on.alloc, fabric, &before);
     }
-    panic!(rt; "refused for ever");
+    panic!(on.rt; "refused for ever");
+}
+
+// Whether the ticket is published, of which this allocation is refused.
+fn is_published<'h, B: FabricName, H: Wait + Abort>(
+    on: &Means<'_, H>,
+    ticket: &mut Ticket<B, &'h Refusing<Global>>,
+    nth: u64,
+) -> bool {
+    if ticket.is_published() {
+        panic!(on.rt; "published by a refused call");
+    }
+    on.refuse(nth);
+    let end = ticket.publish(on.rt);
+    on.was_met(end.is_err());
+    end.is_ok()
 }
 
 // The ticket is published, after as many refusals.
 fn publish_ticket<'h, B: FabricName, H: Wait + Abort>(
-    rt: &H,
-    alloc: Global,
-    memory: &Refusing<Global>,
-    fabric: &mut Fabric<B, &'h Refusing<Global>>,
+    on: &Means<'_, H>,
+    fabric: &mut Tried<'h, B>,
     ticket: &mut Ticket<B, &'h Refusing<Global>>,
-    sweep: Sweep,
 ) {
-    let before = report_of(rt, alloc, fabric);
-    for nth in sweep.first..MOST + 1 {
-        if ticket.is_published() {
-            break;
-        }
-        memory.refuse(sweep.refused(nth));
-        let end = ticket.publish(rt);
-        let _was_met = memory.was_met(end.is_err()).expect(rt, "refusal");
-        if end.is_ok() {
+    let before = report_of(on.rt, on.alloc, fabric);
+    for nth in on.sweep.first..MOST + 1 {
+        if is_published(on, ticket, nth) {
             return;
         }
-        assert!(rt; report_of(rt, alloc, fabric) == before);
+        is_unchanged(on.rt, on.alloc, fabric, &before);
     }
-    panic!(rt; "refused for ever");
+    panic!(on.rt; "refused for ever");
+}
+
+// A router publishes by a ticket, and a step is done while the writer is out.
+fn lend<B: FabricName, H: Wait + Abort>(
+    on: &Means<'_, H>,
+    fabric: &mut Tried<'_, B>,
+    router: u16,
+    next: &Step,
+) {
+    let mut ticket = lent(on, fabric, router);
+    step(on, fabric, next);
+    publish_ticket(on, fabric, &mut ticket);
+    give_back(on.rt, fabric, ticket);
 }
 
 // The first three routers take turns until nothing is left to do.
-fn settle<B: FabricName, H: Wait + Abort>(
-    rt: &H,
-    alloc: Global,
-    memory: &Refusing<Global>,
-    fabric: &mut Fabric<B, &Refusing<Global>>,
-    sweep: Sweep,
-) {
+fn settle<B: FabricName, H: Wait + Abort>(on: &Means<'_, H>, fabric: &mut Tried<'_, B>) {
     for turn in 0..1000u16 {
         if fabric.is_settled() {
             return;
         }
         if let Some(next) = fabric.next_step(turn % 3) {
-            step(rt, alloc, memory, fabric, &next, sweep);
+            step(on, fabric, &next);
         }
     }
-    panic!(rt; "never at rest");
+    panic!(on.rt; "never at rest");
 }
 
+// So many links come up, and all settles.
+fn start<B: FabricName, H: Wait + Abort>(on: &Means<'_, H>, fabric: &mut Tried<'_, B>, links: u16) {
+    for link in 0..links {
+        step(on, fabric, &Step::LinkUp { link });
+    }
+    settle(on, fabric);
+}
+
+// Runs the script, and gives what the network shows then.
 fn run<B: FabricName, H: Wait + Abort>(
-    rt: &H,
-    alloc: Global,
-    memory: &Refusing<Global>,
-    fabric: &mut Fabric<B, &Refusing<Global>>,
+    on: &Means<'_, H>,
+    fabric: &mut Tried<'_, B>,
     case: &Case<'_>,
-    sweep: Sweep,
-) {
+) -> String {
     for &next in case.script {
         match next {
-            Act::Do(next) => step(rt, alloc, memory, fabric, &next, sweep),
-            Act::Settle => settle(rt, alloc, memory, fabric, sweep),
-            Act::Lend(router, next) => {
-                let mut ticket = lent(rt, alloc, memory, fabric, router, sweep);
-                step(rt, alloc, memory, fabric, &next, sweep);
-                publish_ticket(rt, alloc, memory, fabric, &mut ticket, sweep);
-                give_back(rt, fabric, ticket);
-            }
+            Act::Do(next) => step(on, fabric, &next),
+            Act::Settle => settle(on, fabric),
+            Act::Start(links) => start(on, fabric, links),
+            Act::Lend(router, next) => lend(on, fabric, router, &next),
         }
     }
+    are_at(on.rt, fabric, case.ends);
+    report_of(on.rt, on.alloc, fabric)
+}
+
+// The router of an end is so.
+fn is_at<A: SmallAllocator>(rt: &impl Abort, router: &Router<A>, end: &End) {
+    let &(_number, prefix, rd, fd, row) = end;
+    let machine = router.machine(prefix).expect(rt, "machine");
+    let (successor, entry) = match row {
+        Some((port, session)) => (Some(port), Entry::Via { port, session }),
+        None => (None, Entry::Unreachable),
+    };
+    equal(
+        rt,
+        (machine.is_passive(), machine.rd(), machine.fd()),
+        (true, Distance::new(rd), Distance::new(fd)),
+    );
+    let published = router.table().published(prefix);
+    equal(
+        rt,
+        (machine.successor(), published),
+        (successor, Some(entry)),
+    );
 }
 
 // Each of these routers is so.
 fn are_at<B: FabricName, A: SmallAllocator>(rt: &impl Abort, fabric: &Fabric<B, A>, ends: &[End]) {
-    for &(number, prefix, rd, fd, row) in ends {
-        let router = fabric.world().routers().get(usize::from(number));
-        let router = router.expect(rt, "router");
-        let machine = router.machine(prefix).expect(rt, "machine");
-        let (successor, entry) = match row {
-            Some((port, session)) => (Some(port), Entry::Via { port, session }),
-            None => (None, Entry::Unreachable),
-        };
-        assert!(rt; machine.is_passive());
-        equal(
-            rt,
-            (machine.rd(), machine.fd()),
-            (Distance::new(rd), Distance::new(fd)),
-        );
-        equal(rt, machine.successor(), successor);
-        equal(rt, router.table().published(prefix), Some(entry));
+    for end in ends {
+        let router = fabric.world().routers().get(usize::from(end.0));
+        is_at(rt, router.expect(rt, "router"), end);
     }
 }
 
 // What the network shows once the script is run.
 fn open_and_run<'h, B: FabricName, H: Wait + Abort>(
-    rt: &H,
-    alloc: Global,
-    memory: &'h Refusing<Global>,
+    on: &Means<'h, H>,
     network: Network,
     unnamed: Vec<Unnamed, &'h Refusing<Global>>,
     case: &Case<'_>,
-    sweep: Sweep,
 ) -> String
     requires books { unnamed.items ≡ B.books }
     requires each { vec_len unnamed ≡ network.routers }
     requires openings { opening_tables network ≡ B.openings }
 {
-    let Ok((mut fabric, _ports)) = Fabric::<B, _>::open(rt, memory, network, unnamed, 0) else {
-        panic!(rt; "open");
+    let Ok((mut fabric, _ports)) = Fabric::<B, _>::open(on.rt, on.memory, network, unnamed, 0)
+    else {
+        panic!(on.rt; "open");
     };
-    run(rt, alloc, memory, &mut fabric, case, sweep);
-    are_at(rt, &fabric, case.ends);
-    let last = report_of(rt, alloc, &mut fabric);
-    fabric.close(rt);
+    let last = run(on, &mut fabric, case);
+    fabric.close(on.rt);
     last
 }
 
@@ -300,7 +377,13 @@ fn end_of<H: Wait + Abort>(rt: &H, alloc: Global, case: &Case<'_>, sweep: Sweep)
     let memory = Refusing::new(alloc);
     let network = made(rt, alloc, case.shape);
     let unnamed = Unnamed::many(&memory, network.routers()).expect(rt, "memory");
-    let end = open_and_run::<Brand, H>(rt, alloc, &memory, network, unnamed, case, sweep);
+    let means = Means {
+        rt,
+        alloc,
+        memory: &memory,
+        sweep,
+    };
+    let end = open_and_run::<Brand, H>(&means, network, unnamed, case);
     (end, memory.met())
 }
 
@@ -313,19 +396,15 @@ fn leads_to<H: Wait + Abort>(rt: &H, alloc: Global, shape: Shape, script: &[Act]
         script,
         ends,
     };
-    let (end, met) = end_of(
-        rt,
-        alloc,
-        &case,
-        Sweep {
-            first: 1,
-            all: true,
-        },
-    );
-    assert!(rt; met > 0);
+    let whole = Sweep {
+        first: 1,
+        all: true,
+    };
+    let (end, met) = end_of(rt, alloc, &case, whole);
+    holds(rt, met > 0);
     for first in 1..MOST {
         let (again, met) = end_of(rt, alloc, &case, Sweep { first, all: false });
-        assert!(rt; again == end);
+        holds(rt, again == end);
         if met == 0 {
             return;
         }
@@ -407,10 +486,7 @@ fn a_writer_goes_out(rt: HostRuntime) {
 #[test]
 fn a_diffusing_computation_goes_round_a_triangle(rt: HostRuntime) {
     let script = [
-        up(0),
-        up(1),
-        up(2),
-        Act::Settle,
+        Act::Start(3),
         down(0),
         deliver(1, 0),
         publish(1),
@@ -429,10 +505,7 @@ fn a_diffusing_computation_goes_round_a_triangle(rt: HostRuntime) {
 #[test]
 fn a_cost_rises_twice(rt: HostRuntime) {
     let script = [
-        up(0),
-        up(1),
-        up(2),
-        Act::Settle,
+        Act::Start(3),
         Act::Do(costs(&rt, 1, 0, 10)),
         deliver(1, 0),
         Act::Do(costs(&rt, 1, 0, 20)),
@@ -449,9 +522,7 @@ fn a_cost_rises_twice(rt: HostRuntime) {
 #[test]
 fn a_prefix_is_cut_off(rt: HostRuntime) {
     let script = [
-        up(0),
-        up(1),
-        Act::Settle,
+        Act::Start(2),
         down(0),
         deliver(1, 0),
         publish(1),
@@ -471,9 +542,7 @@ fn a_prefix_is_cut_off(rt: HostRuntime) {
 #[test]
 fn an_attachment_moves(rt: HostRuntime) {
     let script = [
-        up(0),
-        up(1),
-        Act::Settle,
+        Act::Start(2),
         attach(&rt, 2, 5),
         attach(&rt, 2, 1),
         deliver(2, 1),
@@ -502,13 +571,24 @@ fn is_opening_refused_over<'m, B: FabricName, H: Wait + Abort>(
     memory.refuse(refused);
     let end = Fabric::<B, _>::open(rt, memory, network, unnamed, 1);
     let was_met = memory.was_met(end.is_err()).expect(rt, "refusal");
+    end_opening(rt, end);
+    was_met
+}
+
+// Closes what was opened, or looks at the refusal.
+pub(crate) fn end_opening<B: FabricName, A: SmallAllocator, H: Wait + Abort>(
+    rt: &H,
+    end: Result<(Fabric<B, A>, Vec<Vec<ImageReader<B, A>, A>, A>), Refusal>,
+) {
     match end {
         Ok((fabric, _ports)) => fabric.close(rt),
         Err(refusal) => {
-            assert!(rt; refusal == Refusal::NoMemory || refusal == Refusal::NoReaderPlace);
+            holds(
+                rt,
+                matches!(refusal, Refusal::NoMemory | Refusal::NoReaderPlace),
+            );
         }
     }
-    was_met
 }
 
 // Whether an opening of two routers, and of a reader of each for one worker, meets a refusal of these.
@@ -531,5 +611,5 @@ fn an_opening_is_refused_at_each_allocation(rt: HostRuntime) {
         }
         last = nth;
     }
-    assert!(&rt; last > 0 && last < MOST - 1);
+    holds(&rt, last > 0 && last < MOST - 1);
 }

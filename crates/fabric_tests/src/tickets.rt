@@ -1,17 +1,14 @@
 //! Tickets: what is refused while a router's writer is out, and what the journal has afterwards.
 
-ghost use Rattle.std.specs.Prelude.{◌≡◌, vec_len, false};
-ghost use Rattle.fabric.specs.Writers.{opening_tables};
+ghost use Rattle.std.specs.Prelude.{◌≡◌, false};
 
-use crate::equal_to::equal;
-use crate::fabrics::LEARNS;
-use fabric::{Fabric, FabricName, Network, Refusal, Step, Ticket, Unnamed};
+use crate::equal_to::{equal, holds};
+use crate::fabrics::{LEARNS, Trial, two};
+use fabric::{Fabric, FabricName, Refusal, Step, Ticket};
 use network_model::SmallAllocator;
 use std::alloc::Global;
-use std::marker::Brand;
 use std::process::Abort;
 use std::sync::Wait;
-use test_support::two_routers;
 use tracer::{Ending, TraceFault, trace};
 
 // An address of the prefix of router 0.
@@ -106,7 +103,7 @@ fn goes_on<B: FabricName, H: Wait + Abort>(
     has_steps(rt, fabric, 7);
     has_turn(rt, fabric, 0);
     ends(rt, alloc, fabric, Ok(Ending::NoRoute));
-    assert!(rt; ticket.publish(rt).is_ok());
+    holds(rt, ticket.publish(rt).is_ok());
     has_steps(rt, fabric, 7);
     ends(rt, alloc, fabric, Err(TraceFault::Stale));
     give_back(rt, fabric, ticket);
@@ -124,14 +121,12 @@ fn has_published<B: FabricName>(rt: &impl Abort, alloc: Global, fabric: &mut Fab
     equal(rt, after.path.as_slice(), [1u16].as_slice());
 }
 
-fn lends<B: FabricName, H: Wait + Abort>(rt: &H, alloc: Global, fabric: &mut Fabric<B>) {
+pub(crate) fn lends<B: FabricName, H: Wait + Abort>(rt: &H, alloc: Global, fabric: &mut Fabric<B>) {
     let ran = fabric.run(rt, &LEARNS[..6]);
     equal(rt, (ran.done, ran.refusal), (6, None));
     refuses(rt, fabric, 2, Refusal::UnknownRouter);
     refuses(rt, fabric, 0, Refusal::NothingDue);
-    let Ok(ticket) = fabric.ticket(1) else {
-        panic!(rt; "ticket");
-    };
+    let ticket = fabric.ticket(1).expect(rt, "ticket");
     give_back(rt, fabric, ticket);
     has_steps(rt, fabric, 6);
     let Ok(ticket) = fabric.ticket(1) else {
@@ -141,27 +136,7 @@ fn lends<B: FabricName, H: Wait + Abort>(rt: &H, alloc: Global, fabric: &mut Fab
     goes_on(rt, alloc, fabric, ticket);
 }
 
-fn opened<B: FabricName, H: Wait + Abort>(
-    rt: &H,
-    alloc: Global,
-    network: Network,
-    unnamed: Vec<Unnamed>,
-)
-    requires books { unnamed.items ≡ B.books }
-    requires each { vec_len unnamed ≡ network.routers }
-    requires openings { opening_tables network ≡ B.openings }
-{
-    let Ok((mut fabric, _ports)) = Fabric::<B>::open(rt, alloc, network, unnamed, 0) else {
-        panic!(rt; "open");
-    };
-    lends(rt, alloc, &mut fabric);
-    fabric.close(rt);
-}
-
 #[test]
 fn goes_on_while_a_writer_is_out(rt: HostRuntime) {
-    let alloc = rt.alloc();
-    let network = two_routers(alloc).expect(&rt, "network");
-    let unnamed = Unnamed::many(alloc, network.routers()).expect(&rt, "memory");
-    opened::<Brand, HostRuntime>(&rt, alloc, network, unnamed);
+    two(&rt, rt.alloc(), Trial::LendsAWriter);
 }

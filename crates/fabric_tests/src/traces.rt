@@ -1,13 +1,10 @@
 //! Traces in three routers whose links are down.
 
-ghost use Rattle.std.specs.Prelude.{◌≡◌, vec_len};
-ghost use Rattle.fabric.specs.Writers.{opening_tables};
-
 use crate::equal_to::equal;
-use fabric::{Network, Prefix, Unnamed};
+use crate::fabrics::{Trial, within};
+use fabric::{Network, Prefix};
 use network_model::Cost;
 use std::alloc::Global;
-use std::marker::Brand;
 use std::process::Abort;
 use std::sync::Wait;
 use test_support::{link, ten};
@@ -38,24 +35,6 @@ fn line(rt: &impl Abort, alloc: Global) -> Network {
     Network::new(3, links, attachments).expect(rt, "network")
 }
 
-// Opens it, does this, and closes it.
-fn opened<B: FabricName, H: Wait + Abort>(
-    rt: &H,
-    alloc: Global,
-    network: Network,
-    unnamed: Vec<Unnamed>,
-)
-    requires books { unnamed.items ≡ B.books }
-    requires each { vec_len unnamed ≡ network.routers }
-    requires openings { opening_tables network ≡ B.openings }
-{
-    let Ok((mut fabric, _ports)) = Fabric::<B>::open(rt, alloc, network, unnamed, 1) else {
-        panic!(rt; "open");
-    };
-    ends(rt, alloc, &mut fabric);
-    fabric.close(rt);
-}
-
 // The trace from a router ends there so.
 fn goes<B: FabricName, H: Wait + Abort>(
     rt: &H,
@@ -71,7 +50,7 @@ fn goes<B: FabricName, H: Wait + Abort>(
 }
 
 // Every link is down.
-fn ends<B: FabricName, H: Wait + Abort>(rt: &H, alloc: Global, fabric: &mut Fabric<B>) {
+pub(crate) fn ends<B: FabricName, H: Wait + Abort>(rt: &H, alloc: Global, fabric: &mut Fabric<B>) {
     goes(rt, alloc, fabric, ADDR, A, Ending::Delivered);
     goes(rt, alloc, fabric, LONGER, B, Ending::Delivered);
     goes(rt, alloc, fabric, ADDR, C, Ending::NoRoute);
@@ -82,6 +61,5 @@ fn ends<B: FabricName, H: Wait + Abort>(rt: &H, alloc: Global, fabric: &mut Fabr
 #[test]
 fn ends_where_it_begins(rt: HostRuntime) {
     let network = line(&rt, rt.alloc());
-    let unnamed = Unnamed::many(rt.alloc(), network.routers()).expect(&rt, "memory");
-    opened::<Brand, _>(&rt, rt.alloc(), network, unnamed);
+    within(&rt, rt.alloc(), network, Trial::EndsTraces);
 }

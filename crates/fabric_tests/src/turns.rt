@@ -1,6 +1,6 @@
 //! Turns of a course between other steps: the hint has each router that has something to do.
 
-use crate::equal_to::equal;
+use crate::equal_to::{equal, holds};
 use crate::scripts::{Shape, made};
 use course::{Course, Order, Step, Stepping, Turns, settle};
 use network_model::Cost;
@@ -37,9 +37,8 @@ fn no_turn_is_missed(rt: HostRuntime) {
         }
         draws.after(0);
     }
-    assert!(&rt; course.steps() > 1000);
+    holds(&rt, course.steps() > 1000);
     let ran = settle(&mut course, Order::Cyclic, 10_000);
-    equal(&rt, ran.refusal, None);
-    assert!(&rt; course.is_settled());
-    equal(&rt, course.missed_turns(), 0);
+    let end = (ran.refusal, course.is_settled());
+    equal(&rt, (end, course.missed_turns()), ((None, true), 0));
 }

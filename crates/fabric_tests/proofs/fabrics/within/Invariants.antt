@@ -1,5 +1,5 @@
 use Rattle.fabric.specs.Writers.{opening_tables}
-use Rattle.fabric_tests.proofs.jobs.job_while_a_turn_waits.Given as goal
+use Rattle.fabric_tests.proofs.fabrics.within.Given as goal
 
 -- the books that were just made, and the tables with which the network opens
 abbrev pub ghosts-opened : goal.ghosts-opened

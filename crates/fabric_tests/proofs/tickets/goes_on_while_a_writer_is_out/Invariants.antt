@@ -1,6 +1,0 @@
-use Rattle.fabric.specs.Writers.{opening_tables}
-use Rattle.fabric_tests.proofs.tickets.goes_on_while_a_writer_is_out.Given as goal
-
--- the books that were just made, and the tables with which the network opens
-abbrev pub ghosts-opened : goal.ghosts-opened
-ghosts-opened g a = record { books = a.unnamed.items; openings = opening_tables a.network }
