@@ -5,7 +5,6 @@ ghost use Rattle.fabric.specs.Writers.{opening_tables};
 
 use crate::equal_to::equal;
 use crate::tickets::lends;
-use crate::traces::ends;
 use fabric::{Answer, Entry, Fabric, FabricName, ImageReader, Network, Refusal, Step, Unnamed};
 use std::alloc::Global;
 use std::marker::Brand;
@@ -31,7 +30,6 @@ const ADDR: u32 = 0x0A01_0203;
 #[derive(Clone, Copy)]
 pub(crate) enum Trial {
     LendsAWriter,
-    EndsTraces,
     PublishesTheWay,
     AnswersByWhatIsInForce,
     StopsAtARefusedStep,
@@ -55,7 +53,6 @@ fn opened<B: FabricName, H: Wait + Abort>(
     };
     match trial {
         Trial::LendsAWriter => lends(rt, alloc, &mut fabric),
-        Trial::EndsTraces => ends(rt, alloc, &mut fabric),
         Trial::PublishesTheWay => publishes(rt, &mut fabric),
         Trial::AnswersByWhatIsInForce => answers(rt, &mut fabric),
         Trial::StopsAtARefusedStep => stops(rt, &mut fabric),

@@ -1,5 +1,5 @@
-//! Tests of all that threads share: publications, queues and workers, and above them fabrics, control threads
-//! and traces, each through its public surface.
+//! Tests of all that threads share: publications, queues and workers, and above them fabrics and control threads,
+//! each through its public surface.
 //!
 //! Some facts of threads and of memory are in no clause. For example, a reader sees what its writer publishes
 //! while both go on, and a turn lets the lock go while it publishes. A body that does neither meets every
@@ -13,7 +13,6 @@
 //!   tickets                       what is refused while a writer is out
 //!   turns                         whoever has something to do is found without asking all
 //!   jobs                          what readers answer meanwhile
-//!   traces                        packets along the images in force
 //!   refusals, scripts, rooms      want of memory
 //! ```
 //!
@@ -59,8 +58,6 @@ mod rooms;
 mod scripts;
 #[cfg(test)]
 mod tickets;
-#[cfg(test)]
-mod traces;
 #[cfg(test)]
 mod turns;
 #[cfg(test)]

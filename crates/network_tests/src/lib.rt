@@ -1,30 +1,21 @@
-//! Tests of addresses, costs, tables, images, machines, links, routers, worlds and networks in simulated time,
-//! each through its public surface.
+//! Tests of images, machines, links, worlds and networks in simulated time, each through its public surface.
 //!
 //! A body that gives up for want of memory meets any contract, because such a refusal is always allowed. So
 //! calls that take memory are run here on a path on which they have to succeed, and some facts have no
-//! clause. For example, rows that come and go take no more memory from their second round on.
+//! clause. For example, rows that come and go take no more memory from their second round on. What the tests of
+//! `network_ffi` or the cases of `trials` run is not run here again.
 //!
 //! The tests stand in a crate above those that they test, because a crate with tests is checked a second time
 //! with them. So they see public surfaces alone, as a user does.
 //!
 //! ```text
-//!   addresses, values                 texts that are no prefixes; values of several tests
 //!   pools, node_pools, word_pools     blocks that are taken and given back
 //!   images, array_images, word_images rows that are set, listed and taken out, and looked up
-//!   patches, compiled                 images of tables, and what patches make of them
-//!   machines, replies                 worked tables of one machine, with origin states and awaited ports
-//!   links, tables, gates, routers, worlds
-//!   copies, wide                      copies of networks; networks with other limits
-//!   timed, reports, ways              events at moments that are worked out by hand; who is cut off then
-//!   refusals                          want of memory
-//! ```
-//!
-//! ```text
-//! let mut table = RouteTable::new(rt.alloc());
-//! table.set(prefix(&rt, "240.0.0.0/4"), Entry::Unreachable).expect(&rt, "memory");
-//! let image = compile(rt.alloc(), &table).expect(&rt, "memory");
-//! assert_eq!(rt; image.generation(), 0);
+//!   patches                           what patches make of images
+//!   machines                          worked tables of one machine, with origin states and awaited ports
+//!   links, worlds, wide               links, two routers, and the network of the widest limits
+//!   timed                             want of memory in simulated time, and for who is cut off
+//!   refusals                          want of memory elsewhere
 //! ```
 //!
 //! Want of memory (`src/refusals.rt`): a call is made over a heap with 0, 16, 32 .. bytes left, until it is
@@ -36,17 +27,9 @@
 #![tactic(auto)]
 
 #[cfg(test)]
-mod addresses;
-#[cfg(test)]
 mod array_images;
 #[cfg(test)]
-mod compiled;
-#[cfg(test)]
-mod copies;
-#[cfg(test)]
 mod equal_to;
-#[cfg(test)]
-mod gates;
 #[cfg(test)]
 mod images;
 #[cfg(test)]
@@ -62,19 +45,9 @@ mod pools;
 #[cfg(test)]
 mod refusals;
 #[cfg(test)]
-mod replies;
-#[cfg(test)]
-mod reports;
-#[cfg(test)]
-mod routers;
-#[cfg(test)]
-mod tables;
-#[cfg(test)]
 mod timed;
 #[cfg(test)]
 mod values;
-#[cfg(test)]
-mod ways;
 #[cfg(test)]
 mod wide;
 #[cfg(test)]

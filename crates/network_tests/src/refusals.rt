@@ -3,16 +3,14 @@
 
 use crate::array_images::{copy_five, set_two};
 use crate::equal_to::{equal, holds};
-use crate::gates::held;
 use crate::links::one_link;
-use crate::routers::{one_port, take, up};
-use crate::values::{addr, prefix, update};
+use crate::values::{addr, cost, prefix, update};
 use crate::word_images::set_words;
 use dual_machine::{Cost, Distance, Event, Kind, Machine, PortInfo, Sends};
 use image_compiler::compile;
 use link_fifo::{LinkRefusal, Links};
 use linked_list_allocator::LocalHeap as Heap;
-use network_model::{End, Item, SmallAllocator};
+use network_model::{End, Held, Item, Port, SmallAllocator};
 use release_gate::Gate;
 use route_table::{Entry, RouteTable};
 use router_core::Router;
@@ -199,6 +197,15 @@ fn set(rt: &impl Abort, heap: &Heap, left: usize) -> bool {
     is_refused
 }
 
+// An update that leaves by this port.
+fn held(port: u8) -> Held {
+    Held {
+        port,
+        session: 1,
+        message: update(),
+    }
+}
+
 // Whether a message is refused with so many bytes left.
 fn is_not_held(rt: &impl Abort, heap: &Heap, left: usize, gate: &mut Gate<&Heap>) -> bool {
     let _weight = ballast(rt, heap, left);
@@ -272,6 +279,31 @@ fn answers_by_two(rt: &impl Abort, image: &Image<&Heap>) {
     equal(rt, image.lookup(addr(rt, "10.2.0.1")), Some(wide));
 }
 
+// A router with one port, at cost 5, that is down.
+fn one_port<A: SmallAllocator>(rt: &impl Abort, alloc: A) -> Router<A> {
+    let port = Port {
+        up: false,
+        session: 0,
+        cost: cost(rt, 5),
+    };
+    let ports = vec![in alloc; port].expect(rt, "memory");
+    Router::new(alloc, ports, &[]).expect(rt, "memory")
+}
+
+// Takes the item, where it may be taken.
+fn take<A: SmallAllocator>(rt: &impl Abort, router: &mut Router<A>, item: Item) {
+    holds(rt, router.can_take(0, &item));
+    router.accept(0, &item).expect(rt, "memory");
+}
+
+// The link comes up.
+fn up(rt: &impl Abort) -> Item {
+    Item::Up {
+        session: 1,
+        cost: cost(rt, 5),
+    }
+}
+
 // What a router shows: how many rows it has chosen and messages it holds, and whether it would publish.
 fn told(router: &Router<&Heap>) -> (usize, usize, bool) {
     (router.table().len(), router.held(), router.due())
@@ -307,14 +339,14 @@ fn accept(
 }
 
 fn accept_notice(rt: &impl Abort, heap: &Heap, left: usize) -> bool {
-    let mut router = one_port(rt, heap, &[]);
+    let mut router = one_port(rt, heap);
     let is_refused = accept(rt, heap, left, &mut router, &up(rt));
     holds(rt, router.can_take(0, &Item::Message(update())));
     is_refused
 }
 
 fn accept_message(rt: &impl Abort, heap: &Heap, left: usize) -> bool {
-    let mut router = one_port(rt, heap, &[]);
+    let mut router = one_port(rt, heap);
     take(rt, &mut router, up(rt));
     let is_refused = accept(rt, heap, left, &mut router, &Item::Message(update()));
     equal(rt, told(&router), (1, 1, true));

@@ -1,13 +1,15 @@
-//! Networks in simulated time. Which events are done, and when, is worked out by hand from the delays.
+//! Want of memory in simulated time. Which events are done, and when, is asked by the tests of `network_ffi` and by
+//! the cases of `trials`.
 
 ghost use Rattle.std.specs.Prelude.{◌≡◌, length, IfSome};
 
 use crate::equal_to::equal;
-use network_model::{Entry, SmallAllocator};
+use network_model::SmallAllocator;
+use reachability::CutOff;
 use std::alloc::Global;
 use std::fmt;
 use std::fmt::Write;
-use test_support::{Refused, Refusing, ten, two_routers};
+use test_support::{Refused, Refusing, two_routers};
 use timed_simulation::{
     LinkDelays, Network, Refusal, Step, TimeFault, TimedRan, TimedSimulation, is_change,
 };
@@ -19,78 +21,13 @@ const MOST: u64 = 4096;
 const ADDR: u32 = 0x0A00_0001;
 
 // An item is 5 microseconds on its way to router 0 and 7 to router 1.
-pub const DELAYS: LinkDelays = LinkDelays { to_a: 5, to_b: 7 };
+const DELAYS: LinkDelays = LinkDelays { to_a: 5, to_b: 7 };
 
 // The routers publish 10 and 20 microseconds after they have something to publish.
-pub const PUBLICATIONS: [u64; 2] = [10, 20];
-
-// What is done, and what comes of it; or what is shown then.
-enum Act {
-    // A change is given for a moment.
-    At(u64, Step, Result<(), TimeFault>),
-    // The next event is done by itself: when, and its step.
-    Next(u64, Step),
-    // What is due up to a moment is done, or all: so many events, up to this fault.
-    Until(u64, usize, Option<TimeFault>),
-    ToRest(usize, Option<TimeFault>),
-    // The first change is taken off the list.
-    Withdraw(Option<(u64, Step)>),
-    // The moment, how many changes are left, and whether nothing is left to do.
-    Is(u64, usize, bool),
-    // How many steps were done, and what router 1 answers: of which generation, and the entry of 10.0.0.0/8.
-    Finds(u64, u64, Option<Entry>),
-}
-
-fn does_next(timed: &mut TimedSimulation, moment: u64, step: Step) -> bool {
-    let Some(next) = timed.next_event() else {
-        return false;
-    };
-    let ran = timed.run_until(moment, 1);
-    (next.moment, next.step, next.given) == (moment, step, is_change(&step))
-        && (ran.done, ran.fault, timed.now()) == (1, None, moment)
-}
-
-fn withdraws(timed: &mut TimedSimulation, wanted: Option<(u64, Step)>) -> bool {
-    match (timed.withdraw(), wanted) {
-        (Some(change), Some(wanted)) => (change.moment, change.step) == wanted,
-        (change, wanted) => change == None && wanted == None,
-    }
-}
-
-fn finds(timed: &TimedSimulation, steps: u64, generation: u64, entry: Option<Entry>) -> bool {
-    let matched = match entry {
-        Some(entry) => Some((ten(), entry)),
-        None => None,
-    };
-    let simulation = timed.simulation();
-    match simulation.lookup(1, ADDR) {
-        Some(answer) => {
-            (simulation.steps(), answer.generation, answer.matched) == (steps, generation, matched)
-        }
-        None => false,
-    }
-}
-
-// Does it. Whether this comes of it.
-fn goes(timed: &mut TimedSimulation, act: &Act) -> bool {
-    match *act {
-        Act::At(moment, step, wanted) => is_change(&step) && timed.at(moment, step) == wanted,
-        Act::Next(moment, step) => does_next(timed, moment, step),
-        Act::Until(moment, done, fault) => {
-            timed.run_until(moment, usize::MAX) == TimedRan { done, fault }
-        }
-        Act::ToRest(done, fault) => timed.run_to_rest(usize::MAX) == TimedRan { done, fault },
-        Act::Withdraw(wanted) => withdraws(timed, wanted),
-        Act::Is(now, changes, rests) => {
-            (timed.now(), timed.changes().len()) == (now, changes)
-                && (timed.is_at_rest(), timed.next_event() == None) == (rests, rests)
-        }
-        Act::Finds(steps, generation, entry) => finds(timed, steps, generation, entry),
-    }
-}
+const PUBLICATIONS: [u64; 2] = [10, 20];
 
 // The two routers and their link, counted.
-pub fn counted(alloc: Global) -> Option<Network>
+fn counted(alloc: Global) -> Option<Network>
     ensures links { IfSome result (λ n. length n.links ≡ 1) }
     ensures routers { IfSome result (λ n. n.routers ≡ 2) }
 {
@@ -102,131 +39,14 @@ pub fn counted(alloc: Global) -> Option<Network>
     }
 }
 
-// The two routers, opened with these delays of their link.
-fn opened<A: SmallAllocator>(
-    alloc: Global,
-    memory: A,
-    delays: LinkDelays,
-) -> Option<TimedSimulation<A>> {
-    TimedSimulation::open(memory, counted(alloc)?, &[delays], &PUBLICATIONS).ok()
+// The two routers, opened.
+fn opened<A: SmallAllocator>(alloc: Global, memory: A) -> Option<TimedSimulation<A>> {
+    TimedSimulation::open(memory, counted(alloc)?, &[DELAYS], &PUBLICATIONS).ok()
 }
 
-// The place of the first act of which something else comes.
-fn first_wrong(timed: &mut TimedSimulation, acts: &[Act]) -> Option<usize> {
-    for (place, act) in acts.iter().enumerate() {
-        if !goes(timed, act) {
-            return Some(place);
-        }
-    }
-    timed.holds();
-    None
-}
-
-// In a network with these delays; 0 too, where memory is lacking.
-fn first_wrong_in(alloc: Global, delays: LinkDelays, acts: &[Act]) -> Option<usize> {
-    match opened(alloc, alloc, delays) {
-        Some(mut timed) => first_wrong(&mut timed, acts),
-        None => Some(0),
-    }
-}
-
-pub const UP: Step = Step::LinkUp { link: 0 };
+const UP: Step = Step::LinkUp { link: 0 };
 
 const DOWN: Step = Step::LinkDown { link: 0 };
-
-const VIA: Entry = Entry::Via {
-    port: 0,
-    session: 1,
-};
-
-const TO_0: Step = Step::Deliver { router: 0, port: 0 };
-
-const TO_1: Step = Step::Deliver { router: 1, port: 0 };
-
-// Router 0 hears of the link at 8 and publishes at 18. Its message is at router 1 at 25, which publishes at 45
-// and answers. All is done when router 0 has the answer, at 50.
-const COME_TO_REST: [Act; 12] = [
-    Act::Is(0, 0, true),
-    Act::At(3, UP, Ok(())),
-    Act::Is(0, 1, false),
-    Act::Next(3, UP),
-    Act::Next(8, TO_0),
-    Act::Next(10, TO_1),
-    Act::Next(18, Step::Publish { router: 0 }),
-    Act::Next(18, Step::Release { router: 0 }),
-    Act::Next(25, TO_1),
-    Act::ToRest(3, None),
-    Act::Is(50, 0, true),
-    Act::Finds(9, 1, Some(VIA)),
-];
-
-#[test]
-fn two_routers_come_to_rest(rt: HostRuntime) {
-    equal(&rt, first_wrong_in(rt.alloc(), DELAYS, &COME_TO_REST), None);
-}
-
-// The link goes down at 20, while the message of router 0 is on its way. The message is lost, and each router
-// hears of the loss its own delay later.
-const IS_LOST: [Act; 9] = [
-    Act::At(20, DOWN, Ok(())),
-    Act::At(3, UP, Ok(())),
-    Act::Until(19, 5, None),
-    Act::Is(18, 1, false),
-    Act::Next(20, DOWN),
-    Act::Next(25, TO_0),
-    Act::Next(27, TO_1),
-    Act::Is(27, 0, true),
-    Act::Finds(8, 0, None),
-];
-
-#[test]
-fn what_is_on_its_way_is_lost(rt: HostRuntime) {
-    equal(&rt, first_wrong_in(rt.alloc(), DELAYS, &IS_LOST), None);
-}
-
-// A change for a past moment is not taken. One whose step is refused stays the first, until it is withdrawn.
-const ARE_REFUSED: [Act; 10] = [
-    Act::At(3, UP, Ok(())),
-    Act::At(4, UP, Ok(())),
-    Act::At(4, DOWN, Ok(())),
-    Act::ToRest(1, Some(TimeFault::Refused(Refusal::AlreadyUp))),
-    Act::At(2, DOWN, Err(TimeFault::PastMoment)),
-    Act::Is(3, 2, false),
-    Act::Withdraw(Some((4, UP))),
-    Act::ToRest(7, None),
-    Act::Is(18, 0, true),
-    Act::Withdraw(None),
-];
-
-#[test]
-fn refused_changes(rt: HostRuntime) {
-    equal(&rt, first_wrong_in(rt.alloc(), DELAYS, &ARE_REFUSED), None);
-    assert!(rt; !is_change(&TO_0) && is_change(&DOWN));
-}
-
-const TIME_IS_SPENT: [Act; 3] = [
-    Act::At(7, UP, Ok(())),
-    Act::ToRest(2, Some(TimeFault::TimeSpent)),
-    Act::Is(8, 0, false),
-];
-
-// An item that is on its way for ever does not come.
-#[test]
-fn time_is_spent(rt: HostRuntime) {
-    let delays = LinkDelays {
-        to_a: u64::MAX,
-        to_b: 1,
-    };
-    equal(
-        &rt,
-        first_wrong_in(rt.alloc(), delays, &TIME_IS_SPENT),
-        None,
-    );
-    let told = format!(in rt.alloc(); "{} {}", TimeFault::PastMoment, TimeFault::TimeSpent).expect(
-        &rt, "memory",
-    );
-    assert!(rt; told.as_str() == "51 PastMoment 52 TimeSpent");
-}
 
 // What is shown of it.
 fn print_timed<A: SmallAllocator>(out: &mut String, timed: &TimedSimulation<A>) -> fmt::Result {
@@ -304,7 +124,7 @@ fn is_done_at_last(
 // Whether an opening is refused, where this allocation is, with all behind it; none where that does not fit.
 fn is_opening_refused(alloc: Global, memory: &Refusing<Global>, nth: u64) -> Option<bool> {
     memory.refuse(Refused::From(nth));
-    let has_failed = opened(alloc, memory, DELAYS).is_none();
+    let has_failed = opened(alloc, memory).is_none();
     let was_met = memory.was_met(has_failed)?;
     (was_met == has_failed).then_some(was_met)
 }
@@ -349,7 +169,7 @@ fn go_on(
 
 fn end_of(alloc: Global, is_refused: bool) -> Option<String> {
     let memory = Refusing::new(alloc);
-    match opened(alloc, &memory, DELAYS) {
+    match opened(alloc, &memory) {
         Some(mut timed) => go_on(alloc, &memory, &mut timed, is_refused),
         None => None,
     }
@@ -362,4 +182,25 @@ fn refused_allocations(rt: HostRuntime) {
     equal(&rt, is_opened_at_last(rt.alloc()), Some(true));
     let end = end_of(rt.alloc(), false).expect(&rt, "end");
     equal(&rt, end_of(rt.alloc(), true), Some(end));
+}
+
+// Whether the n-th allocation is refused; none where a router is cut off in the end, be it past the last.
+fn is_room_refused(alloc: Global, nth: u64) -> Option<bool> {
+    let memory = Refusing::new(alloc);
+    memory.refuse(Refused::From(nth));
+    let was_met = memory.was_met(CutOff::new(&memory, 2).is_err());
+    let made = CutOff::new(&memory, 2).ok()?;
+    let is_any = made.is_cut_off(0) || made.is_cut_off(1) || made.is_cut_off(2);
+    if made.routers() == 2 && !is_any {
+        was_met
+    } else {
+        None
+    }
+}
+
+#[test]
+fn room_for_who_is_cut_off_is_refused(rt: HostRuntime) {
+    for (nth, wanted) in [(1, true), (2, true), (3, false)] {
+        equal(&rt, is_room_refused(rt.alloc(), nth), Some(wanted));
+    }
 }
