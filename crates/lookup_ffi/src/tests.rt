@@ -1,7 +1,5 @@
 //! The calls, as C makes them.
 
-ghost use Rattle.std.specs.Prelude.{◌-◌, ◌^◌, ◌<◌};
-
 use crate::readers::{
     tuhvondi_reader_free, tuhvondi_reader_learn, tuhvondi_reader_lookup, tuhvondi_writer_free,
     tuhvondi_writer_new, tuhvondi_writer_publish, tuhvondi_writer_published,
@@ -430,43 +428,6 @@ fn rows_are_listed_and_removed(rt: HostRuntime) {
     let mut bytes = 0;
     let status = tuhvondi_image_bytes(alloc, &mut hands.image, &mut bytes);
     equal(&rt, status == 0 && bytes >= 16 * 15 + 8 * 3, true);
-}
-
-// 10.0.0.0 with 16 times this in place of its second number.
-fn place(v: u8) -> u32
-    ensures { result < 2 ^ 32 - 1 }
-{
-    0x0a00_0000 + u32::from(v) * 0x0010_0000
-}
-
-// Sixteen patches of one row each.
-#[test]
-fn sixteen_patches_fill_a_node(rt: HostRuntime) {
-    let alloc = rt.alloc();
-    let mut image = ImageHandle::none(alloc);
-    equal(&rt, tuhvondi_image_new(alloc, &[], &mut image), 0);
-    for v in [15, 14, 13, 12, 11, 10, 9, 8, 7, 6, 5, 4, 3, 2, 1, 0] {
-        let rows = [via(place(v), 12, v)];
-        let generation = u64::from(v) + 1;
-        equal(
-            &rt,
-            tuhvondi_image_apply(alloc, &mut image, generation, &rows),
-            0,
-        );
-    }
-    let found = look(alloc, &mut image, 0x0a60_0001);
-    assert!(&rt; found == Answer::Row(via(0x0a60_0000, 12, 6)));
-    for v in [0, 1, 2, 3, 4, 5, 6, 7, 8, 9, 10, 11, 12, 13, 14, 15] {
-        let found = look(alloc, &mut image, place(v) + 1);
-        assert!(&rt; found == Answer::Row(via(place(v), 12, v)));
-    }
-    let mut generation = 0;
-    equal(
-        &rt,
-        tuhvondi_image_generation(alloc, &mut image, &mut generation),
-        0,
-    );
-    equal(&rt, generation, 1);
 }
 
 // The third row has a fault, too, but the second comes first.

@@ -4,9 +4,9 @@
 use crate::equal_to::{equal, holds};
 use crate::images::NESTED;
 use crate::refusals::{ROOM, ballast};
-use crate::values::{addr, prefix, via};
+use crate::values::{prefix, via};
 use array_bitmap::parts::{
-    FirstBits, copy, empty, remove_row, set_generation, set_row, set_rows, widen, widened, with,
+    FirstBits, copy, empty, remove_row, set_row, set_rows, widen, widened, with,
 };
 use array_bitmap::{Entry, Image, Prefix, next_prefix};
 use linked_list_allocator::LocalHeap as Heap;
@@ -165,33 +165,6 @@ fn remove_all(rt: &impl Abort, both: &mut Both) {
     }
 }
 
-static ADDRS: [u32; 4] = [AT, 0, u32::MAX, AT + 1];
-
-// Takes the rows that cover the address out, the longest first.
-fn remove_covering(rt: &impl Abort, alloc: Global, both: &mut Both) {
-    for len in 0..33u8 {
-        both.remove(rt, Prefix::covering(AT, 32 - len));
-        both.answers(rt, alloc, &ADDRS);
-    }
-}
-
-fn come_in_all_lengths(rt: &impl Abort, alloc: Global, both: &mut Both) {
-    both.answers(rt, alloc, &ADDRS);
-    set_hostile(rt, both);
-    both.agrees(rt, alloc);
-    both.lists(rt);
-    remove_covering(rt, alloc, both);
-    remove_all(rt, both);
-    both.answers(rt, alloc, &ADDRS);
-}
-
-#[test]
-fn rows_of_all_lengths(rt: HostRuntime) {
-    for bits in WIDTHS {
-        come_in_all_lengths(&rt, rt.alloc(), &mut Both::new(&rt, rt.alloc(), bits));
-    }
-}
-
 // Numbers, each by the one before.
 #[derive(Drop)]
 struct Draws {
@@ -250,25 +223,6 @@ fn rows_at_random(rt: HostRuntime) {
     }
 }
 
-// As many addresses as go down side by side, one more, one less, one and none.
-fn answers_bursts(rt: &impl Abort, alloc: Global, both: &Both) {
-    let addrs = both.addrs(rt, alloc);
-    holds(rt, addrs.len() > 66);
-    for count in [0, 1, 31, 32, 33, 64, 65] {
-        both.answers(rt, alloc, &addrs[..count]);
-    }
-}
-
-#[test]
-fn bursts_of_each_size(rt: HostRuntime) {
-    let mut draws = Draws { state: 7 };
-    for bits in WIDTHS {
-        let mut both = Both::new(&rt, rt.alloc(), bits);
-        change(&rt, &mut both, &mut draws);
-        answers_bursts(&rt, rt.alloc(), &both);
-    }
-}
-
 // Rows that come and go: beside others, by paths of their own, and where a block grows and shrinks.
 fn come_and_go(rt: &impl Abort, both: &mut Both) {
     set_hostile(rt, both);
@@ -294,42 +248,6 @@ fn array_rows_that_come_and_go_take_no_more_memory(rt: HostRuntime) {
     for bits in WIDTHS {
         come_and_go_again(&rt, &mut Both::new(&rt, rt.alloc(), bits));
     }
-}
-
-#[test]
-fn copies_and_wider_images_have_the_rows(rt: HostRuntime) {
-    let mut draws = Draws { state: 2004 };
-    let mut both = Both::new(&rt, rt.alloc(), FirstBits::Nine);
-    change(&rt, &mut both, &mut draws);
-    set_generation(&mut both.image, 5);
-    for bits in WIDTHS {
-        is_copied(&rt, rt.alloc(), &mut both, bits);
-    }
-}
-
-// A row that is set in a copy of the wider image is in no other.
-fn is_copied(rt: &impl Abort, alloc: Global, both: &mut Both, bits: FirstBits) {
-    both.image = widened(&both.image, alloc, bits).expect(rt, "memory");
-    let mut other = copy(&both.image, alloc).expect(rt, "memory");
-    let row = (prefix(rt, "10.0.0.0/8"), via(1));
-    set_row(&mut other, row.0, row.1).expect(rt, "memory");
-    both.agrees(rt, alloc);
-    let generations = (both.image.generation(), other.generation());
-    equal(rt, generations, (5, 5));
-    equal(rt, other.lookup(0x0a80_0000), Some(row));
-}
-
-#[test]
-fn array_rows_are_set_in_order(rt: HostRuntime) {
-    let block = prefix(&rt, "10.0.0.0/8");
-    let mut image = empty(rt.alloc()).expect(&rt, "memory");
-    set_rows(&mut image, &[]).expect(&rt, "memory");
-    set_rows(&mut image, &[(block, via(1)), (block, Entry::Local)]).expect(&rt, "memory");
-    equal(
-        &rt,
-        image.lookup(addr(&rt, "10.0.0.2")),
-        Some((block, Entry::Local)),
-    );
 }
 
 // Addresses far apart.

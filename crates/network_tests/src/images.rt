@@ -4,7 +4,7 @@ use crate::equal_to::equal;
 use crate::values::{addr, prefix, via};
 use std::alloc::Global;
 use std::process::Abort;
-use tree_bitmap::parts::{empty, set_row, set_rows};
+use tree_bitmap::parts::{empty, set_row};
 use tree_bitmap::{Entry, Image, Prefix, Visits};
 
 // Sets the row of a prefix, by way of a port.
@@ -66,14 +66,6 @@ fn finds_the_longest_match(rt: HostRuntime) {
     set_all(&rt, &mut image, &NESTED);
     finds_all(&rt, &image, &LONGEST);
     finds_none(&rt, &image, "224.0.0.1");
-}
-
-#[test]
-fn sets_rows_in_order(rt: HostRuntime) {
-    let block = prefix(&rt, "10.0.0.0/8");
-    let mut image = empty(rt.alloc()).expect(&rt, "memory");
-    set_rows(&mut image, &[(block, via(1)), (block, Entry::Local)]).expect(&rt, "memory");
-    equal(&rt, image.lookup(0x0a00_0002), Some((block, Entry::Local)));
 }
 
 #[test]

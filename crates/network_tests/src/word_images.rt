@@ -1,6 +1,4 @@
-//! Images with words beside a plain list of rows.
-
-ghost use Rattle.std.specs.Prelude.{◌<◌};
+//! What images with words need of memory.
 
 use crate::equal_to::{equal, holds};
 use crate::refusals::{ROOM, ballast};
@@ -10,80 +8,19 @@ use row_words::{Marked, NO_WORD, WordImage};
 use std::alloc::Global;
 use std::process::Abort;
 
-const ROWS: usize = 48;
+// Two prefixes of an address, the second in the first.
+fn one() -> Prefix {
+    Prefix::covering(0x0a0f_0f0f, 8)
+}
 
-// The prefix of a row of the list: of 8 to 31 bits. Of two that cover an address, the later is longer.
-fn prefix_of(k: usize) -> Prefix
-    requires { k < 48 }
-{
-    let base = if k % 2 == 0 { 0x0a0f_0f0f } else { 0x0bf0_f0f0 };
-    Prefix::covering(base, (8 + k / 2) as u8)
+fn two() -> Prefix {
+    Prefix::covering(0x0a0f_0f0f, 28)
 }
 
 fn marked(word: u32) -> Marked {
     Marked {
         entry: Entry::Local,
         word,
-    }
-}
-
-// The word that answers an address, by a scan.
-fn scan(list: &[Option<Marked>; 48], addr: u32) -> u32 {
-    let mut word = NO_WORD;
-    for k in 0..ROWS {
-        if let Some(mark) = list[k]
-            && prefix_of(k).covers(addr)
-        {
-            word = mark.word;
-        }
-    }
-    word
-}
-
-// Takes a row out, of the image and of the list, or sets it.
-fn change(
-    rt: &impl Abort,
-    alloc: Global,
-    image: &mut WordImage,
-    list: &mut [Option<Marked>; 48],
-    number: u32,
-) {
-    let k = (number >> 16) as usize % ROWS;
-    if number % 0x4000 < 0x1000 {
-        image.remove_row(prefix_of(k));
-        list[k] = None;
-    } else {
-        let row = [(prefix_of(k), marked(number))];
-        image.set_rows(alloc, &row).expect(rt, "memory");
-        list[k] = Some(row[0].1);
-    }
-}
-
-static ADDRS: [u32; 5] = [
-    0x0a0f_0f0f,
-    0x0bf0_f0f0,
-    0x0a0f_0f8f,
-    0x0bf0_0000,
-    0x0c00_0000,
-];
-
-fn agrees(rt: &impl Abort, image: &WordImage, list: &[Option<Marked>; 48]) {
-    let mut words = [7; 5];
-    image.lookup_words(&ADDRS, &mut words);
-    for j in 0..5 {
-        equal(rt, words[j], scan(list, ADDRS[j]));
-    }
-}
-
-#[test]
-fn words_are_those_of_a_list(rt: HostRuntime) {
-    let mut image = WordImage::new(rt.alloc(), 0).expect(&rt, "memory");
-    let mut list = [None; 48];
-    let mut number = 12_345u32;
-    for _ in 0..400 {
-        number = number.wrapping_mul(1_664_525).wrapping_add(1_013_904_223);
-        change(&rt, rt.alloc(), &mut image, &mut list, number);
-        agrees(&rt, &image, &list);
     }
 }
 
@@ -94,10 +31,10 @@ fn cells_of_rows_that_are_set_again_are_given_back(rt: HostRuntime) {
     let mut image = WordImage::new(alloc, 0).expect(&rt, "memory");
     for word in 0..5000 {
         image
-            .set_rows(alloc, &[(prefix_of(3), marked(word))])
+            .set_rows(alloc, &[(one(), marked(word))])
             .expect(&rt, "memory");
     }
-    equal(&rt, image.lookup_word(0x0bf0_f0f0), 4999);
+    equal(&rt, image.lookup_word(0x0a0f_0f0f), 4999);
     holds(&rt, image.bytes() < 64 * 1024);
 }
 
@@ -108,7 +45,7 @@ fn are_refused<'h>(
     left: usize,
     image: &mut WordImage<&'h Heap>,
 ) -> bool {
-    let rows = [(prefix_of(1), marked(11)), (prefix_of(40), marked(12))];
+    let rows = [(one(), marked(11)), (two(), marked(12))];
     let _weight = ballast(rt, heap, left);
     image.set_rows(heap, &rows).is_err()
 }
