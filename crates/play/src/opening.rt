@@ -3,13 +3,14 @@
 ghost use Rattle.std.specs.Prelude.{◌≡◌, ◌⊎◌, Ok, Err, IfErr, OnOk, is_some, vec_len};
 ghost use Rattle.fabric.specs.{Fabric.opening_fabric, Writers.opening_tables};
 ghost use Rattle.plans.specs.Faults.{IsWantOfMemory};
-ghost use Rattle.interpreter.specs.Nets.{counted_meaning, kept_meaning, opening_counted};
+ghost use Rattle.interpreter.specs.{Dispatching.IsUnanswered, Nets.counted_meaning, Nets.kept_meaning, Nets.opening_counted};
 ghost use Rattle.play.specs.Works.{Comes, IsOfNothing, IsOfWorkers, IsWithoutAnswers, Stops, StopsWork, StopsWorkOn, Works, WorksOn, none_kept};
 
 use crate::keeping::Keeper;
 use crate::program::{Platform, Streams};
 use crate::shell::do_lines;
 use fabric::{Fabric, FabricName, Unnamed};
+use faults::FaultKind;
 use interpreter::{
     Counted, Crew, Host, Interpreter, Kept, Live, PrintStyle, Staffed, Threaded, TurnGate,
     do_commands, end_line,
@@ -111,9 +112,11 @@ where
         style,
     };
     match Kept::new(*by.rt, by.alloc, crew, fabric, readers) {
-        Ok(net) => {
-            let (fabric, done) = finish_kept(&interpreter, net, typed, commands, streams);
-            let ended = keep(done, &fabric, directory, keeper, kept);
+        Ok(mut net) => {
+            let done = do_all(&interpreter, &mut net, typed, commands, streams);
+            // No worker is left running, whatever came of it.
+            let (fabric, answered) = net.close();
+            let ended = keep(done, answered, &fabric, directory, keeper, kept);
             fabric.close(by.rt);
             ended
         }
@@ -124,47 +127,24 @@ where
     }
 }
 
-// Does the script or the lines on a network whose steps are kept, and waits for the workers. No worker is left
-// running, whatever came of it.
-fn finish_kept<B, H, G, J, W, E>(
-    interpreter: &Interpreter<'_, G>,
-    mut net: Kept<B, H>,
-    typed: Option<J>,
-    commands: &[Command],
-    streams: &mut Streams<'_, '_, W, E>,
-) -> (Fabric<B>, Result<(), Fault>)
-where
-    B: FabricName + Send + Sync + 'static,
-    H: Host,
-    G: TurnGate + Sync,
-    J: Read + Drop,
-    W: Write,
-    E: Write,
-    ensures ok { OnOk result.1 (Comes kept_meaning (is_some typed) commands.now net result.0) }
-    ensures fault { IfErr result.1 (λ e. Stops kept_meaning (is_some typed) commands.now net result.0 e
-        ⊎ IsWithoutAnswers e) }
-{
-    let done = do_all(interpreter, &mut net, typed, commands, streams);
-    let (fabric, answered) = net.close();
-    match (done, answered) {
-        (Ok(()), Err(kind)) => (fabric, Err(Fault::from(kind))),
-        (done, _) => (fabric, done),
-    }
-}
-
-// Has kept what is to be kept of the steps, if all was done.
+// Has kept what is to be kept of the steps, if all was done and answered.
 fn keep<B: FabricName, K: Keeper, V: Write>(
     done: Result<(), Fault>,
+    answered: Result<(), FaultKind>,
     fabric: &Fabric<B>,
     directory: &Directory,
     keeper: &mut K,
     kept: &mut V,
 ) -> Result<(), Fault>
+    requires { IfErr answered IsUnanswered }
     ensures ok { OnOk result ((done ≡ Ok tt) × K.keeps keeper.old directory.now fabric.now
         (V.contents kept.old) (V.contents kept.new) keeper.new) }
-    ensures fault { IfErr result (λ e. (done ≡ Err e) ⊎ IsWantOfMemory e) }
+    ensures fault { IfErr result (λ e. (done ≡ Err e) ⊎ IsWithoutAnswers e ⊎ IsWantOfMemory e) }
 {
     done?;
+    if let Err(kind) = answered {
+        return Err(Fault::from(kind));
+    }
     Ok(keeper.keep(fabric, directory, kept)?)
 }
 
@@ -186,15 +166,33 @@ pub fn with_simulation<H: Host, G: TurnGate + Sync, J: Read + Drop, W: Write, E:
         directory,
         commands,
     } = plan;
+    with_counted::<H, G, J, W, E>(by, network, &directory, &commands, style, typed, streams)
+}
+
+// The same, where what the plan has beside the network is lent.
+fn with_counted<H: Host, G: TurnGate + Sync, J: Read + Drop, W: Write, E: Write>(
+    by: &Platform<'_, '_, H, G>,
+    network: Network,
+    directory: &Directory,
+    commands: &[Command],
+    style: PrintStyle,
+    typed: Option<J>,
+    streams: &mut Streams<'_, '_, W, E>,
+) -> Result<(), Fault>
+    ensures ok { OnOk result (WorksOn opening_counted (Comes counted_meaning (is_some typed)) none_kept
+        network directory.now commands.now) }
+    ensures fault { IfErr result (StopsWorkOn opening_counted IsOfNothing
+        (Stops counted_meaning (is_some typed)) network commands.now) }
+{
     let mut net = Counted::open(by.alloc, network)?;
     let interpreter = Interpreter {
         alloc: by.alloc,
         gate: by.gate,
-        directory: &directory,
+        directory,
         style,
     };
     // A simulation lends no part, so any name will do.
-    do_all::<Brand, H, Counted, G, J, W, E>(&interpreter, &mut net, typed, &commands, streams)
+    do_all::<Brand, H, Counted, G, J, W, E>(&interpreter, &mut net, typed, commands, streams)
 }
 
 // Does the script, or the lines that are typed, and says how many steps were done.

@@ -35,23 +35,26 @@ where
     ensures fault { IfErr result CannotReadOn }
 {
     let alloc = interpreter.alloc;
-    let reader = match BufReader::new(alloc, input) {
-        Ok(reader) => reader,
-        Err(error) => return Err(Fault::from(read_failure(&error))),
-    };
     let mut number = 0_usize;
+    let reader = read_as_told(BufReader::new(alloc, input))?;
     for line in reader.split(alloc, b'\n') {
         number = number.saturating_add(1);
-        match line {
-            Ok(line) => {
-                if !do_line(interpreter, net, number, &line, streams) {
-                    return Ok(());
-                }
-            }
-            Err(error) => return Err(Fault::from(read_failure(&error))),
+        let line = read_as_told(line)?;
+        if !do_line(interpreter, net, number, &line, streams) {
+            return Ok(());
         }
     }
     Ok(())
+}
+
+// What was read, or the fault for which it was not.
+fn read_as_told<T: Drop>(read: io::Result<T>) -> Result<T, Fault>
+    ensures { IfErr result CannotReadOn }
+{
+    match read {
+        Ok(read) => Ok(read),
+        Err(error) => Err(Fault::from(read_failure(&error))),
+    }
 }
 
 // Does what the line of this number says, tells of it where it cannot be read or is refused, and answers
@@ -74,26 +77,21 @@ where
 {
     let line = line.strip_suffix(b"\r").unwrap_or(line);
     let done = answer_line(interpreter, net, number, line, streams.out);
-    let (goes_on, fault) = match done {
-        Ok(goes_on) => (goes_on, None),
-        Err(kind) => (true, Some(kind)),
-    };
     let typed = Typed {
         names: interpreter.directory.names(),
         links: net.network().links(),
         number,
         line,
     };
-    match (interpreter.style.format, fault) {
-        (Format::Text, Some(kind)) => print_fault(interpreter, &typed, kind, streams),
-        (Format::Text, None) => {}
-        (Format::Json, fault) => {
-            let _ = end_answer(interpreter, &typed, fault, net.steps(), streams.out);
-        }
-    }
-    match streams.out.flush() {
-        Err(error) if error.kind() == ErrorKind::BrokenPipe => false,
-        _ => goes_on,
+    tell(interpreter, &typed, done.err(), net.steps(), streams);
+    !is_unread(streams.out) && done.unwrap_or(true)
+}
+
+// Whether nobody reads any more what is printed.
+fn is_unread<W: Write>(out: &mut W) -> bool {
+    match out.flush() {
+        Ok(()) => false,
+        Err(error) => error.kind() == ErrorKind::BrokenPipe,
     }
 }
 
@@ -197,6 +195,26 @@ fn print_text<W: Write>(format: Format, kind: &str, text: &str, out: &mut W) -> 
     }
 }
 
+// Tells of a line why it was not done, if it was not; as JSON it ends the line's answer.
+fn tell<G, W: Write, E: Write>(
+    interpreter: &Interpreter<'_, G>,
+    typed: &Typed<'_>,
+    fault: Option<FaultKind>,
+    steps: u64,
+    streams: &mut Streams<'_, '_, W, E>,
+) {
+    match interpreter.style.format {
+        Format::Text => {
+            if let Some(kind) = fault {
+                print_fault(interpreter, typed, kind, streams);
+            }
+        }
+        Format::Json => {
+            let _ = end_answer(interpreter, typed, fault, steps, streams.out);
+        }
+    }
+}
+
 // Tells on `err` why a line was not done, after all that was printed before, and more where that is asked
 // for. A write that fails is lost.
 fn print_fault<G, W: Write, E: Write>(
@@ -228,20 +246,29 @@ fn end_answer<G, W: Write>(
     steps: u64,
     out: &mut W,
 ) -> io::Result<()> {
-    match fault {
-        Some(kind) => {
-            write!(out, "],\"fault\":\"{kind}\"")?;
-            if interpreter.style.explain {
-                let mut bytes = Vec::new(interpreter.alloc);
-                // Where there is no memory for all of it, what there is memory for is told.
-                let _ = explain_typed(interpreter.alloc, typed, kind, &mut bytes);
-                let text = Escaped(str::from_utf8(&bytes).unwrap_or(""));
-                write!(out, ",\"told\":\"{text}\"")?;
-            }
-        }
-        None => write!(out, "],\"fault\":null")?,
-    }
+    end_lines(interpreter, typed, fault, out)?;
     writeln!(out, ",\"steps\":{steps}}}")
+}
+
+// Ends its list of lines, and tells of the fault.
+fn end_lines<G, W: Write>(
+    interpreter: &Interpreter<'_, G>,
+    typed: &Typed<'_>,
+    fault: Option<FaultKind>,
+    out: &mut W,
+) -> io::Result<()> {
+    let Some(kind) = fault else {
+        return write!(out, "],\"fault\":null");
+    };
+    write!(out, "],\"fault\":\"{kind}\"")?;
+    if !interpreter.style.explain {
+        return Ok(());
+    }
+    let mut bytes = Vec::new(interpreter.alloc);
+    // Where there is no memory for all of it, what there is memory for is told.
+    let _ = explain_typed(interpreter.alloc, typed, kind, &mut bytes);
+    let text = Escaped(str::from_utf8(&bytes).unwrap_or(""));
+    write!(out, ",\"told\":\"{text}\"")
 }
 
 // A text inside the quotes of JSON.
@@ -251,15 +278,19 @@ struct Escaped<'a>(pub &'a str);
 impl fmt::Display for Escaped<'_> {
     fn fmt<W: fmt::Write>(&self, f: &mut fmt::Formatter<W>) -> fmt::Result {
         for letter in self.0.chars() {
-            match letter {
-                '"' => write!(f, "\\\"")?,
-                '\\' => write!(f, "\\\\")?,
-                '\n' => write!(f, "\\n")?,
-                '\0'..='\u{1f}' => write!(f, "\\u{:04x}", u32::from(letter))?,
-                _ => write!(f, "{letter}")?,
-            }
+            escape(letter, f)?;
         }
         Ok(())
+    }
+}
+
+fn escape<W: fmt::Write>(letter: char, f: &mut fmt::Formatter<W>) -> fmt::Result {
+    match letter {
+        '"' => f.write_str("\\\""),
+        '\\' => f.write_str("\\\\"),
+        '\n' => f.write_str("\\n"),
+        '\0'..='\u{1f}' => write!(f, "\\u{:04x}", u32::from(letter)),
+        _ => f.write_char(letter),
     }
 }
 

@@ -1,15 +1,12 @@
-use Rattle.std.proofs.Common.{is_some}
+use Rattle.std.proofs.Common.{IfErr, OnOk, is_some, subst}
 use Rattle.interpreter.specs.Nets.{counted_meaning, opening_counted}
-use Rattle.play.specs.Works.{Comes, Stops}
-use Rattle.play.proofs.Working.{stops_there, works_there}
+use Rattle.play.specs.Works.{Comes, IsOfNothing, Stops, StopsWorkOn, WorksOn, none_kept}
 use Rattle.play.proofs.opening.with_simulation.Goals as goal
 
 pub returns-clause-ok : goal.returns-clause-ok
 returns-clause-ok g c =
-    works_there opening_counted (Comes counted_meaning (is_some c.args.typed)) c.args.plan c.in_ok-net.net c.do_all.new.net c.deref.result.now c.do_all.result
-    c.in_ok-net.ensures c.deref.ensures.value c.do_all.ensures.ok
+    subst (λ cs. OnOk c.with_counted.result (WorksOn opening_counted (Comes counted_meaning (is_some c.args.typed)) none_kept c.args.plan.network c.args.plan.directory cs)) c.deref.ensures.value c.with_counted.ensures.ok
 
 pub returns-clause-fault : goal.returns-clause-fault
 returns-clause-fault g c =
-    stops_there opening_counted (Stops counted_meaning (is_some c.args.typed)) c.args.plan c.in_ok-net.net c.do_all.new.net c.deref.result.now c.do_all.result
-    c.in_ok-net.ensures c.deref.ensures.value c.do_all.ensures.fault
+    subst (λ cs. IfErr c.with_counted.result (StopsWorkOn opening_counted IsOfNothing (Stops counted_meaning (is_some c.args.typed)) c.args.plan.network cs)) c.deref.ensures.value c.with_counted.ensures.fault
