@@ -7,7 +7,8 @@ ghost use Rattle.texts.specs.Words.{Text};
 ghost use Rattle.plans.specs.Faults.{Gives, OfBytes, most_bytes};
 ghost use Rattle.play.specs.Works.{IsRunToEnd};
 ghost use Rattle.run_states.specs.Told.{IsStatesText};
-ghost use Rattle.view.specs.Shown.{IsJournalShown, IsRunShown, IsShort, IsShown, IsTimesShown, IsWritten};
+ghost use Rattle.timed_reports.specs.Recordings.{timed_in};
+ghost use Rattle.view.specs.Shown.{IsJournalShown, IsRunShown, IsShort, IsShown, IsShownInTime, IsTimesShown, IsWritten};
 
 use crate::limited::Limited;
 use crate::page::write_page;
@@ -23,7 +24,7 @@ use run_states::{run_from_opening, write_states};
 use script::Directory;
 use std::alloc::Global;
 use std::io::{Read, Write};
-use timing::{read_times, read_times_text, run_in_steps};
+use timing::{SteppedRun, read_times, read_times_text, run_in_steps};
 use world::{Network, Ran};
 
 /// Writes what the words ask for, and answers the exit status: 0, or 2 where a step of the journal is refused,
@@ -130,17 +131,47 @@ fn show_times<J: Read + Drop, W: Write>(
     ensures { OnOk result ((lines : Text) × Gives (J.remaining times) lines
         × IsTimesShown json text.now lines (W.contents out.old) (W.contents out.new)) }
 {
+    let plan = read_plan(alloc, text)?;
+    let lines = read_times_text(alloc, times)?;
+    show_in_time(alloc, json, plan, lines.as_str(), out)
+}
+
+// The same of a plan, as these lines say. No function here has more in hand than it needs where it may end early.
+fn show_in_time<W: Write>(
+    alloc: Global,
+    json: bool,
+    plan: Plan,
+    lines: &str,
+    out: &mut W,
+) -> Result<(), Fault>
+    ensures { OnOk result
+        (IsShownInTime json plan.network plan.directory lines.now (W.contents out.old) (W.contents out.new)) }
+{
     let Plan {
         network,
         directory,
         ..
-    } = read_plan(alloc, text)?;
-    let lines = read_times_text(alloc, times)?;
-    let times = read_times(alloc, directory.names(), &network, lines.as_str())?;
+    } = plan;
+    let times = read_times(alloc, directory.names(), &network, lines)?;
     let run = run_in_steps(alloc, network, &times)?;
-    let network = run.network();
-    let (steps, moments) = (&run.steps, &run.moments);
-    write_steps(alloc, json, network, &directory, steps, moments, out)?;
+    write_run(alloc, json, &directory, &run, out)
+}
+
+// Writes the states of the steps of a run.
+fn write_run<W: Write>(
+    alloc: Global,
+    json: bool,
+    directory: &Directory,
+    run: &SteppedRun,
+    out: &mut W,
+) -> Result<(), Fault>
+    requires { (w : model.World)
+        × Runs (model.opening ((timed_in run.now.recording).simulation).network) run.now.steps.items w }
+    ensures { OnOk result (IsWritten json ((timed_in run.now.recording).simulation).network directory.now
+        run.now.steps.items run.now.moments.items (W.contents out.old) (W.contents out.new)) }
+{
+    let (network, steps, moments) = (run.network(), &run.steps, &run.moments);
+    write_steps(alloc, json, network, directory, steps, moments, out)?;
     Ok(())
 }
 
