@@ -93,18 +93,11 @@ function isNotice(item) {
   return item[0] === 'up' || item[0] === 'down' || item[0] === 'cost';
 }
 
-// Gives what a change of a queue takes and what it loses of its items.
-function leavers(items, change) {
-  const take = change.take ?? 0;
-  const lost = change.lose ? items.slice(take).filter((item) => !isNotice(item)) : [];
-  return { taken: items.slice(0, take), lost };
-}
-
-// Gives the items of a queue after a change.
-function queueAfter(items, change) {
-  const left = items.slice(change.take ?? 0);
-  const kept = change.lose ? left.filter(isNotice) : left;
-  return change.put ? kept.concat(change.put) : kept;
+// Parts the items of a queue by a change of it: those that are taken, those that are lost, and those that are left.
+function parted(items, { take = 0, lose }) {
+  const rest = items.slice(take);
+  const [lost, left] = lose ? [rest.filter((item) => !isNotice(item)), rest.filter(isNotice)] : [[], rest];
+  return { taken: items.slice(0, take), lost, left };
 }
 
 // Changes a state by what a line says.
@@ -114,7 +107,7 @@ function apply(state, change) {
   for (const it of change.machines ?? []) ownMachines(state, it.router)[it.prefix] = it;
   for (const it of change.queues ?? []) {
     const place = 2 * it.link + it.end;
-    state.queues[place] = queueAfter(state.queues[place], it);
+    state.queues[place] = parted(state.queues[place], it).left.concat(it.put ?? []);
   }
 }
 
@@ -171,7 +164,6 @@ function newScan() {
   return {
     state: copyOf(run.now),
     events: Array.from({ length }, () => ({ places: [], notes: [], waves: [] })),
-    activity: Array.from({ length }, () => ({ places: [0], counts: [0] })),
   };
 }
 
@@ -196,8 +188,7 @@ function note(prefix, place, what, isWave) {
 
 // Notes what a change does to the messages of a link.
 function noteQueue(state, place, change) {
-  const items = state.queues[2 * change.link + change.end];
-  const { taken, lost } = leavers(items, change);
+  const { taken, lost } = parted(state.queues[2 * change.link + change.end], change);
   for (const [how, list] of [['take', taken], ['lose', lost], ['put', change.put ?? []]]) {
     for (const item of list) {
       if (isNotice(item)) continue;
@@ -206,20 +197,16 @@ function noteQueue(state, place, change) {
   }
 }
 
-// Notes what became of a machine, and of the count of those that are active.
+// Notes what became of a machine.
 function noteMachine(state, place, machine) {
   const before = state.machines[machine.router][machine.prefix];
-  const rise = (machine.active === undefined ? 0 : 1) - (before?.active === undefined ? 0 : 1);
   note(machine.prefix, place, { how: 'machine', before, machine }, before?.active !== machine.active);
-  if (rise === 0) return;
-  const { places, counts } = run.scan.activity[machine.prefix];
-  const count = counts[counts.length - 1] + rise;
-  if (places[places.length - 1] === place) {
-    counts[counts.length - 1] = count;
-  } else {
-    places.push(place);
-    counts.push(count);
-  }
+}
+
+// Gives by how many the active machines of a prefix are more after what was noted.
+function riseOf(notes) {
+  const isActive = (machine) => (machine?.active === undefined ? 0 : 1);
+  return notes.reduce((sum, { before, machine }) => sum + isActive(machine) - isActive(before), 0);
 }
 
 // Walks over one state more.
@@ -753,29 +740,10 @@ function setText(element, text) {
   if (element.textContent !== text) element.textContent = text;
 }
 
-// Sets an attribute only where it is another.
-function setAttribute(element, name, value) {
-  if (element.getAttribute(name) !== String(value)) element.setAttribute(name, value);
-}
-
 // ---- The drawing.
 
-// Spots are those of the layout times the factor; all sizes are those of a router's radius.
-const drawing = {
-  places: [],
-  factor: 1,
-  spots: [],
-  radius: 10,
-  scale: 1,
-  view: WHOLE,
-  timer: 0,
-  names: [],
-  lines: [],
-  routers: [],
-  arrows: [],
-  awaits: new Map(),
-  queues: new Map(),
-};
+// The rest is set when it is drawn. Spots are those of the layout times the factor; sizes follow a router's radius.
+const drawing = { timer: 0, queues: new Map() };
 
 const MOST_ROWS = 60;
 
@@ -817,17 +785,16 @@ function placeNetwork() {
 
 // Draws all that does not change, with the ways between the routers stretched by a factor.
 function drawNetwork(factor) {
-  for (const name of ['links', 'arrows', 'costs', 'queues', 'routers', 'awaits', 'moving']) {
-    byId(`layer-${name}`).replaceChildren();
-  }
+  for (const name of ['links', 'arrows', 'costs', 'queues', 'routers', 'moving']) byId(`layer-${name}`).replaceChildren();
   drawing.factor = factor;
   drawing.spots = drawing.places.map(([x, y]) => [x * factor, y * factor]);
-  drawing.awaits.clear();
   drawing.queues.clear();
   drawing.names = [];
   drawing.lines = run.opening.links.map((_, link) => drawLink(link));
   drawing.routers = run.opening.routers.map((_, router) => drawRouter(router));
   drawing.arrows = run.opening.routers.map(() => drawArrows());
+  drawing.awaits = run.opening.routers.map(() => svg('g'));
+  byId('layer-awaits').replaceChildren(...drawing.awaits);
   showView();
 }
 
@@ -961,13 +928,13 @@ function showLinks(state) {
 
 // Marks the link or the router that did the step, and the router that the reader chose.
 function showRings(place) {
-  const link = actingLink(place);
+  const { link, router: acting } = actors(place);
   const mark = byId('link-acting');
   mark.classList.toggle('none', link < 0);
   for (const name of link < 0 ? [] : ['x1', 'y1', 'x2', 'y2']) {
     mark.setAttribute(name, drawing.lines[link].line.getAttribute(name));
   }
-  for (const [id, router] of [['ring-acting', actingRouter(place)], ['ring-selected', shown.router]]) {
+  for (const [id, router] of [['ring-acting', acting], ['ring-selected', shown.router]]) {
     const ring = byId(id);
     ring.classList.toggle('none', router < 0);
     if (router < 0) continue;
@@ -978,7 +945,7 @@ function showRings(place) {
 
 // Draws the routers as they are for the chosen prefix.
 function showRouters(state) {
-  const acting = actingRouter(state.place);
+  const acting = actors(state.place).router;
   drawing.routers.forEach((drawn, router) => {
     const machine = state.machines[router][shown.prefix];
     const key = `${shown.prefix} ${routerKey(state, machine)} ${router === shown.router} ${router === acting}`;
@@ -1052,31 +1019,18 @@ function showArrow(state, line, router, entry, right) {
 
 // Draws a mark on each link over which a router awaits a reply.
 function showAwaits(router, machine) {
-  const awaited = new Set(machine?.awaits ?? []);
-  for (const { link, end } of net.ports[router]) {
-    const key = 2 * link + end;
-    if (!awaited.has(link)) {
-      drawing.awaits.get(key)?.remove();
-      drawing.awaits.delete(key);
-      continue;
-    }
-    if (!drawing.awaits.has(key)) {
-      const mark = drawAwait(link, end);
-      drawing.awaits.set(key, mark);
-      byId('layer-awaits').append(mark);
-    }
-    drawing.awaits.get(key).setAttribute('class', `await origin-${machine.active}`);
-  }
+  const marks = (machine?.awaits ?? []).map((link) => drawAwait(link, router, machine.active));
+  drawing.awaits[router].replaceChildren(...marks);
 }
 
-// Gives the mark of a reply that is awaited over a link.
-function drawAwait(link, end) {
+// Gives the mark of a reply that a router, active in an origin state, awaits over a link.
+function drawAwait(link, router, origin) {
   const size = Math.max(4.2, 7.5 * drawing.scale);
-  const way = wayFrom(link, end);
+  const way = wayFrom(link, endOf(link, router));
   const [x, y] = along(way, drawing.radius + size + 6 * Math.max(0.5, drawing.scale), size * 0.95);
   const text = svg('text', {}, '?');
   const box = svg('rect', { x: -size, y: -size, width: 2 * size, height: 2 * size, rx: size / 2.5 });
-  return svg('g', { transform: `translate(${x} ${y})`, 'data-of': run.opening.links[link][end] }, box, text);
+  return svg('g', { transform: `translate(${x} ${y})`, class: `await origin-${origin}`, 'data-of': router }, box, text);
 }
 
 // Gives the shape of an item: update a disc, query a triangle, reply a square, notice a ring with a sign.
@@ -1177,18 +1131,13 @@ function stepWords(place) {
   return place === 0 ? '' : readChange(place).step ?? '';
 }
 
-// Gives the router that did the step at a place; -1 where it is a step of a link.
-function actingRouter(place) {
-  const [kind, name] = stepWords(place).split(' ');
-  return ['deliver', 'publish', 'release', 'attach', 'detach'].includes(kind) ? net.names.get(name) ?? -1 : -1;
-}
-
-// Gives the link of which the step at a place is; -1 where it is a step of a router.
-function actingLink(place) {
+// Gives the router and the link that did the step at a place; the one that did not is -1.
+function actors(place) {
   const [kind, one, other] = stepWords(place).split(' ');
-  if (!['up', 'down', 'cost'].includes(kind)) return -1;
   const [a, b] = [net.names.get(one), net.names.get(other)];
-  return net.ports[a]?.find((port) => port.other === b)?.link ?? -1;
+  const isOfRouter = ['deliver', 'publish', 'release', 'attach', 'detach'].includes(kind);
+  const port = ['up', 'down', 'cost'].includes(kind) ? net.ports[a]?.find((it) => it.other === b) : undefined;
+  return { router: isOfRouter ? a ?? -1 : -1, link: port?.link ?? -1 };
 }
 
 // Sets which part of the layout is seen. Where it is larger, routers grow less than the ways between them.
@@ -1262,22 +1211,23 @@ function toldWords(state) {
 
 // Shows how many routers are active over the run, and ticks where something of a diffusing computation happens.
 function showActivity() {
-  const { places, counts } = run.scan.activity[shown.prefix];
+  const { places, notes, waves } = run.scan.events[shown.prefix];
   const seen = run.scan.state.place;
   const last = Math.max(1, run.places - 1);
-  const peak = counts.reduce((top, count) => Math.max(top, count), 0);
   const columns = new Float64Array(1001);
+  let active = 0;
   places.forEach((place, at) => {
+    active += riseOf(notes[at]);
     const from = Math.floor(share(place) * 1000);
     const to = Math.floor(share(places[at + 1] ?? seen) * 1000);
-    for (let x = from; x <= to; x += 1) columns[x] = Math.max(columns[x], counts[at]);
+    for (let x = from; x <= to; x += 1) columns[x] = Math.max(columns[x], active);
   });
+  const peak = Math.max(...columns);
   let path = 'M0 36';
   columns.forEach((count, x) => { path += `L${x} ${(36 - 28 * count / Math.max(1, peak)).toFixed(1)}`; });
-  setAttribute(byId('activity-active'), 'd', `${path}L1000 36Z`);
-  const events = run.scan.events[shown.prefix];
-  const waves = events.places.filter((_, at) => events.waves[at]).map((place) => Math.round(share(place) * 1000));
-  setAttribute(byId('activity-asked'), 'd', [...new Set(waves)].map((x) => `M${x} 0V6`).join(''));
+  byId('activity-active').setAttribute('d', `${path}L1000 36Z`);
+  const ticked = places.filter((_, at) => waves[at]).map((place) => Math.round(share(place) * 1000));
+  byId('activity-asked').setAttribute('d', [...new Set(ticked)].map((x) => `M${x} 0V6`).join(''));
   const words = isScanned() ? '' : ` ${Math.floor(100 * seen / last)} per cent of the run has been looked through.`;
   const above = `Above the slider: how many routers are active for the prefix (at most ${peak})`;
   const ticks = 'and ticks where a query or a reply moves or a router’s mode changes.';
@@ -1287,7 +1237,7 @@ function showActivity() {
 // Shows where in the run the present state is.
 function showNow() {
   const x = (share(shown.place) * 1000).toFixed(1);
-  setAttribute(byId('activity-now'), 'd', `M${x} 0V36`);
+  byId('activity-now').setAttribute('d', `M${x} 0V36`);
 }
 
 const LOG_SIDE = 8;
@@ -1399,29 +1349,16 @@ function tablePrefixes() {
 
 // Shows the chosen router's table.
 function showTable(state) {
-  const table = byId('router-table');
-  if (shown.router < 0) {
-    setText(byId('router-words'), '');
-    table.replaceChildren();
-    byId('router-more').hidden = true;
-    return;
-  }
+  byId('router-shown').hidden = shown.router < 0;
+  if (shown.router < 0) return;
   const { generation, held, ripe, notices } = state.routers[shown.router];
   const holds = `holds ${held}, of which ${ripe} ripe`;
   setText(byId('router-words'), `published ${generation} times; ${holds}; notices to take: ${notices}`);
   const prefixes = tablePrefixes();
-  table.replaceChildren(tableHead(), ...prefixes.slice(0, shown.rows).map((prefix) => tableRow(state, prefix)));
+  byId('router-table').replaceChildren(...prefixes.slice(0, shown.rows).map((prefix) => tableRow(state, prefix)));
   const left = prefixes.length - shown.rows;
   byId('router-more').hidden = left <= 0;
   setText(byId('router-left'), `${left} prefixes more; the filter of prefixes narrows them.`);
-}
-
-// Gives the head of a router's table.
-function tableHead() {
-  const row = html('tr');
-  const words = ['Prefix', 'RD', 'FD', 'In force', 'Chosen', 'Mode'];
-  row.append(...words.map((word) => html('th', word, '', { scope: 'col' })));
-  return row;
 }
 
 // Gives the row of a prefix in a router's table.
@@ -1597,25 +1534,18 @@ function option(text, value) {
   return html('option', text, '', { value: String(value) });
 }
 
+// The button that a key presses.
+const KEYS = {
+  ArrowLeft: 'back', ArrowRight: 'on', Home: 'first', End: 'last', ' ': 'play', n: 'event-after', p: 'event-before',
+  '+': 'zoom-in', '-': 'zoom-out', 0: 'zoom-fit',
+};
+
 // Does what a key asks for, and tells whether it asks for anything.
 function doKey(key) {
   const tenth = Math.max(1, Math.round(run.places / 10));
-  const acts = {
-    ArrowLeft: () => goPlace(shown.place - 1),
-    ArrowRight: () => goPlace(shown.place + 1),
-    PageUp: () => goPlace(shown.place - tenth),
-    PageDown: () => goPlace(shown.place + tenth),
-    Home: () => goPlace(0),
-    End: () => goPlace(run.places - 1),
-    ' ': () => play(!shown.playing),
-    n: () => goEvent(1),
-    p: () => goEvent(-1),
-    '+': () => zoomMiddle(0.8),
-    '-': () => zoomMiddle(1.25),
-    0: () => setView(WHOLE),
-  };
-  if (!Object.hasOwn(acts, key)) return false;
-  acts[key]();
+  if (Object.hasOwn(KEYS, key)) byId(KEYS[key]).click();
+  else if (key === 'PageUp' || key === 'PageDown') goPlace(shown.place + (key === 'PageUp' ? -tenth : tenth));
+  else return false;
   return true;
 }
 

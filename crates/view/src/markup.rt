@@ -110,11 +110,13 @@ pub(crate) const BODY: &str = r##"</style>
       <div class="row">
         <label for="router">Show</label>
         <select id="router"></select>
-        <span id="router-words"></span>
       </div>
-      <div class="wide"><table id="router-table" aria-labelledby="router-title"></table></div>
-      <p class="faint" id="router-more" hidden><span id="router-left"></span> <button type="button" id="router-all">Show all</button></p>
-      <ul id="router-links" aria-label="Links of the router"></ul>
+      <div id="router-shown" hidden>
+        <p id="router-words"></p>
+        <div class="wide"><table aria-labelledby="router-title"><thead><tr><th scope="col">Prefix</th><th scope="col">RD</th><th scope="col">FD</th><th scope="col">In force</th><th scope="col">Chosen</th><th scope="col">Mode</th></tr></thead><tbody id="router-table"></tbody></table></div>
+        <p class="faint" id="router-more" hidden><span id="router-left"></span> <button type="button" id="router-all">Show all</button></p>
+        <ul id="router-links" aria-label="Links of the router"></ul>
+      </div>
     </section>
     <section id="link-panel" aria-labelledby="link-title">
       <h2 id="link-title">Link</h2>

@@ -81,7 +81,7 @@ li.notice { color: var(--notice); }
 .wide { overflow-x: auto; margin-top: 4px; }
 table { border-collapse: collapse; font-size: 12.5px; white-space: nowrap; }
 th, td { text-align: left; padding: 1px 8px 1px 0; font-weight: 400; border-bottom: 1px solid var(--rule); }
-tr:first-child th { color: var(--faint); }
+thead th { color: var(--faint); }
 tr.chosen th { font-weight: 700; }
 td:last-child { white-space: normal; min-width: 7em; }
 td.active { font-weight: 700; }
