@@ -8,12 +8,12 @@
 //! ```text
 //!   publications                  what readers see while a writer publishes; no network runs here
 //!   queues, workers               jobs through queues, and replies that are gathered
-//!   worker_pools                  200 jobs for one, two and sixteen threads
+//!   worker_pools                  200 jobs for one, two and sixteen threads, which meet at their first jobs
 //!   fabrics, controls, outside    steps, turns, threads that serve and settle side by side
 //!   tickets                       what is refused while a writer is out
 //!   turns                         whoever has something to do is found without asking all
 //!   jobs                          what readers answer meanwhile
-//!   refusals, scripts, rooms      want of memory
+//!   refusals, scripts             want of memory
 //! ```
 //!
 //! Want of memory is tried on a publication, a queue and two workers, and on scripts of two and three routers.
@@ -52,8 +52,6 @@ mod publications;
 mod queues;
 #[cfg(test)]
 mod refusals;
-#[cfg(test)]
-mod rooms;
 #[cfg(test)]
 mod scripts;
 #[cfg(test)]

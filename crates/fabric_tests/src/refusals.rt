@@ -6,8 +6,9 @@ ghost use Rattle.publication.specs.Lists.{opening_of, patched_prefixes};
 
 use crate::equal_to::{equal, holds};
 use crate::publications::{found, set, via};
-use crate::workers::{port_of, takers_of, work_both};
-use forwarder::{ForwardPort, JobGate, Reply};
+use crate::workers::{port_of, takers_of};
+use forwarder::{ForwardPort, JobGate, Reply, work};
+use linked_list_allocator::LocalHeap;
 use network_model::Refusal;
 use packet_queue::{PacketQueue, Taker};
 use publication::{
@@ -18,7 +19,7 @@ use std::marker::Brand;
 use std::process::Abort;
 use std::sync::Wait;
 use std::sync::atomic::{AtomicBool, AtomicU64, Ordering};
-use std::thread::Threads;
+use std::thread::{Threads, join};
 use std::time::Clock;
 use test_support::{Refused, Refusing, gets_to, ten};
 use tree_bitmap::Image;
@@ -208,6 +209,31 @@ impl<R: Clock> JobGate for Beside<'_, R> {
     }
 }
 
+// What two workers reply that work at the same time.
+fn work_both<B, A, R, G>(
+    rt: &R,
+    alloc: A,
+    gate: &G,
+    first: (ForwardPort<B, A>, Taker<B, A>),
+    second: (ForwardPort<B, A>, Taker<B, A>),
+) -> (
+    Result<Vec<Reply<B>, A>, Refusal>,
+    Result<Vec<Reply<B>, A>, Refusal>,
+)
+where
+    B: FabricName + Send + Sync,
+    A: Allocator + Copy + Send + Sync,
+    R: Threads + Wait + Sync,
+    G: JobGate + Sync,
+{
+    let (one, other) = join(
+        rt,
+        || work(rt, alloc, first.0, first.1, gate),
+        || work(rt, alloc, second.0, second.1, gate),
+    );
+    (one.replies, other.replies)
+}
+
 // How many replies there are.
 fn count_of<B: FabricName, A: Allocator>(
     replies: Result<Vec<Reply<B>, A>, Refusal>,
@@ -296,14 +322,26 @@ where
         .expect(rt, "refusal")
 }
 
-// Whether a queue for two workers meets a refusal of these.
+// Whether a queue for two workers is made.
+fn is_made<B: FabricName, A: Allocator + Copy>(rt: &impl Abort, alloc: A) -> bool {
+    match PacketQueue::new::<B, _>(alloc, 2) {
+        Ok((_injector, takers)) => {
+            equal(rt, takers.len(), 2);
+            true
+        }
+        Err(_) => false,
+    }
+}
+
+// Whether it meets a refusal of these. Nothing is left behind.
 fn is_queue_refused<B: FabricName>(rt: &impl Abort, alloc: Global, refused: Refused) -> bool {
-    let memory = Refusing::new(alloc);
+    let heap = LocalHeap::new(alloc, 1 << 16).expect(rt, "memory");
+    let memory = Refusing::new(&heap);
     memory.refuse(refused);
-    let has_failed = PacketQueue::new::<B, _>(&memory, 2).is_err();
+    let has_failed = !is_made::<B, _>(rt, &memory);
     let was_met = memory.was_met(has_failed).expect(rt, "refusal");
-    let (_injector, takers) = PacketQueue::new::<B, _>(&memory, 2).expect(rt, "memory");
-    equal(rt, takers.len(), 2);
+    equal(rt, heap.used(), 0);
+    holds(rt, is_made::<B, _>(rt, &memory));
     was_met
 }
 

@@ -10,6 +10,7 @@ use crate::tickets::give_back;
 use fabric::{
     Entry, Fabric, FabricName, ImageReader, Network, Prefix, Refusal, Step, Ticket, Unnamed,
 };
+use linked_list_allocator::LocalHeap;
 use network_model::{Cost, Distance, SmallAllocator};
 use router_core::Router;
 use std::alloc::{AllocError, Global};
@@ -22,6 +23,9 @@ use test_support::{Refused, Refusing, link, ten, two_routers};
 
 // More allocations than a call makes.
 const MOST: u64 = 4096;
+
+// More bytes than an opening takes.
+const HEAP: usize = 64 << 20;
 
 // An address of 10.0.0.0/8.
 const ADDR: u32 = 0x0A00_0001;
@@ -559,9 +563,9 @@ fn an_attachment_moves(rt: HostRuntime) {
 // Whether the opening met a refusal.
 fn is_opening_refused_over<'m, B: FabricName, H: Wait + Abort>(
     rt: &H,
-    memory: &'m Refusing<Global>,
+    memory: &'m Refusing<&'m LocalHeap>,
     network: Network,
-    unnamed: Vec<Unnamed, &'m Refusing<Global>>,
+    unnamed: Vec<Unnamed, &'m Refusing<&'m LocalHeap>>,
     refused: Refused,
 ) -> bool
     requires books { unnamed.items ≡ B.books }
@@ -576,7 +580,7 @@ fn is_opening_refused_over<'m, B: FabricName, H: Wait + Abort>(
 }
 
 // Closes what was opened, or looks at the refusal.
-pub(crate) fn end_opening<B: FabricName, A: SmallAllocator, H: Wait + Abort>(
+fn end_opening<B: FabricName, A: SmallAllocator, H: Wait + Abort>(
     rt: &H,
     end: Result<(Fabric<B, A>, Vec<Vec<ImageReader<B, A>, A>, A>), Refusal>,
 ) {
@@ -591,12 +595,16 @@ pub(crate) fn end_opening<B: FabricName, A: SmallAllocator, H: Wait + Abort>(
     }
 }
 
-// Whether an opening of two routers, and of a reader of each for one worker, meets a refusal of these.
+// Whether an opening of two routers, and of a reader of each for one worker, meets a refusal of these. Nothing is left
+// behind.
 fn is_opening_refused<H: Wait + Abort>(rt: &H, alloc: Global, refused: Refused) -> bool {
-    let memory = Refusing::new(alloc);
+    let heap = LocalHeap::new(alloc, HEAP).expect(rt, "memory");
+    let memory = Refusing::new(&heap);
     let network = two_routers(alloc).expect(rt, "network");
-    let unnamed = Unnamed::many(&memory, network.routers()).expect(rt, "memory");
-    is_opening_refused_over::<Brand, H>(rt, &memory, network, unnamed, refused)
+    let unnamed = Unnamed::many(&memory, network.routers()).expect(rt, "room");
+    let is_refused = is_opening_refused_over::<Brand, H>(rt, &memory, network, unnamed, refused);
+    equal(rt, heap.used(), 0);
+    is_refused
 }
 
 #[test]
