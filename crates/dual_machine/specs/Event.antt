@@ -33,7 +33,9 @@ IsTimely up Detached = Unit {0}
 
 -- the cost that an event brings, if it brings one, is the cost of a link or of an attachment
 abbrev pub BringsCost : Event → Type 0
+BringsCost (Message q kind value) = Unit {0}
 BringsCost (Up q cost) = IsCost cost
+BringsCost (Down q) = Unit {0}
 BringsCost (Cost q cost) = IsCost cost
 BringsCost (Attached cost) = IsCost cost
-BringsCost _ = Unit {0}
+BringsCost Detached = Unit {0}

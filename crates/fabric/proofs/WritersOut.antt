@@ -1,6 +1,6 @@
 -- Writers that are out: how many, and what stays due while they are.
 use Rattle.std.proofs.Common.{inl, inr, refl, sym, ap, subst, ◌∙◌, arith, ◌≡◌, ◌⊎◌, ℕ, zero, suc, ◌+◌, ◌-◌, ◌<◌, ◌||◌, Bool, true, false, cond, nat_lt, List, [], ◌∷◌, drop, length, map, replicate, set, Option, Some, None, IfSome, is_some, slice_get, option_map, ltb-true, lt-ltb}
-use Rattle.no_packet_loops.proofs.Common.{⊤, option_map_or, false≢true, slice_get-map, Held, changed_at, Router, World, next, changed_rows, changed_link, is_due, ripe_front, with_cost, with_delivered, with_front_taken, with_message, with_noticed, with_released, front_at, notice_at, release_at, router_accepting, router_at_home, router_publishing, router_releasing, Patch, None_not_Some, Some_injective, option_map_or-ind, routers-changed_link, Step, SetCost, Deliver, Publish, Release}
+use Rattle.no_packet_loops.proofs.Common.{⊤, option_map_or, false≢true, slice_get-map, Held, changed_at, Router, World, next, changed_link, is_due, ripe_front, with_cost, with_delivered, with_front_taken, with_message, with_noticed, with_released, front_at, notice_at, release_at, router_accepting, router_at_home, router_publishing, router_releasing, Patch, None_not_Some, Some_injective, option_map_or-ind, routers-changed_link, Step, SetCost, Deliver, Publish, Release, has_changes}
 use Rattle.image_patch.specs.Patches.{patched}
 use Rattle.publication.specs.Lists.{Writing}
 use Rattle.publication.proofs.Places.{each_there, there_each}
@@ -84,7 +84,7 @@ IsDueBy p r = (is_due r ≡ true) × (patched p.generation p.rows (image_in_forc
 
 -- what is due stays due where a message is released
 due_released : (p : Patch) (r : Router) → 0 < (r.gate).ripe → IsDueBy p r → IsDueBy p (router_releasing r)
-due_released p r some due = (by_rows (nat_lt 0 (length (changed_rows r.table))) due.0, due.1)
+due_released p r some due = (by_rows (has_changes r) due.0, due.1)
   where
     shorter : (hs : List Held) → nat_lt (r.gate).ripe (length hs) ≡ true → nat_lt ((r.gate).ripe - 1) (length (drop 1 hs)) ≡ true
     shorter [] less = absurd (let none = ltb-true (r.gate).ripe 0 less in omega (arith, none))

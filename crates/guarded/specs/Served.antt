@@ -1,7 +1,7 @@
 -- What a fabric that was under a lock can have become, and how a step or a turn comes out there.
 use Rattle.std.specs.Prelude.{◌≡◌, ℕ, ◌+◌, ◌≤◌, ◌<◌, ◌⊎◌, ⊤, Bool, true, false, List, [], ◌∷◌, ◌++◌, length, Option, Some, None, Result, Ok, Err, MatchResult}
 use Rattle.std.specs.List.{AllByRecursion}
-use Rattle.network_model.specs.{declared.step.Step.Step, declared.step.Step.TheVariants.Publish, declared.step.Step.TheVariants.Release, declared.step.Refusal.Refusal, World.World, Step.Lawful, Step.next, Run.Runs, Turns.is_lawful, Turns.is_settled, Turns.next_step, Publication.Image}
+use Rattle.network_model.specs.{declared.step.Step.Step, declared.step.Step.TheVariants.Publish, declared.step.Step.TheVariants.Release, declared.step.Refusal.Refusal, World.World, Step.Lawful, Step.next, Run.Runs, Turns.is_lawful, Turns.is_settled, Turns.next_step, Publication.Image, declared.network.Offer.TheVariants.One}
 use Rattle.network_model.specs.declared.step.Refusal.TheVariants.{JournalFull, NoMemory, UnknownRouter, WrongTicket}
 use Rattle.network_model.specs.Journal.{Fits, journal_sum, most_steps, step_number}
 use Rattle.world.specs.Steps.{CanBeRefused}
@@ -12,7 +12,7 @@ use Rattle.course.specs.Images.{images_in_force}
 -- a fabric of no routers
 abbrev pub no_fabric : Fabric
 no_fabric = record {
-  network = record { routers = 0; links = []; attachments = [] };
+  network = record { routers = 0; links = []; attachments = []; offer = One };
   journal = [];
   world = record { places = []; links = []; prefixes = []; attachments = []; routers = [] };
   images = [];

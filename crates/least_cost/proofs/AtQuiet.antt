@@ -1,7 +1,7 @@
 -- The law at rest: in a quiet network each router's successors lead along a cheapest way to an attached router.
 use Rattle.std.proofs.Common.{◌≡◌, ◌⊎◌, ℕ, zero, suc, ◌+◌, ◌*◌, ◌<◌, ◌≤◌, Bool, true, false, List, [], ◌∷◌, Option, Some, None, length, refl, ap, sym, inl, inr, arith, ◌∙◌, eq-eqb, lt-ltb, slice_get, is_some, nat_lt, if◌then◌else◌}
-use Rattle.network_model.proofs.Common.{both_ways, cases_lt, false≢true, Machine, distance, least, ways, port_count, at_home, home_ways, least-append, LinkEnd, State, NextHop, at_port, infinity, plus, most_routers}
-use Rattle.network_model.specs.declared.machine.Neighbour.{Neighbour}
+use Rattle.network_model.proofs.Common.{both_ways, cases_lt, false≢true, Machine, distance, least, ways, port_count, at_home, home_ways, least-append, LinkEnd, State, at_port, infinity, plus, most_routers}
+use Rattle.network_model.specs.{declared.machine.Neighbour.Neighbour, declared.route.NextHop.NextHop}
 use Rattle.machine_laws.specs.Laws.{is_up_at, reported_at}
 use Rattle.loop_freedom.specs.Network.{Topology, IsEdgeWalk, next_hop_of}
 use Rattle.loop_freedom.proofs.Walks.{walk_map}
@@ -53,7 +53,7 @@ module _ (t : Topology) (n : ℕ) (s : State) (k : Kept t s) (q : IsQuiet t n s)
   seen_now e v = sym (ap (λ p. p.session) (pending_now e v)) ∙ (k.lines e v).end_session
 
   -- each machine knows the cost of a link that is up
-  cost_now : (e : LinkEnd) → t.valid e ≡ true → s.up e ≡ true → cost_of (slice_get (s.machine e.router).ports e.port) ≡ s.cost e
+  pub cost_now : (e : LinkEnd) → t.valid e ≡ true → s.up e ≡ true → cost_of (slice_get (s.machine e.router).ports e.port) ≡ s.cost e
   cost_now e v u = sym (ap (λ p. p.cost) (pending_now e v)) ∙ (k.lines e v).end_cost u
 
   -- the far end of a link that is up was told the distance
@@ -68,7 +68,7 @@ module _ (t : Topology) (n : ℕ) (s : State) (k : Kept t s) (q : IsQuiet t n s)
       nothing = rw (q.ripe_empty e v, q.unripe_empty e v) refl
 
   -- each machine knows the distance of the neighbour over a link that is up
-  reported_now : (e : LinkEnd) → t.valid e ≡ true → s.up e ≡ true → reported_at (s.machine e.router) e.port ≡ (s.machine (t.far e).router).rd
+  pub reported_now : (e : LinkEnd) → t.valid e ≡ true → s.up e ≡ true → reported_at (s.machine e.router) e.port ≡ (s.machine (t.far e).router).rd
   reported_now e v u =
       sym (ap (λ x. reported_at (s.machine x.router) x.port) (t.far_far e v))
       ∙ told_now (t.far e) (t.far_valid e v) (k.ends_up e v ∙ u)
@@ -297,6 +297,11 @@ module _ (t : Topology) (n : ℕ) (s : State) (k : Kept t s) (q : IsQuiet t n s)
     least_cost = walk_under i l;
   }
 
+  -- a router whose distance is below infinity is routed
+  pub routed_below : (i : ℕ) → i < n → (s.machine i).rd < infinity → IsRouted t n s i
+  unfolding rd
+  routed_below i l f = routed i l f
+
   -- a router with a successor is not out of reach
   successor_reached : (i p : ℕ) → i < n → (s.machine i).successor ≡ Some p → rd i < infinity
   unfolding rd
@@ -319,6 +324,11 @@ module _ (t : Topology) (n : ℕ) (s : State) (k : Kept t s) (q : IsQuiet t n s)
       go (inr f) =
           let last : p ≡ port_count (s.machine i) = omega (arith, f, (k.sound i).successor_within p h) in
           by_home (s.machine i).attachment refl ((k.sound i).successor_attached (h ∙ ap (λ (x : ℕ). Some x) last))
+
+  -- its distance is below infinity
+  pub successor_below : (i p : ℕ) → i < n → (s.machine i).successor ≡ Some p → (s.machine i).rd < infinity
+  unfolding rd
+  successor_below i p l h = successor_reached i p l h
 
   -- a router that is out of reach is cut off
   cut_off : (i : ℕ) → i < n → infinity ≤ rd i → HasNoWayOut s i

@@ -1,6 +1,7 @@
 -- What every state of a run keeps, and when two states show the same of a link.
 use Rattle.std.proofs.Common.{sym, subst, arith, ◌≡◌, ℕ, ◌<◌, ◌≤◌, true, false, List, [], ◌++◌, Option, length}
-use Rattle.network_model.proofs.Common.{both_ways, Machine, SeenHeld, SeenItem, NextHop, LinkEnd, State, infinity}
+use Rattle.network_model.proofs.Common.{both_ways, Machine, SeenHeld, SeenItem, LinkEnd, State, infinity}
+use Rattle.network_model.specs.declared.route.NextHop.{NextHop}
 use Rattle.machine_laws.specs.Laws.{IsSound, is_up_at}
 use Rattle.loop_freedom.specs.Network.{Topology}
 use Rattle.loop_freedom.specs.Facts.{AtLeast, AtLeastFromLastQuery, End, pipe, messages, live, is_next_hop, end_of, end_at}

@@ -1,6 +1,7 @@
 -- A router that publishes keeps the invariant.
 use Rattle.std.proofs.Common.{refl, sym, ◌∙◌, ap, subst, arith, append_assoc, inl, inr, ◌≡◌, ℕ, ◌≤◌, true, ◌&&◌, ◌==◌, List, [], ◌++◌, Option, Some, None, eqb-true, eq-eqb, ne_eqb}
-use Rattle.network_model.proofs.Common.{cases_eq, false≢true, and_parts, and-true, and-false, Machine, is_port, port_successor, SeenHeld, SeenItem, NextHop, LinkEnd, State, at_port, infinity}
+use Rattle.network_model.proofs.Common.{cases_eq, false≢true, and_parts, and-true, and-false, Machine, is_port, port_successor, SeenHeld, SeenItem, LinkEnd, State, at_port, infinity}
+use Rattle.network_model.specs.declared.route.NextHop.{NextHop}
 use Rattle.machine_laws.specs.Laws.{is_up_at}
 use Rattle.machine_laws.proofs.Successors.{port_successor_from, is_port_successor}
 use Rattle.loop_freedom.specs.Network.{Topology, Publish, next_hop_of}

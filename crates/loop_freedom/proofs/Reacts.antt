@@ -1,7 +1,7 @@
 -- What an event of its machine does to an end of a live link, by the laws of machines.
 use Rattle.std.proofs.Common.{refl, sym, ◌∙◌, ap, subst, arith, inl, inr, ◌≡◌, ◌⊎◌, ℕ, ◌+◌, ◌<◌, ◌≤◌, Bool, true, false, ◌&&◌, ◌==◌, List, [], ◌∷◌, ◌++◌, Option, Some, None, append-nil, eqb-true, eq-eqb}
-use Rattle.network_model.proofs.Common.{cases_Bool, both_ways, cases_eq, and_parts, and_from, and_left, true_from_ne_false, false_from_ne_true, Kind, Query, Reply, infinity, Machine, port_count, is_port, reaction, Report, SeenHeld, SeenItem, NextHop, one_if}
-use Rattle.network_model.specs.{declared.machine.Event.Event, declared.machine.Outgoing.Outgoing}
+use Rattle.network_model.proofs.Common.{cases_Bool, both_ways, cases_eq, and_parts, and_from, and_left, true_from_ne_false, false_from_ne_true, Kind, Query, Reply, infinity, Machine, port_count, is_port, reaction, Report, SeenHeld, SeenItem, one_if}
+use Rattle.network_model.specs.{declared.machine.Event.Event, declared.machine.Outgoing.Outgoing, declared.route.NextHop.NextHop}
 use Rattle.machine_laws.specs.Laws.{released, is_up_at, reported_at, awaits, owes_port, is_active, sent_to, count_kind, is_message, is_down, IsSound, Meets, MachineLaws}
 use Rattle.loop_freedom.specs.Network.{held_for}
 use Rattle.machine_laws.proofs.Events.{is_port-Some, is_port_same}

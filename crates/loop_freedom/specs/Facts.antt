@@ -1,8 +1,8 @@
 -- The two ends of a link that is up, and the four facts on which the freedom from loops rests.
 use Rattle.std.specs.Prelude.{◌≡◌, ◌⊎◌, ℕ, ◌+◌, ◌<◌, ◌≤◌, Bool, true, false, ◌&&◌, ◌==◌, if◌then◌else◌, List, [], ◌∷◌, ◌++◌, Option, Some, None}
 use Rattle.metric.specs.{declared.kind.Kind.Kind, declared.kind.Kind.TheVariants.Query, declared.kind.Kind.TheVariants.Reply}
-use Rattle.network_model.specs.{Machine.Machine, Machine.is_port, Numbers.one_if}
-use Rattle.network_model.specs.View.{Report, SeenHeld, SeenItem, UpNotice, DownNotice, CostNotice, Reported, NextHop, LinkEnd, State}
+use Rattle.network_model.specs.{Machine.Machine, Machine.is_port, Numbers.one_if, declared.route.NextHop.NextHop}
+use Rattle.network_model.specs.View.{Report, SeenHeld, SeenItem, UpNotice, DownNotice, CostNotice, Reported, LinkEnd, State}
 use Rattle.machine_laws.specs.Laws.{is_kind, is_up_at, reported_at, awaits, owes_port, is_active}
 use Rattle.loop_freedom.specs.Network.{Topology}
 

@@ -1,10 +1,10 @@
 -- How a network as one prefix sees it moves: its steps and runs, and the walks along which traffic goes.
 use Rattle.std.specs.Prelude.{◌≡◌, ◌⊎◌, ℕ, suc, ◌<◌, Bool, true, false, ◌&&◌, ◌||◌, ◌==◌, if◌then◌else◌, List, [], ◌∷◌, ◌++◌, Option, Some, None, slice_get, length}
-use Rattle.network_model.specs.{declared.machine.Neighbour.Neighbour, declared.machine.Event.Event, declared.machine.Outgoing.Outgoing}
+use Rattle.network_model.specs.{declared.machine.Neighbour.Neighbour, declared.machine.Event.Event, declared.machine.Outgoing.Outgoing, declared.route.NextHop.NextHop}
 use Rattle.network_model.specs.declared.machine.Event.TheVariants.{Message, Up, Down, Cost}
 use Rattle.network_model.specs.Machine.{reaction, opening_machine, port_successor, event_at_home}
 use Rattle.metric.specs.Distance.{infinity}
-use Rattle.network_model.specs.View.{LinkEnd, SeenItem, UpNotice, DownNotice, CostNotice, Reported, SeenHeld, NextHop, State, at_port}
+use Rattle.network_model.specs.View.{LinkEnd, SeenItem, UpNotice, DownNotice, CostNotice, Reported, SeenHeld, State, at_port}
 use Rattle.machine_laws.specs.Laws.{sent_to, is_up_at}
 
 -- which link ends there are, and which end is across each link

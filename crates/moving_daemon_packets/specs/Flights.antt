@@ -4,14 +4,21 @@ use Rattle.std.specs.FinMap.{find as row_of}
 use Rattle.ipv4_prefix.specs.Prefix.{Prefix, prefix_cmp}
 use Rattle.network_model.specs.{declared.route.Entry.Entry, View.LinkEnd, View.at_port}
 use Rattle.daemon_laws.specs.Packets.{session_leads, unmarked_leads}
-use Rattle.daemon_laws.specs.Happenings.{Happening, BeginsAnew, CanHappen, own_session, MayRewire, link_stays}
+use Rattle.daemon_laws.specs.Happenings.{Happening, Tells, Takes, Loses, Publishes, PublishesSome, Forgets, Releases, Offers, BeginsAnew, CanHappen, own_session, MayRewire, link_stays}
 use Rattle.moving_daemon_packets.specs.Moving.{Moment, moment_next, moment_rewired, moment_after, rows_shown, DaemonEvent, Goes, Does, Rewires}
 
 -- a packet that left by this end of a link in this session is not lost by what happens. What is on its way to a process ends with it, and so does what is on
 -- its way from one, but in sessions that the process at the other end has come into
 abbrev pub Survives : LinkEnd → ℕ → Moment → Happening → Type 0
+Survives e session m (Tells i input) = ⊤
+Survives e session m (Takes d) = ⊤
+Survives e session m (Loses d) = ⊤
+Survives e session m (Publishes i) = ⊤
+Survives e session m (PublishesSome i n) = ⊤
+Survives e session m (Forgets i p) = ⊤
+Survives e session m (Releases i) = ⊤
+Survives e session m (Offers i offer) = ⊤
 Survives e session m (BeginsAnew i costs attachments) = (i ≢ ((m.topology).far e).router) × (i ≡ e.router → session ≤ own_session m.processes ((m.topology).far e))
-Survives e session m _ = ⊤
 
 -- it is on the link while all this happens: by none of it it is lost, and the link stays
 abbrev pub IsOnLink : LinkEnd → ℕ → Moment → List DaemonEvent → Type 0

@@ -2,9 +2,9 @@
 use Rattle.std.proofs.Common.{refl, sym, subst, inl, inr, arith, ◌≤◌, ◌≡◌, ℕ, Bool, true, false, cond, List, [], ◌∷◌, ◌++◌, All, zero, suc, Some, None, IsSome}
 use Rattle.no_packet_loops.proofs.Common.{false≢true, Prefix, IsPrefix, IsCost, prefix_eq, Entry, Via, World, Network, opening, LinkSpec, HasCosts, IsNetwork, next, Runs, run, run-Runs, History, history, with_step, Step, LinkUp, LinkDown, Deliver, Publish, Release, Some_injective}
 use Rattle.no_packet_loops.proofs.{Machines.prefix_same, Runs.history_world}
-use Rattle.all_packets.specs.Packets.{MayGoOn}
-use Rattle.all_packets.specs.Journeys.{Event, Goes, Does}
+use Rattle.all_packets.specs.{Packets.MayGoOn, Journeys.Event, Journeys.Goes, Journeys.Does}
 use Rattle.moving_packets.specs.Moving.{fd_chosen, fd_published, history_after, StaysNear, IsMoving, HasBetter, SomeComesBackForBetter, SomeComesBackAfterRise}
+use Rattle.network_model.specs.declared.network.Offer.TheVariants.{One}
 
 -- ---- a packet that waits
 
@@ -51,7 +51,7 @@ cost_five = record { positive = omega arith; small = omega arith }
 
 -- the triangle, whose links 0-1 and 1-2 and 0-2 cost so much, with the prefix at a router
 abbrev triangle : ℕ → ℕ → ℕ → ℕ → Network
-triangle one two three at = record { routers = 3; links = link 0 1 one ∷ link 1 2 two ∷ link 0 2 three ∷ []; attachments = (prefix, at, 1) ∷ [] }
+triangle one two three at = record { routers = 3; links = link 0 1 one ∷ link 1 2 two ∷ link 0 2 three ∷ []; attachments = (prefix, at, 1) ∷ []; offer = One }
 
 -- ---- a better way
 

@@ -50,10 +50,14 @@ step_fault parts held = option_map_or (λ f. Some (Given f)) (parts_of_step_faul
 
 -- what a step may need memory for: all but a link that goes down, the release of a message that is stale, and a delivery at a router with room
 abbrev pub StepNeedsMemory : Step → World → Type 0
+StepNeedsMemory (LinkUp l) w = Unit {0}
 StepNeedsMemory (LinkDown l) w = ⊥
+StepNeedsMemory (SetCost i q cost) w = Unit {0}
 StepNeedsMemory (Deliver i q) w = DeliveryNeedsMemory w i q
+StepNeedsMemory (Publish i) w = Unit {0}
 StepNeedsMemory (Release i) w = (h : Held) → release_at w i ≡ Some h → is_stale w i h ≡ false
-StepNeedsMemory _ w = Unit {0}
+StepNeedsMemory (Attach i p cost) w = Unit {0}
+StepNeedsMemory (Detach i p) w = Unit {0}
 
 -- the same of the network that a handle holds
 abbrev pub HeldNeedsMemory : Step → Option Going → Type 0

@@ -7,6 +7,7 @@ use Rattle.timed_simulation.specs.Timed.{Timed}
 use Rattle.timed_reports.specs.Reports.{Reported}
 use Rattle.network_calls.specs.{Running.clocked_in, Running.network_in, Running.reported_in, declared.running.Going.Going, declared.running.Going.TheVariants.BySteps}
 use Rattle.network_calls.specs.declared.handle.NetworkHandle.{NetworkHandle}
+use Rattle.network_model.specs.declared.network.Offer.TheVariants.{One}
 
 -- what a handle holds, if anything: a network that goes by steps, or one in simulated time
 abbrev pub handle_going : NetworkHandle → Option Going
@@ -26,4 +27,4 @@ handle_report h = option_and_then reported_in (handle_going h)
 
 -- what stands in a handle that holds none: a network of no routers, which goes by steps
 abbrev pub nothing_held : Going
-nothing_held = BySteps (simulation_of (record { routers = 0; links = []; attachments = [] }) (record { places = []; links = []; prefixes = []; attachments = []; routers = [] }) [] 0 none_sent)
+nothing_held = BySteps (simulation_of (record { routers = 0; links = []; attachments = []; offer = One }) (record { places = []; links = []; prefixes = []; attachments = []; routers = [] }) [] 0 none_sent)

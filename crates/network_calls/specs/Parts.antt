@@ -2,7 +2,7 @@
 use Rattle.std.specs.Prelude.{◌≡◌, ◌⊎◌, ℕ, ◌+◌, if◌then◌else◌, List, [], ◌∷◌, map, Option, None, Some, option_map}
 use Rattle.std.specs.Option.{option_map_or}
 use Rattle.ipv4_prefix.specs.Prefix.{Prefix}
-use Rattle.network_model.specs.{declared.network.Limits.Limits, declared.network.LinkSpec.LinkSpec, declared.network.NetworkFault.NetworkFault, World.Network, Network.network_fault, Network.widest_limits, Network.AreWithin}
+use Rattle.network_model.specs.{declared.network.Limits.Limits, declared.network.LinkSpec.LinkSpec, declared.network.NetworkFault.NetworkFault, World.Network, Network.network_fault, Network.widest_limits, Network.AreWithin, declared.network.Offer.TheVariants.One}
 use Rattle.network_model.specs.declared.network.NetworkFault.TheVariants.{BadRouters, BadLink, TooManyLinks, BadOwner}
 use Rattle.c_interface.specs.{Faults.first_of, Rows.as_prefix, Rows.prefix_fault, declared.fault.CallFault.CallFault, declared.fault.CallFault.TheVariants.NoMemory}
 use Rattle.single_router.specs.Inputs.{cost_fault}
@@ -38,7 +38,7 @@ attachment_of_parts a = (as_prefix a.addr a.len, a.router, a.cost)
 
 -- the network of these parts
 abbrev pub parts_network : ℕ → List LinkParts → List AttachmentParts → Network
-parts_network routers links attachments = record { routers = routers; links = map link_spec links; attachments = map attachment_of_parts attachments }
+parts_network routers links attachments = record { routers = routers; links = map link_spec links; attachments = map attachment_of_parts attachments; offer = One }
 
 -- the first of these that has a fault, by its place, which begins here
 abbrev pub first_place : {X : Type 0} → (X → Option CallFault) → ℕ → List X → Option (CallFault × ℕ)

@@ -29,7 +29,7 @@ pub use Rattle.network_model.specs.Publication.{Patch, with_rows}
 pub use Rattle.network_model.specs.Run.{Runs}
 pub use Rattle.network_model.specs.Step.{Lawful, changed_link, changed_rows, chosen_rows, entry_of, front_at, held_of, is_due, next, notice_at, reactions, refusal, release_at, ripe_front, router_accepting, router_at_home, router_meeting, router_noticing, router_publishing, router_releasing, session_at, with_cost, with_delivered, with_front_taken, with_message, with_noticed, with_released}
 pub use Rattle.network_model.specs.Turns.{is_lawful, is_settled, next_step}
-pub use Rattle.network_model.specs.View.{CostNotice, DownNotice, LinkEnd, NextHop, Report, Reported, SeenHeld, SeenItem, State, UpNotice, at_port}
+pub use Rattle.network_model.specs.View.{CostNotice, DownNotice, LinkEnd, Report, Reported, SeenHeld, SeenItem, State, UpNotice, at_port}
 pub use Rattle.network_model.specs.World.{Attachments, Gate, Network, Router, Table, World, degree_of, machine_of, neighbours, opening, opening_router, rows_of}
 pub use Rattle.network_model.proofs.Lawful.{Lawful_to_refusal}
 pub use Rattle.network_model.proofs.ListLaws.{None_not_Some, Some_injective, changed_at-map, changed_at_written, changed_keeps, element_there, length-changed_at, map-changed_at, option_map_or-ind, slice_get-changed_at, slice_get-changed_at_other}

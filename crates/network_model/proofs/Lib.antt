@@ -4,6 +4,7 @@ pub mod Causes
 pub mod EntryLaws
 pub mod PortPlaces
 pub mod RowLaws
+pub mod HopLaws
 pub mod WorldLaws
 pub mod Lawful
 pub mod JournalLaws

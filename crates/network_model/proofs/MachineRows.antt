@@ -2,7 +2,7 @@
 use Rattle.std.proofs.Common.{refl, ◌≡◌, ℕ, Bool, true, false, List, [], ◌∷◌, Option, Some, None, map, option_and_then}
 use Rattle.std.specs.Option.{option_map_or}
 use Rattle.metric.specs.{Distance.infinity, declared.kind.Kind.Kind, declared.kind.Kind.TheVariants.Update, declared.kind.Kind.TheVariants.Query, declared.kind.Kind.TheVariants.Reply}
-use Rattle.network_model.specs.declared.machine.Event.{Event}
+use Rattle.network_model.specs.{declared.machine.Event.Event, declared.machine.Neighbour.Neighbour, declared.network.Offer.TheVariants.Equal, declared.network.Offer.TheVariants.Feasible, NextHops.offered_ports}
 use Rattle.network_model.specs.declared.machine.Event.TheVariants.{Message, Up, Down, Cost, Attached, Detached}
 use Rattle.network_model.specs.Machine.{Machine, Reaction, reaction, opening_machine, machine_after}
 
@@ -161,3 +161,15 @@ tied_at_home : lines (opening_machine (Some 5) (record { up = true; cost = 1; re
     ∷ []
 unfolding lines line passive
 tied_at_home = refl
+
+-- a machine whose distance has risen above its feasible distance. Of three neighbours at the least distance it offers the one that reported less than the
+-- feasible distance: neither the one that reported just that, nor the one that reported less than the distance alone
+heard : ℕ → ℕ → Neighbour
+heard cost reported = record { up = true; cost = cost; reported = reported }
+
+risen : Machine
+risen = record { attachment = None; ports = heard 3 1 ∷ heard 2 2 ∷ heard 1 3 ∷ []; rd = 4; fd = 2; successor = Some 0; computation = None }
+
+risen_offers : (offered_ports (Equal 8) risen ≡ 0 ∷ []) × (offered_ports (Feasible 8) risen ≡ 0 ∷ [])
+unfolding heard risen
+risen_offers = (refl, refl)

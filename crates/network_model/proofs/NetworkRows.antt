@@ -1,9 +1,10 @@
 -- Networks of two to four routers at work: worked examples, each with the steps that it takes shown to be lawful.
 use Rattle.std.proofs.Common.{refl, ◌≡◌, ℕ, zero, suc, ◌+◌, ◌*◌, ◌^◌, Bool, true, false, if◌then◌else◌, List, [], ◌∷◌, ◌++◌, Option, Some, None, map, length, option_map, option_and_then, slice_get, is_some, is_none}
-use Rattle.std.specs.FinMap.{find as row_of}
+use Rattle.std.specs.{FinMap.find as row_of, Option.option_map_or}
 use Rattle.metric.specs.{Distance.infinity, declared.kind.Kind.TheVariants.Update}
 use Rattle.ipv4_prefix.specs.Prefix.{Prefix, prefix_cmp}
-use Rattle.network_model.specs.{declared.route.Entry.Entry, declared.route.Entry.TheVariants.Local, declared.route.Entry.TheVariants.Via, declared.network.End.TheVariants.A, declared.network.End.TheVariants.B, declared.network.Limits.Limits, declared.network.LinkSpec.LinkSpec, declared.step.Step.Step, declared.step.Refusal.Refusal, declared.trace.Ending.Ending, declared.trace.Ending.TheVariants.Delivered, declared.trace.Ending.TheVariants.DeadLink, declared.trace.Ending.TheVariants.Crossed, Machine.Machine, Network.network_fault, Network.program_limits, Network.widest_limits, Step.entry_of, Step.refusal, Step.next, Run.History, Run.history, Run.run, Turns.settling_steps, Turns.is_settled, Journal.step_number, Journal.journal_sum, Journal.steps_in_sum}
+use Rattle.network_model.specs.{declared.route.Entry.Entry, declared.route.Entry.TheVariants.Local, declared.route.Entry.TheVariants.Via, declared.network.End.TheVariants.A, declared.network.End.TheVariants.B, declared.network.Limits.Limits, declared.network.LinkSpec.LinkSpec, declared.step.Step.Step, declared.step.Refusal.Refusal, declared.trace.Ending.Ending, declared.trace.Ending.TheVariants.Delivered, declared.trace.Ending.TheVariants.DeadLink, declared.trace.Ending.TheVariants.Crossed, Machine.Machine, Network.network_fault, Network.program_limits, Network.widest_limits, Run.History, Run.history, Run.run, Turns.settling_steps, Turns.is_settled, Journal.step_number, Journal.journal_sum, Journal.steps_in_sum, declared.route.NextHop.NextHop, declared.network.Offer.Offer, declared.network.Offer.TheVariants.One, declared.network.Offer.TheVariants.Equal, declared.network.Offer.TheVariants.Feasible, NextHops.hops_at}
+use Rattle.network_model.specs.Step.{entry_of, refusal, next, is_due, changed_rows, changed_hops}
 use Rattle.network_model.specs.declared.network.NetworkFault.TheVariants.{BadRouters, BadLink, TooManyLinks, BadOwner}
 use Rattle.network_model.specs.declared.step.Step.TheVariants.{LinkUp, LinkDown, SetCost, Deliver, Publish, Release, Attach, Detach}
 use Rattle.network_model.specs.declared.step.Refusal.TheVariants.{AlreadyUp, IsDown, NothingToDeliver, NothingDue, NothingRipe, UnknownRouter, UnknownLink, UnknownPrefix, NotAttached}
@@ -96,7 +97,7 @@ link : ℕ → ℕ → ℕ → ℕ → LinkSpec
 link a b from_a from_b = record { a = a; b = b; from_a = from_a; from_b = from_b }
 
 network : ℕ → List LinkSpec → List (Prefix × ℕ × ℕ) → Network
-network routers links attachments = record { routers = routers; links = links; attachments = attachments }
+network routers links attachments = record { routers = routers; links = links; attachments = attachments; offer = One }
 
 -- ---- two routers
 
@@ -530,3 +531,80 @@ long = network 21 (long_links 20 0) ((ten, 0, 1) ∷ [])
 long_seen : (refused_in long (all_up 20 0) ≡ None) × (line (world_of long (all_up 20 0)) 20 ten ≡ Some (passive 1310701 1310701 (Via 0 1)))
 unfolding long long_links all_up refused_in world_of played steps_of script_steps world_after network link ten line line_of passive
 long_seen = (refl, refl)
+
+-- ---- many next hops
+
+-- a square: router 0 is joined to 1 and 2, which are joined to 3. Router 3 is attached to the prefix
+square : Offer → Network
+square offer = record { routers = 4; links = link 0 1 1 1 ∷ link 0 2 1 1 ∷ link 1 3 1 1 ∷ link 2 3 1 1 ∷ []; attachments = (ten, 3, 1) ∷ []; offer = offer }
+
+-- a fan: router 0 is joined to 1, 2 and 3, each of which is joined to 4, from 1 at cost 3, from 2 at cost 2, from 3 at cost 3
+fan : Offer → Network
+fan offer = record { routers = 5; links = link 0 1 2 2 ∷ link 0 2 2 2 ∷ link 0 3 2 2 ∷ link 1 4 3 3 ∷ link 2 4 2 2 ∷ link 3 4 3 3 ∷ []; attachments = (ten, 4, 1) ∷ []; offer = offer }
+
+square_up : List Command
+square_up = Do (LinkUp 0) ∷ Do (LinkUp 1) ∷ Do (LinkUp 2) ∷ Do (LinkUp 3) ∷ Settle ∷ []
+
+fan_up : List Command
+fan_up = Do (LinkUp 0) ∷ Do (LinkUp 1) ∷ Do (LinkUp 2) ∷ Do (LinkUp 3) ∷ Do (LinkUp 4) ∷ Do (LinkUp 5) ∷ Settle ∷ []
+
+-- what a router published for the prefix beside its row
+hops_in_force : World → ℕ → List NextHop
+hops_in_force w i = option_map_or (λ r. hops_at ten (r.hops).published) (slice_get w.routers i) []
+
+hop_over : ℕ → NextHop
+hop_over q = record { port = q; session = 1 }
+
+-- where each row has one next hop, nothing is published beside it
+square_one : (refused_in (square One) square_up ≡ None) × (is_quiet (world_of (square One) square_up) ≡ true)
+    × (map (λ r. (r.hops).published) (world_of (square One) square_up).routers ≡ [] ∷ [] ∷ [] ∷ [] ∷ [])
+unfolding square square_up refused_in world_of played steps_of script_steps world_after link ten
+square_one = (refl, refl, refl)
+
+-- of two equal neighbours both are in force, or the first where one is the most; a router at its attachment offers none
+square_equal : (refused_in (square (Equal 8)) square_up ≡ None) × (is_quiet (world_of (square (Equal 8)) square_up) ≡ true)
+    × (map (hops_in_force (world_of (square (Equal 8)) square_up)) (0 ∷ 1 ∷ 2 ∷ 3 ∷ []) ≡ (hop_over 0 ∷ hop_over 1 ∷ []) ∷ (hop_over 1 ∷ []) ∷ (hop_over 1 ∷ []) ∷ [] ∷ [])
+    × (map (hops_in_force (world_of (square (Equal 1)) square_up)) (0 ∷ 1 ∷ []) ≡ (hop_over 0 ∷ []) ∷ (hop_over 1 ∷ []) ∷ [])
+unfolding square square_up refused_in world_of played steps_of script_steps world_after hops_in_force hop_over link ten
+square_equal = (refl, refl, refl, refl)
+
+-- of three feasible neighbours the nearest is the first, and the others follow by port; two where two are the most
+fan_feasible : (refused_in (fan (Feasible 8)) fan_up ≡ None) × (is_quiet (world_of (fan (Feasible 8)) fan_up) ≡ true)
+    × (hops_in_force (world_of (fan (Feasible 8)) fan_up) 0 ≡ hop_over 1 ∷ hop_over 0 ∷ hop_over 2 ∷ [])
+    × (hops_in_force (world_of (fan (Feasible 2)) fan_up) 0 ≡ hop_over 1 ∷ hop_over 0 ∷ [])
+    × (hops_in_force (world_of (fan (Equal 8)) fan_up) 0 ≡ hop_over 1 ∷ [])
+unfolding fan fan_up refused_in world_of played steps_of script_steps world_after hops_in_force hop_over link ten
+fan_feasible = (refl, refl, refl, refl, refl)
+
+-- what a router has to publish: whether it is due, how many rows, and which next hops
+abbrev dues_of : Router → Bool × ℕ × List (Prefix × List NextHop)
+dues_of r = (is_due r, length (changed_rows r.table), changed_hops r)
+
+-- the link to an equal neighbour fails: the router has next hops to publish, and no row
+square_lost : List Command
+square_lost = square_up ++ Do (LinkDown 1) ∷ Do (Deliver 0 1) ∷ []
+
+square_due : (refused_in (square (Equal 8)) square_lost ≡ None)
+    × (option_map dues_of (slice_get (world_of (square (Equal 8)) square_lost).routers 0) ≡ Some (true, 0, (ten, hop_over 0 ∷ []) ∷ []))
+    × (option_map dues_of (slice_get (world_of (square One) square_lost).routers 0) ≡ Some (false, 0, []))
+unfolding square square_up square_lost refused_in world_of played steps_of script_steps world_after hop_over link ten
+square_due = (refl, refl, refl)
+
+-- the successor comes first of equal neighbours: one at a lower port that comes back does not take its place
+square_back : List Command
+square_back = square_up ++ Do (LinkDown 0) ∷ Settle ∷ Do (LinkUp 0) ∷ Settle ∷ []
+
+square_keeps : (refused_in (square (Equal 8)) square_back ≡ None) × (line (world_of (square (Equal 8)) square_back) 0 ten ≡ Some (passive 3 3 (Via 1 1)))
+    × (hops_in_force (world_of (square (Equal 8)) square_back) 0 ≡ hop_over 1 ∷ record { port = 0; session = 2 } ∷ [])
+    × (hops_in_force (world_of (square (Equal 1)) square_back) 0 ≡ hop_over 1 ∷ [])
+unfolding square square_up square_back refused_in world_of played steps_of script_steps world_after hops_in_force hop_over link ten line line_of passive
+square_keeps = (refl, refl, refl, refl)
+
+-- a triangle, of which two routers are level: neither offers the other, which reported its feasible distance
+level_triangle : Network
+level_triangle = record { routers = 3; links = link 0 1 1 1 ∷ link 0 2 1 1 ∷ link 1 2 1 1 ∷ []; attachments = (ten, 0, 1) ∷ []; offer = Feasible 8 }
+
+triangle_level : (refused_in level_triangle (Do (LinkUp 0) ∷ Do (LinkUp 1) ∷ Do (LinkUp 2) ∷ Settle ∷ []) ≡ None)
+    × (map (hops_in_force (world_of level_triangle (Do (LinkUp 0) ∷ Do (LinkUp 1) ∷ Do (LinkUp 2) ∷ Settle ∷ []))) (1 ∷ 2 ∷ []) ≡ (hop_over 0 ∷ []) ∷ (hop_over 0 ∷ []) ∷ [])
+unfolding level_triangle refused_in world_of played steps_of script_steps world_after hops_in_force hop_over link ten
+triangle_level = (refl, refl)

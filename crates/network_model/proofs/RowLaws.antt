@@ -63,7 +63,7 @@ below_later p [] rows r below = less_from_test _ (and_parts _ _ below).0
 below_later p (x ∷ xs) rows r below = below_later p xs rows r (and_parts _ _ below).1
 
 -- a row behind all others is put last
-put_last : {X : Type 0} (xs rows : List (Prefix × X)) (r : Prefix × X) → is_sorted prefix_cmp (xs ++ r ∷ rows) ≡ true → put prefix_cmp r.0 r.1 xs ≡ xs ++ r ∷ []
+pub put_last : {X : Type 0} (xs rows : List (Prefix × X)) (r : Prefix × X) → is_sorted prefix_cmp (xs ++ r ∷ rows) ≡ true → put prefix_cmp r.0 r.1 xs ≡ xs ++ r ∷ []
 put_last [] rows r sorted = refl
 put_last (x ∷ xs) rows r sorted =
     let parts = and_parts (below_all prefix_cmp x.0 (xs ++ r ∷ rows)) (is_sorted prefix_cmp (xs ++ r ∷ rows)) sorted in

@@ -2,7 +2,7 @@
 use Rattle.std.specs.Prelude.{◌≡◌, ℕ, zero, suc, ◌+◌, ◌≤◌, Bool, true, false, not, ◌&&◌, if◌then◌else◌, List, [], ◌∷◌, Option, Some, None, slice_get, option_and_then, option_map, is_none, length}
 use Rattle.std.specs.{List.list_all, Option.option_map_or}
 use Rattle.ipv4_prefix.specs.{Prefix.Prefix, Prefix.prefix_eq, LongestMatch.longest_match}
-use Rattle.network_model.specs.{declared.route.Entry.Entry, declared.network.Place.Place, declared.trace.Ending.Ending, declared.trace.Trace.Trace as TraceFields, Step.is_up_in, Step.changed_rows}
+use Rattle.network_model.specs.{declared.route.Entry.Entry, declared.network.Place.Place, declared.trace.Ending.Ending, declared.trace.Trace.Trace as TraceFields, Step.is_up_in, Step.changed_rows, Step.changed_hops}
 use Rattle.network_model.specs.declared.trace.Ending.TheVariants.{Delivered, NoRoute, Unreachable, DeadLink, Crossed}
 use Rattle.network_model.specs.World.{Link, Router, Attachments, World, other, side, link_at, far_side_at, attachment_at}
 
@@ -122,9 +122,9 @@ abbrev pub is_empty : {A : Type 0} → List A → Bool
 is_empty [] = true
 is_empty (x ∷ xs) = false
 
--- no machine is in a computation, nothing is held, and the control rows are those published
+-- the offered next hops are those published, no machine is in a computation, nothing is held, and the control rows are those published
 abbrev pub is_quiet_router : Router → Bool
-is_quiet_router r = list_all (λ m. is_none (m.1).computation) r.machines && is_empty (r.gate).held && is_empty (changed_rows r.table)
+is_quiet_router r = is_empty (changed_hops r) && list_all (λ m. is_none (m.1).computation) r.machines && is_empty (r.gate).held && is_empty (changed_rows r.table)
 
 -- nothing is on the link
 abbrev pub is_quiet_link : Link → Bool

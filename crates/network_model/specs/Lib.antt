@@ -1,6 +1,7 @@
 pub mod Numbers
 pub mod Machine
 pub mod Memory
+pub mod NextHops
 pub mod World
 pub mod Network
 pub mod Step

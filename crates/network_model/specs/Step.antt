@@ -3,9 +3,10 @@ use Rattle.std.specs.Prelude.{◌≡◌, ℕ, ◌+◌, ◌-◌, ◌<◌, Bool, t
 use Rattle.std.specs.{List.flat_map, Option.option_map_or, FinMap.find as row_of, FinMap.put, FinMap.Entries.where_key}
 use Rattle.metric.specs.Distance.{IsCost}
 use Rattle.ipv4_prefix.specs.Prefix.{Prefix, prefix_cmp, prefix_eq}
-use Rattle.network_model.specs.{declared.machine.Event.Event, declared.machine.Outgoing.Outgoing, declared.item.Message.Message, declared.item.Item.Item, declared.item.Held.Held, declared.item.Notice.Notice, declared.route.Entry.Entry, declared.route.Entry.TheVariants.Local, declared.route.Entry.TheVariants.Via, declared.route.Entry.TheVariants.Unreachable, declared.network.End.End, declared.network.Port.Port, declared.step.Step.Step, declared.step.Refusal.Refusal, Network.first_cause}
+use Rattle.network_model.specs.{declared.machine.Event.Event, declared.machine.Outgoing.Outgoing, declared.item.Message.Message, declared.item.Item.Item, declared.item.Held.Held, declared.item.Notice.Notice, declared.route.Entry.Entry, declared.route.Entry.TheVariants.Local, declared.route.Entry.TheVariants.Via, declared.route.Entry.TheVariants.Unreachable, declared.network.End.End, declared.network.Port.Port, declared.step.Step.Step, declared.step.Refusal.Refusal, Network.first_cause, declared.route.NextHop.NextHop, NextHops.hops_by_prefix, NextHops.hops_eq}
 use Rattle.network_model.specs.declared.step.Step.TheVariants.{LinkUp, LinkDown, SetCost, Deliver, Publish, Release, Attach, Detach}
 use Rattle.network_model.specs.declared.step.Refusal.TheVariants.{UnknownRouter, UnknownLink, AlreadyUp, IsDown, SessionsSpent, NothingToDeliver, NothingDue, NothingRipe, UnknownPrefix, NotAttached}
+pub use Rattle.network_model.specs.World.{session_at}
 use Rattle.network_model.specs.Machine.{Machine, Reaction, reaction, changed_at, port_count, event_at_home}
 use Rattle.network_model.specs.World.{Gate, Side, Link, Table, Router, Attachments, World, other, place_at, link_at, side_at, degree_of, attachment_at, is_known, machine_of}
 
@@ -59,10 +60,6 @@ abbrev pub with_message : Held → End → Link → Link
 with_message h e k = if is_up_in h.session k then changed_side (other e) (with_item (Item.Message h.message)) k else k
 
 -- ---- routers
-
--- the session that the router's notices said last of a port
-abbrev pub session_at : List Port → ℕ → ℕ
-session_at ports q = option_map_or (λ p. p.session) (slice_get ports q) 0
 
 -- the entry of a machine: local where the successor is its attachment, else by way of the successor where there is one,
 -- also while a computation runs, else unreachable
@@ -133,10 +130,15 @@ gate_front g = if nat_lt 0 g.ripe then slice_get g.held 0 else None
 abbrev pub with_front_released : Gate → Gate
 with_front_released g = record { held = drop 1 g.held; ripe = g.ripe - 1 }
 
--- a router that publishes: its control rows are in force, and all that it holds is ripe
+-- the next hops that a router would publish
+abbrev pub offered_hops : Router → List (Prefix × List NextHop)
+offered_hops r = hops_by_prefix (r.hops).offer (session_at r.ports) r.machines
+
+-- a router that publishes: its control rows and what it offers beside them are in force, and all that it holds is ripe
 abbrev pub router_publishing : Router → Router
 router_publishing r = record r {
   table = record r.table { published = (r.table).control };
+  hops = record r.hops { published = offered_hops r };
   gate = with_all_ripe r.gate;
   generation = r.generation + 1;
 }
@@ -164,9 +166,21 @@ has_row rows r = option_map_or (λ e. entry_eq e r.1) (row_of prefix_cmp r.0 row
 abbrev pub changed_rows : Table → List (Prefix × Entry)
 changed_rows t = filter (λ r. not (has_row t.published r)) t.control
 
--- whether there is something to publish: a row that differs, or a held message that is not ripe
+-- whether the next hops of a prefix are these: of one that was never published they are not, even if there are none
+abbrev pub has_hops : List (Prefix × List NextHop) → Prefix × List NextHop → Bool
+has_hops rows x = option_map_or (λ hs. hops_eq hs x.1) (row_of prefix_cmp x.0 rows) false
+
+-- the offered next hops that differ from the published ones
+abbrev pub changed_hops : Router → List (Prefix × List NextHop)
+changed_hops r = filter (λ x. not (has_hops (r.hops).published x)) (offered_hops r)
+
+-- whether a publication would put other next hops or rows in force
+abbrev pub has_changes : Router → Bool
+has_changes r = nat_lt 0 (length (changed_hops r)) || nat_lt 0 (length (changed_rows r.table))
+
+-- whether there is something to publish: next hops or a row that differ, or a held message that is not ripe
 abbrev pub is_due : Router → Bool
-is_due r = nat_lt 0 (length (changed_rows r.table)) || nat_lt (r.gate).ripe (length (r.gate).held)
+is_due r = has_changes r || nat_lt (r.gate).ripe (length (r.gate).held)
 
 -- ---- attachments
 
@@ -254,9 +268,14 @@ Lawful w (Detach i p) = (r : Router) × (cost : ℕ) × (slice_get w.routers i �
 
 -- a step that can be asked: a cost that is set is a cost
 abbrev pub CanBeAsked : Step → Type 0
+CanBeAsked (LinkUp l) = Unit {0}
+CanBeAsked (LinkDown l) = Unit {0}
 CanBeAsked (SetCost i q cost) = IsCost cost
+CanBeAsked (Deliver i q) = Unit {0}
+CanBeAsked (Publish i) = Unit {0}
+CanBeAsked (Release i) = Unit {0}
 CanBeAsked (Attach i p cost) = IsCost cost
-CanBeAsked _ = Unit {0}
+CanBeAsked (Detach i p) = Unit {0}
 
 -- ---- refusals
 

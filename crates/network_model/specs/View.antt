@@ -3,7 +3,7 @@ use Rattle.std.specs.Prelude.{ℕ, Bool, false, ◌&&◌, ◌==◌, if◌then◌
 use Rattle.std.specs.{Option.option_map_or, FinMap.find as row_of}
 use Rattle.ipv4_prefix.specs.Prefix.{Prefix, prefix_cmp, prefix_eq}
 use Rattle.metric.specs.{declared.kind.Kind.Kind, Distance.infinity}
-use Rattle.network_model.specs.{declared.item.Message.Message, declared.item.Item.Item, declared.item.Held.Held, declared.route.Entry.Entry, declared.route.Entry.TheVariants.Local, declared.route.Entry.TheVariants.Via, declared.route.Entry.TheVariants.Unreachable, declared.network.End.End, declared.network.Place.Place, Machine.Machine, Machine.opening_machine, Step.session_at, Run.History}
+use Rattle.network_model.specs.{declared.item.Message.Message, declared.item.Item.Item, declared.item.Held.Held, declared.route.Entry.Entry, declared.route.Entry.TheVariants.Local, declared.route.Entry.TheVariants.Via, declared.route.Entry.TheVariants.Unreachable, declared.network.End.End, declared.network.Place.Place, Machine.Machine, Machine.opening_machine, Step.session_at, Run.History, declared.route.NextHop.NextHop}
 use Rattle.network_model.specs.World.{Link, Router, World, Network, side, machine_of, place_at, opening}
 
 -- ---- what is seen
@@ -33,11 +33,6 @@ pub data SeenItem : Type 0 where
 pub record SeenHeld : Type 0 where
   pub session : ℕ
   pub message : Report
-
--- a next hop: over which port, in which session of the link there
-pub record NextHop : Type 0 where
-  pub port : ℕ
-  pub session : ℕ
 
 -- a network at one moment: the machine of each router, what it published, and what is queued or held at each link end
 pub record State : Type 0 where

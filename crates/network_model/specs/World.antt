@@ -3,7 +3,7 @@ use Rattle.std.specs.Prelude.{ℕ, ◌+◌, Bool, false, ◌==◌, if◌then◌e
 use Rattle.std.specs.{List.range_with_len, List.list_any, List.cons_option, Option.option_map_or, FinMap.find as row_of, FinMap.put}
 use Rattle.metric.specs.Distance.{infinity}
 use Rattle.ipv4_prefix.specs.Prefix.{Prefix, prefix_cmp, prefix_eq}
-use Rattle.network_model.specs.{declared.machine.Neighbour.Neighbour, declared.item.Item.Item, declared.item.Held.Held, declared.item.Notice.Notice, declared.route.Entry.Entry, declared.route.Entry.TheVariants.Local, declared.network.End.End, declared.network.End.TheVariants.A, declared.network.End.TheVariants.B, declared.network.LinkSpec.LinkSpec, declared.network.Place.Place, declared.network.Port.Port, Machine.Machine, Machine.opening_machine}
+use Rattle.network_model.specs.{declared.machine.Neighbour.Neighbour, declared.item.Item.Item, declared.item.Held.Held, declared.item.Notice.Notice, declared.route.Entry.Entry, declared.route.Entry.TheVariants.Local, declared.network.End.End, declared.network.End.TheVariants.A, declared.network.End.TheVariants.B, declared.network.LinkSpec.LinkSpec, declared.network.Place.Place, declared.network.Port.Port, Machine.Machine, Machine.opening_machine, declared.route.NextHop.NextHop, declared.network.Offer.Offer, declared.network.Offer.TheVariants.One, NextHops.hops_by_prefix}
 
 -- ---- links
 
@@ -27,17 +27,23 @@ pub record Table : Type 0 where
   pub control : List (Prefix × Entry)
   pub published : List (Prefix × Entry)
 
+-- the next hops of a router beside its rows: which it offers, and those that it published, in the order of the prefixes
+pub record NextHops : Type 0 where
+  pub offer : Offer
+  pub published : List (Prefix × List NextHop)
+
 -- what a router holds back, oldest first, and how many at the front are ripe, which is to say may be released
 pub record Gate : Type 0 where
   pub held : List Held
   pub ripe : ℕ
 
 -- a router: what its notices said of its ports, a machine for each prefix that it has heard of in the order of the
--- prefixes, its rows, what it holds, and how often it published
+-- prefixes, its rows, its next hops beside them, what it holds, and how often it published
 pub record Router : Type 0 where
   pub ports : List Port
   pub machines : List (Prefix × Machine)
   pub table : Table
+  pub hops : NextHops
   pub gate : Gate
   pub generation : ℕ
 
@@ -104,18 +110,23 @@ is_known w p = list_any (prefix_eq p) w.prefixes
 abbrev pub neighbours : List Port → List Neighbour
 neighbours ports = map (λ p. record { up = p.up; cost = p.cost; reported = infinity }) ports
 
+-- the session that the router's notices said last of a port
+abbrev pub session_at : List Port → ℕ → ℕ
+session_at ports q = option_map_or (λ p. p.session) (slice_get ports q) 0
+
 -- the machine of a prefix; of one that was not heard of, the machine that would be opened
 abbrev pub machine_of : Router → Prefix → Machine
 machine_of r p = unwrap_or (row_of prefix_cmp p r.machines) (opening_machine None (neighbours r.ports))
 
 -- ---- the opening
 
--- a network that was not opened: its number of routers, its links, and its attachments, each a prefix, the router that is
--- attached to it, and the cost
+-- a network that was not opened: its number of routers, its links, its attachments, each a prefix, the router that is
+-- attached to it, and the cost, and which next hops its routers offer
 pub record Network : Type 0 where
   pub routers : ℕ
   pub links : List LinkSpec
   pub attachments : List (Prefix × ℕ × ℕ)
+  pub offer : Offer
 
 -- the router at an end of a link
 abbrev pub router_end : End → LinkSpec → ℕ
@@ -153,6 +164,10 @@ abbrev pub rows_of : {X : Type 0} → List (Prefix × X) → List (Prefix × X)
 rows_of [] = []
 rows_of (r ∷ rs) = put prefix_cmp r.0 r.1 (rows_of rs)
 
+-- no next hops yet, of which these are offered
+abbrev pub opening_hops : Offer → NextHops
+opening_hops offer = record { offer = offer; published = [] }
+
 -- a router at the opening, with these attachments: it has heard of their prefixes alone, is local to them, and has published that
 abbrev pub opening_router : List Port → List (Prefix × ℕ) → Router
 opening_router ports costs =
@@ -161,6 +176,7 @@ opening_router ports costs =
       ports = ports;
       machines = map (λ a. (a.0, opening_machine (Some a.1) (neighbours ports))) costs;
       table = record { control = rows; published = rows };
+      hops = opening_hops One;
       gate = record { held = []; ripe = 0 };
       generation = 0;
     }
@@ -169,9 +185,17 @@ opening_router ports costs =
 abbrev pub costs_of : Network → ℕ → List (Prefix × ℕ)
 costs_of n i = rows_of (map (λ a. (a.0, a.2)) (filter (λ a. a.1 == i) n.attachments))
 
+-- a router that offers these next hops, and has published none
+abbrev pub with_offer : Offer → Router → Router
+with_offer offer r = record r { hops = opening_hops offer }
+
+-- one that has published what it offers
+abbrev pub with_offer_published : Offer → Router → Router
+with_offer_published offer r = record r { hops = record { offer = offer; published = hops_by_prefix offer (session_at r.ports) r.machines } }
+
 -- router i of a network at the opening
 abbrev pub opening_router_of : Network → ℕ → Router
-opening_router_of n i = opening_router (map (opening_port (map opening_link n.links)) (places_from 0 i n.links)) (costs_of n i)
+opening_router_of n i = with_offer_published n.offer (opening_router (map (opening_port (map opening_link n.links)) (places_from 0 i n.links)) (costs_of n i))
 
 -- these prefixes, each once
 abbrev pub distinct : List Prefix → List Prefix

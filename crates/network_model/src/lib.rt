@@ -8,6 +8,7 @@
 //!
 //! ```text
 //!   specs/Machine       one router's machine for one prefix: what an event makes of it, and what it sends
+//!   specs/NextHops      the next hops that a router may use beside its rows
 //!   specs/World         links, routers and attachments, and with what a network opens
 //!   specs/Network       which faults a network may have
 //!   specs/Step          the eight steps: when each is lawful, why it is refused, and what it makes
@@ -51,7 +52,7 @@ pub use item::{Held, Item, Message, Notice};
 pub use machine::{Event, Neighbour, Outgoing, PortInfo};
 pub use memory::{NoMemory, SmallAllocator};
 pub use metric::{BadCost, Cost, Distance, Kind};
-pub use network::{End, Limits, LinkSpec, MOST_PORTS, NetworkFault, Place, Port};
-pub use route::{Answer, Entry};
+pub use network::{End, Limits, LinkSpec, MOST_PORTS, NetworkFault, Offer, Place, Port};
+pub use route::{Answer, Entry, NextHop};
 pub use step::{Refusal, Step};
 pub use trace::{Ending, Trace};

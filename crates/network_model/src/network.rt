@@ -140,6 +140,17 @@ pub struct Port {
     pub cost: Cost,
 }
 
+/// Which next hops a router offers beside its rows.
+#[derive(Clone, Copy)]
+pub enum Offer {
+    /// None: a router has one next hop a row.
+    One,
+    /// The feasible neighbours at the least distance, at most so many.
+    Equal { most: usize },
+    /// All feasible neighbours, the nearest first, at most so many.
+    Feasible { most: usize },
+}
+
 /// Why a network cannot be opened. A fault of a link or an attachment has its position in the list
 /// that was given, from 0. Its text is its number and name.
 #[derive(Clone, Copy, Debug, PartialEq, Eq, Drop, Error)]

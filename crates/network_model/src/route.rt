@@ -13,6 +13,13 @@ pub enum Entry {
     Unreachable,
 }
 
+/// Over which port packets go, while its link is up in this session.
+#[derive(Clone, Copy)]
+pub struct NextHop {
+    pub port: u8,
+    pub session: u16,
+}
+
 /// What a router's image in force answers for an address.
 #[derive(Clone, Copy, Debug, PartialEq, Eq)]
 pub struct Answer {

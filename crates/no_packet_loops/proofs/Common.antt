@@ -46,9 +46,9 @@ pub use Rattle.network_model.specs.Network.{AreWithin, HasCosts, IsNetwork, atta
 pub use Rattle.network_model.specs.Numbers.{one_if}
 pub use Rattle.network_model.specs.Publication.{Image, Patch, answer_of, image_answer, with_rows}
 pub use Rattle.network_model.specs.Run.{History, Runs, history, history_from, one_more, published_after, run, stopped_at, with_step, with_steps}
-pub use Rattle.network_model.specs.Step.{CanBeAsked, Lawful, changed_attachments, changed_link, changed_router, changed_rows, changed_side, chosen_rows, entry_eq, entry_of, front_at, has_row, held_of, is_at_home, is_due, is_notice, is_up, is_up_in, last_session, link_come_up, link_gone_down, next, notice_at, reactions, refusal, release_at, ripe_front, router_accepting, router_at_home, router_meeting, router_noticing, router_publishing, router_releasing, router_told, session_at, side_cut, with_attachment, with_cost, with_delivered, with_front_taken, with_item, with_machines, with_message, with_notice_taken, with_noticed, with_released, without_attachment}
+pub use Rattle.network_model.specs.Step.{CanBeAsked, Lawful, changed_attachments, changed_link, changed_router, changed_rows, changed_side, chosen_rows, entry_eq, entry_of, front_at, has_row, held_of, is_at_home, is_due, is_notice, is_up, is_up_in, last_session, link_come_up, link_gone_down, next, notice_at, reactions, refusal, release_at, ripe_front, router_accepting, router_at_home, router_meeting, router_noticing, router_publishing, router_releasing, router_told, session_at, side_cut, with_attachment, with_cost, with_delivered, with_front_taken, with_item, with_machines, with_message, with_notice_taken, with_noticed, with_released, without_attachment, changed_hops, has_changes, offered_hops}
 pub use Rattle.network_model.specs.Turns.{choices, is_lawful, is_settled, next_step, settling_steps}
-pub use Rattle.network_model.specs.View.{CostNotice, DownNotice, LinkEnd, NextHop, Reported, SeenItem, State, UpNotice, at_port, fd_in, heard, heard_item, held_as, inbox_of, is_kept, kept, lay, msg_of, next_hop, next_hop_at, on_link, ripe_of, unripe_of, view}
+pub use Rattle.network_model.specs.View.{CostNotice, DownNotice, LinkEnd, Reported, SeenItem, State, UpNotice, at_port, fd_in, heard, heard_item, held_as, inbox_of, is_kept, kept, lay, msg_of, next_hop, next_hop_at, on_link, ripe_of, unripe_of, view}
 pub use Rattle.network_model.specs.World.{Attachments, Link, Network, Router, Side, Table, World, attachment_at, costs_of, degree_of, distinct, is_known, link_at, machine_of, neighbours, opening, opening_link, opening_port, opening_router, opening_router_of, other, own_end, place_at, places_from, prefixes_of, router_end, rows_of, side}
 pub use Rattle.network_model.specs.declared.item.Held.{Held}
 pub use Rattle.network_model.specs.declared.item.Item.{Item}
@@ -105,3 +105,4 @@ pub use Rattle.network_model.proofs.ListLaws.{None_not_Some, Some_injective, cha
 pub use Rattle.network_model.proofs.PortPlaces.{IsPort, one_if_at, place_of, place_to_IsPort, ports_before}
 pub use Rattle.network_model.proofs.RowLaws.{find-map, find_below, sorted-map, sorted-put, sorted-rows_of, with_rows-past}
 pub use Rattle.network_model.proofs.WorldLaws.{routers-changed_link}
+pub use Rattle.network_model.specs.declared.route.NextHop.{NextHop}

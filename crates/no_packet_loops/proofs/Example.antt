@@ -2,6 +2,7 @@
 use Rattle.std.proofs.Common.{refl, arith, inl, ℕ, zero, suc, List, [], ◌∷◌, slice_get, unwrap_or, All}
 use Rattle.no_packet_loops.proofs.Common.{Prefix, IsPrefix, IsCost, Update, Via, Link, Router, World, Network, opening, opening_link, opening_router, Held, Item, LinkSpec, next, front_at, release_at, HasCosts, IsNetwork, Runs, Step, LinkUp, Deliver, Publish, Release}
 use Rattle.no_packet_loops.specs.Packets.{SomePacketGoes}
+use Rattle.network_model.specs.declared.network.Offer.TheVariants.{One}
 
 -- a link of cost 1 between routers 0 and 1
 abbrev link : LinkSpec
@@ -13,7 +14,7 @@ everything = record { addr = 0; len = 0 }
 
 -- two routers, the link between them, and all addresses at router 0
 abbrev pub pair : Network
-pair = record { routers = 2; links = link ∷ []; attachments = (everything, 0, 1) ∷ [] }
+pair = record { routers = 2; links = link ∷ []; attachments = (everything, 0, 1) ∷ []; offer = One }
 
 -- what holds of the one element holds of all
 pub all_of_one : {A : Type 0} (P : A → Type 0) (x : A) → P x → All P (x ∷ [])

@@ -1,6 +1,6 @@
 -- The view of the opening of a network is an opening.
 use Rattle.std.proofs.Common.{refl, sym, ap, subst, ◌∙◌, arith, ◌≡◌, ℕ, suc, ◌<◌, ◌==◌, if◌then◌else◌, filter, Bool, true, false, cond, List, [], ◌∷◌, map, length, Option, Some, None, is_some, slice_get, option_map, option_and_then, unwrap_or, eq-eqb}
-use Rattle.no_packet_loops.proofs.Common.{range_with_len, option_map_or, find-put, length-map, false≢true, slice_get-map, slice_get_within, Prefix, prefix_cmp, prefix_eq, Machine, opening_machine, Neighbour, infinity, IsCost, Entry, End, A, B, Link, Router, Attachments, Network, side, neighbours, machine_of, places_from, opening_link, opening_port, rows_of, opening_router, costs_of, opening, Place, Port, LinkSpec, session_at, entry_of, chosen_rows, Some_injective, None_not_Some, listed_at, listed_within, prefix_cmp_total, Opening, OpeningPorts, find-map, sorted-map, sorted-rows_of, LinkEnd, State, at_port, next_hop, on_link, inbox_of, kept, ripe_of, unripe_of, next_hop_at, view, lay, find as row_of}
+use Rattle.no_packet_loops.proofs.Common.{range_with_len, option_map_or, find-put, length-map, false≢true, slice_get-map, slice_get_within, Prefix, prefix_cmp, prefix_eq, Machine, opening_machine, Neighbour, infinity, IsCost, Entry, End, A, B, Link, Router, Attachments, Network, side, neighbours, machine_of, places_from, opening_link, opening_port, rows_of, costs_of, opening, Place, Port, LinkSpec, session_at, entry_of, chosen_rows, Some_injective, None_not_Some, listed_at, listed_within, prefix_cmp_total, Opening, OpeningPorts, find-map, sorted-map, sorted-rows_of, LinkEnd, State, at_port, next_hop, on_link, inbox_of, kept, ripe_of, unripe_of, next_hop_at, view, lay, find as row_of, opening_router_of}
 use Rattle.no_packet_loops.proofs.{Wiring.IsWiredLink, Wiring.IsWired, Places.laid, Places.topology, View.on_link-there, View.on_router-there}
 use Rattle.no_packet_loops.proofs.Kept.{ends, spec_ends, RouterKept, AttachmentsKept, WorldKept}
 
@@ -32,7 +32,7 @@ module _ (n : Network) (N : IsWired n) (p : Prefix) where
 
   -- router i at the start
   abbrev first : ℕ → Router
-  first i = opening_router (ports_of i) (costs_of n i)
+  first i = opening_router_of n i
 
   -- ---- machines
 

@@ -1,6 +1,6 @@
 -- A router that is quiet: its machines are passive, it holds nothing, and its published rows are those of its machines.
 use Rattle.std.proofs.Common.{refl, sym, ap, ◌∙◌, arith, ◌≡◌, ℕ, zero, suc, ◌≤◌, Bool, true, false, cond, not, ◌&&◌, ◌||◌, ◌==◌, nat_lt, if◌then◌else◌, List, [], ◌∷◌, length, take, drop, filter, Option, Some, None, slice_get, option_map, unwrap_or, is_none, is_some, eq-eqb, ltb-false, lt-ltb}
-use Rattle.no_packet_loops.proofs.Common.{list_all, option_map_or, take-nil, drop-nil, and_from, and_parts, false≢true, tied_itself, below_all, Prefix, prefix_cmp, prefix_eq, prefix_cmp_total, Machine, Computation, opening_machine, port_count, Entry, Local, Via, Unreachable, Held, Port, Router, machine_of, neighbours, entry_eq, has_row, changed_rows, chosen_rows, entry_of, session_at, is_due, ripe_front, is_empty, is_quiet_router, entry_from_eq, Some_injective, None_not_Some, is_active, find_below, ripe_of, unripe_of, find as row_of, is_sorted, is_eq}
+use Rattle.no_packet_loops.proofs.Common.{list_all, option_map_or, take-nil, drop-nil, and_from, and_parts, false≢true, tied_itself, below_all, Prefix, prefix_cmp, prefix_eq, prefix_cmp_total, Machine, Computation, opening_machine, port_count, Entry, Local, Via, Unreachable, Held, Port, Router, machine_of, neighbours, entry_eq, has_row, changed_rows, chosen_rows, entry_of, session_at, is_due, ripe_front, is_empty, is_quiet_router, entry_from_eq, Some_injective, None_not_Some, is_active, find_below, ripe_of, unripe_of, find as row_of, is_sorted, is_eq, changed_hops}
 use Rattle.no_packet_loops.proofs.{Machines.prefix_same, Publishing.control_row}
 
 -- ---- lists
@@ -16,7 +16,7 @@ empty_length [] h = refl
 empty_length (x ∷ xs) h = absurd (omega (arith, h))
 
 -- where no element that fails is left, all pass
-nothing_filtered : {A : Type 0} (f : A → Bool) (xs : List A) → is_empty (filter (λ x. not (f x)) xs) ≡ true → list_all f xs ≡ true
+pub nothing_filtered : {A : Type 0} (f : A → Bool) (xs : List A) → is_empty (filter (λ x. not (f x)) xs) ≡ true → list_all f xs ≡ true
 nothing_filtered f [] h = refl
 nothing_filtered f (x ∷ xs) h = by_test (f x) h (nothing_filtered f xs)
   where
@@ -25,7 +25,7 @@ nothing_filtered f (x ∷ xs) h = by_test (f x) h (nothing_filtered f xs)
     by_test false e rest = absurd (false≢true e)
 
 -- where all rows pass, the one that is found does
-row_passes : {X : Type 0} (p : Prefix) (f : Prefix × X → Bool) (rows : List (Prefix × X)) → list_all f rows ≡ true → (x : X) → row_of prefix_cmp p rows ≡ Some x → f (p, x) ≡ true
+pub row_passes : {X : Type 0} (p : Prefix) (f : Prefix × X → Bool) (rows : List (Prefix × X)) → list_all f rows ≡ true → (x : X) → row_of prefix_cmp p rows ≡ Some x → f (p, x) ≡ true
 row_passes p f [] h x e = absurd (None_not_Some e)
 row_passes p f (r ∷ rs) h x e = by_key (prefix_eq p r.0) refl e (row_passes p f rs (and_parts (f r) (list_all f rs) h).1 x)
   where
@@ -66,26 +66,28 @@ entry_lost ports m none = ap (λ x. option_map_or (λ q. if q == port_count m th
 
 -- ---- a router that has nothing left to do
 
--- it holds nothing, and its chosen rows are those published
+-- it holds nothing, and its offered next hops and chosen rows are those published
 pub record IsDone (r : Router) : Type 0 where
+  pub offers : is_empty (changed_hops r) ≡ true
   pub holds_none : (r.gate).held ≡ []
   pub published : is_empty (changed_rows r.table) ≡ true
 
 -- a router with nothing to publish, and nothing to release, is done
 pub done_of : (r : Router) → is_due r ≡ false → ripe_front r ≡ None → IsDone r
-done_of r idle none = by_tests (nat_lt 0 (length (changed_rows r.table))) refl (nat_lt (r.gate).ripe (length (r.gate).held)) refl idle
+done_of r idle none = by_tests (nat_lt 0 (length (changed_hops r))) refl (nat_lt 0 (length (changed_rows r.table))) refl (nat_lt (r.gate).ripe (length (r.gate).held)) refl idle
   where
     holds : (xs : List Held) (m : ℕ) → length xs ≤ m → (if nat_lt 0 m then slice_get xs 0 else None) ≡ None → xs ≡ []
     holds [] m le f = refl
     holds (x ∷ xs) zero le f = absurd (omega (arith, le))
     holds (x ∷ xs) (suc m) le f = absurd (None_not_Some (sym (sym (ap (λ b. if b then Some x else None) (lt-ltb 0 (suc m) (omega arith))) ∙ f)))
 
-    by_tests : (a : Bool) → nat_lt 0 (length (changed_rows r.table)) ≡ a → (b : Bool) → nat_lt (r.gate).ripe (length (r.gate).held) ≡ b → (a || b) ≡ false → IsDone r
-    by_tests false at false bt e = record {
+    by_tests : (h : Bool) → nat_lt 0 (length (changed_hops r)) ≡ h → (a : Bool) → nat_lt 0 (length (changed_rows r.table)) ≡ a → (b : Bool) → nat_lt (r.gate).ripe (length (r.gate).held) ≡ b → (h || a || b) ≡ false → IsDone r
+    by_tests false ht false at false bt e = record {
+      offers = empty_length (changed_hops r) (ltb-false 0 (length (changed_hops r)) ht);
       holds_none = holds (r.gate).held (r.gate).ripe (ltb-false (r.gate).ripe (length (r.gate).held) bt) none;
       published = empty_length (changed_rows r.table) (ltb-false 0 (length (changed_rows r.table)) at);
     }
-    by_tests _ at _ bt e = absurd (false≢true (sym e))
+    by_tests _ ht _ at _ bt e = absurd (false≢true (sym e))
 
 -- where it holds nothing, nothing is ripe
 pub nothing_ripe : (r : Router) → (r.gate).held ≡ [] → ripe_of r ≡ []
@@ -100,7 +102,7 @@ nothing_unripe r h = ap (drop (r.gate).ripe) h ∙ drop-nil (r.gate).ripe
 -- one that is done is quiet, where every machine is passive
 pub quiet_of : (r : Router) → is_sorted prefix_cmp r.machines ≡ true → ((p : Prefix) → is_active (machine_of r p) ≡ false) → IsDone r → is_quiet_router r ≡ true
 quiet_of r sorted passive d =
-    and_from _ (is_empty (changed_rows r.table)) (and_from (list_all (λ m. is_none (m.1).computation) r.machines) (is_empty (r.gate).held) (rows_pass (λ (m : Machine). is_none m.computation) r.machines sorted no_computation) (ap is_empty d.holds_none)) d.published
+    and_from _ (is_empty (changed_rows r.table)) (and_from (is_empty (changed_hops r) && list_all (λ m. is_none (m.1).computation) r.machines) (is_empty (r.gate).held) (and_from (is_empty (changed_hops r)) (list_all (λ m. is_none (m.1).computation) r.machines) d.offers (rows_pass (λ (m : Machine). is_none m.computation) r.machines sorted no_computation)) (ap is_empty d.holds_none)) d.published
   where
     by_computation : (c : Option Computation) → is_some c ≡ false → is_none c ≡ true
     by_computation None e = refl
@@ -117,13 +119,16 @@ pub record Still (p : Prefix) (r : Router) : Type 0 where
 
 -- so it is at a quiet router, which publishes no row of a prefix that is unheard
 pub still_quiet : (p : Prefix) (r : Router) → (r.table).control ≡ chosen_rows r.ports r.machines → (row_of prefix_cmp p r.machines ≡ None → row_of prefix_cmp p (r.table).published ≡ None) → is_quiet_router r ≡ true → Still p r
-still_quiet p r control_is heard quiet = record { passive = passive (row_of prefix_cmp p r.machines) refl; done = record { holds_none = empty_is (r.gate).held first.1; published = parts.1 }; row_is = row (row_of prefix_cmp p (r.table).control) refl }
+still_quiet p r control_is heard quiet = record { passive = passive (row_of prefix_cmp p r.machines) refl; done = record { offers = hops.0; holds_none = empty_is (r.gate).held first.1; published = parts.1 }; row_is = row (row_of prefix_cmp p (r.table).control) refl }
   where
-    parts : ((list_all (λ m. is_none (m.1).computation) r.machines && is_empty (r.gate).held) ≡ true) × (is_empty (changed_rows r.table) ≡ true)
-    parts = and_parts (list_all (λ m. is_none (m.1).computation) r.machines && is_empty (r.gate).held) (is_empty (changed_rows r.table)) quiet
+    parts : ((is_empty (changed_hops r) && list_all (λ m. is_none (m.1).computation) r.machines && is_empty (r.gate).held) ≡ true) × (is_empty (changed_rows r.table) ≡ true)
+    parts = and_parts (is_empty (changed_hops r) && list_all (λ m. is_none (m.1).computation) r.machines && is_empty (r.gate).held) (is_empty (changed_rows r.table)) quiet
 
-    first : (list_all (λ m. is_none (m.1).computation) r.machines ≡ true) × (is_empty (r.gate).held ≡ true)
-    first = and_parts (list_all (λ m. is_none (m.1).computation) r.machines) (is_empty (r.gate).held) parts.0
+    first : ((is_empty (changed_hops r) && list_all (λ m. is_none (m.1).computation) r.machines) ≡ true) × (is_empty (r.gate).held ≡ true)
+    first = and_parts (is_empty (changed_hops r) && list_all (λ m. is_none (m.1).computation) r.machines) (is_empty (r.gate).held) parts.0
+
+    hops : (is_empty (changed_hops r) ≡ true) × (list_all (λ m. is_none (m.1).computation) r.machines ≡ true)
+    hops = and_parts (is_empty (changed_hops r)) (list_all (λ m. is_none (m.1).computation) r.machines) first.0
 
     not_active : (c : Option Computation) → is_none c ≡ true → is_some c ≡ false
     not_active None h = refl
@@ -131,7 +136,7 @@ still_quiet p r control_is heard quiet = record { passive = passive (row_of pref
 
     passive : (o : Option Machine) → row_of prefix_cmp p r.machines ≡ o → is_active (unwrap_or o (opening_machine None (neighbours r.ports))) ≡ false
     passive None is = refl
-    passive (Some m) is = not_active m.computation (row_passes p (λ x. is_none (x.1).computation) r.machines first.0 m is)
+    passive (Some m) is = not_active m.computation (row_passes p (λ x. is_none (x.1).computation) r.machines hops.1 m is)
 
     found : (e : Entry) (o : Option Entry) → option_map_or (λ x. entry_eq x e) o false ≡ true → o ≡ Some e
     found e None h = absurd (false≢true h)

@@ -68,7 +68,7 @@ module _ (n : Network) (p : Prefix) (w : World) (K : WorldKept n p w) (P : World
 -- ---- the view
 
 -- the element that is set is found at its position
-set_here : (rs : List Router) (i : ℕ) (r : Router) → i < length rs → slice_get (slice_set rs i r) i ≡ Some r
+pub set_here : (rs : List Router) (i : ℕ) (r : Router) → i < length rs → slice_get (slice_set rs i r) i ≡ Some r
 set_here [] i r lt = absurd (omega arith)
 set_here (x ∷ xs) zero r lt = refl
 set_here (x ∷ xs) (suc i) r lt = set_here xs i r (omega (arith, lt))
@@ -170,7 +170,7 @@ module _ (n : Network) (N : IsWired n) (p : Prefix) (w : World) (pfd : ℕ → �
   stepped (Detach i k) L = record { fd_then = pfd; is_kept = detaches n N p w pfd K i k; fds_then = same_fds }
 
 -- a step leaves the length of the list of routers as they published last
-published_count : (w : World) (rs : List Router) (s : Step) → length (published_after w rs s) ≡ length rs
+pub published_count : (w : World) (rs : List Router) (s : Step) → length (published_after w rs s) ≡ length rs
 published_count w rs (Publish i) = option_map_or-ind (λ (xs : List Router). length xs ≡ length rs) (λ r. slice_set rs i r) (slice_get w.routers i) rs refl (λ r at. length-set rs i r)
 published_count w rs _ = refl
 

@@ -65,17 +65,17 @@ module _ (n : Network) (N : IsWired n) (p : Prefix) (w : World) (rs : List Route
   -- ---- where an entry leads
 
   -- the entry of router i is Via a port, over a link that is up in the session of the entry, to router k
-  record Leads (i : ℕ) (entry : Entry) (k : ℕ) : Type 0 where
-    port : ℕ
-    session : ℕ
-    is_via : entry ≡ Via port session
-    valid : is_some (lay n (at_port i port)) ≡ true
-    up : s.up (at_port i port) ≡ true
-    present : s.session (at_port i port) ≡ session
-    far_router : (far n (at_port i port)).router ≡ k
+  pub record Leads (i : ℕ) (entry : Entry) (k : ℕ) : Type 0 where
+    pub port : ℕ
+    pub session : ℕ
+    pub is_via : entry ≡ Via port session
+    pub valid : is_some (lay n (at_port i port)) ≡ true
+    pub up : s.up (at_port i port) ≡ true
+    pub present : s.session (at_port i port) ≡ session
+    pub far_router : (far n (at_port i port)).router ≡ k
 
   -- an entry that leads to router k is such an entry
-  leads : (i : ℕ) (entry : Entry) (k : ℕ) → entry_leads w i entry ≡ Some k → Leads i entry k
+  pub leads : (i : ℕ) (entry : Entry) (k : ℕ) → entry_leads w i entry ≡ Some k → Leads i entry k
   leads i (Via q session) k h = by_place (lay n (at_port i q)) refl
       (subst (λ (o : Option Place). (if option_map_or (λ (j : Link). j.up && (j.session == session)) (option_and_then (λ (x : Place). slice_get w.links x.link) o) false then option_map (λ (y : Side). y.router) (option_and_then (λ (x : Place). option_map (side (other x.end)) (slice_get w.links x.link)) o) else None) ≡ Some k) (place_is n p w R.kept i q) h)
     where

@@ -4,6 +4,7 @@ use Rattle.std.proofs.Common.{refl, arith, List, [], ◌∷◌, ◌++◌}
 use Rattle.no_packet_loops.proofs.Common.{Prefix, IsPrefix, IsCost, World, Network, opening, LinkSpec, HasCosts, IsNetwork, run, run-Runs, Step, LinkUp, LinkDown, Deliver, Publish, Release, Attach, Detach}
 use Rattle.no_packet_loops.proofs.Example.{all_of_one}
 use Rattle.quiet_routes.specs.Routes.{SomeQuietRuns}
+use Rattle.network_model.specs.declared.network.Offer.TheVariants.{One}
 
 -- a link between routers 0 and 1, of cost 3 from router 0 and 7 from router 1
 abbrev link : LinkSpec
@@ -15,7 +16,7 @@ ten = record { addr = 0x0a000000; len = 8 }
 
 -- three routers, the link, and the prefix at router 0, at cost 1; no link leads to router 2
 abbrev three : Network
-three = record { routers = 3; links = link ∷ []; attachments = (ten, 0, 1) ∷ [] }
+three = record { routers = 3; links = link ∷ []; attachments = (ten, 0, 1) ∷ []; offer = One }
 
 -- the three routers are a network that can be opened
 three_valid : IsNetwork three

@@ -23,7 +23,7 @@ module _ (n : Network) (V : IsNetwork n) (p : Prefix) (w : World) (rs : List Rou
   s = view n p w R.published_fd
 
   -- a port that is there is one of a router of the network
-  placed : (e : LinkEnd) → t.valid e ≡ true → e.router < n.routers
+  pub placed : (e : LinkEnd) → t.valid e ≡ true → e.router < n.routers
   placed e v = by_place (lay n e) refl v
     where
       by_place : (x : Option Place) → lay n e ≡ x → is_some x ≡ true → e.router < n.routers
@@ -31,7 +31,7 @@ module _ (n : Network) (V : IsNetwork n) (p : Prefix) (w : World) (rs : List Rou
       by_place (Some x) is h = (laid n e x is).known
 
   -- the cost from each place has 16 bits
-  costs_fit : (x : Option Place) → on_link (λ en k. (side en k).cost) 0 x w.links ≤ 65535
+  pub costs_fit : (x : Option Place) → on_link (λ en k. (side en k).cost) 0 x w.links ≤ 65535
   costs_fit None = omega arith
   costs_fit (Some x) = by_link (slice_get w.links x.link) refl
     where

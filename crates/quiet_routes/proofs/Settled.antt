@@ -1,6 +1,6 @@
 -- A world with nothing left to do is quiet: nothing is on the way, so every machine is passive.
 use Rattle.std.proofs.Common.{refl, sym, ap, ◌∙◌, arith, ◌≡◌, ℕ, ◌≤◌, Bool, true, false, not, ◌&&◌, nat_lt, if◌then◌else◌, List, [], length, Some, None, is_none, slice_get, le-ltb}
-use Rattle.no_packet_loops.proofs.Common.{list_all, and_from, and_parts, false≢true, Prefix, opening_machine, Router, World, Network, machine_of, opening, changed_rows, is_due, is_empty, is_quiet_router, is_quiet_link, has_no_notice, is_quiet, is_settled, is_active, IsNetwork, Runs, history, view, lay, same_truth, Step}
+use Rattle.no_packet_loops.proofs.Common.{list_all, and_from, and_parts, false≢true, Prefix, opening_machine, Router, World, Network, machine_of, opening, changed_rows, is_due, is_empty, is_quiet_router, is_quiet_link, has_no_notice, is_quiet, is_settled, is_active, IsNetwork, Runs, history, view, lay, same_truth, Step, changed_hops}
 use Rattle.no_packet_loops.specs.Packets.{HoldsInEveryWorld}
 use Rattle.no_packet_loops.proofs.{Wiring.wired, Places.topology, Opened.first_fd, Opened.opening_view, Runs.Reached, Runs.reached, View.on_router-there}
 use Rattle.least_cost.proofs.Settled.{passive_once_settled}
@@ -27,12 +27,14 @@ done_from_idle r h = by_tests (is_due r) refl (nat_lt 0 (r.gate).ripe) refl h
 -- a router that is done is idle
 idle_from_done : (r : Router) → (r.gate).ripe ≤ length (r.gate).held → IsDone r → is_idle r ≡ true
 idle_from_done r within d =
+    let hops = ap length (empty_is (changed_hops r) d.offers) in
     let rows = ap length (empty_is (changed_rows r.table) d.published) in
+    let h : nat_lt 0 (length (changed_hops r)) ≡ false = le-ltb 0 (length (changed_hops r)) (omega (arith, hops)) in
     let held = ap length d.holds_none in
     let a : nat_lt 0 (length (changed_rows r.table)) ≡ false = le-ltb 0 (length (changed_rows r.table)) (omega (arith, rows)) in
     let b : nat_lt (r.gate).ripe (length (r.gate).held) ≡ false = le-ltb (r.gate).ripe (length (r.gate).held) (omega (arith, held)) in
     let c : nat_lt 0 (r.gate).ripe ≡ false = le-ltb 0 (r.gate).ripe (omega (arith, held, within)) in
-    rw (a, b, c) refl
+    rw (h, a, b, c) refl
 
 -- ---- a world
 
@@ -78,9 +80,10 @@ module _ (n : Network) (V : IsNetwork n) (ss : List Step) (w : World) (r : Runs 
 
     idle_router : (i : ℕ) (x : Router) → slice_get w.routers i ≡ Some x → is_idle x ≡ true
     idle_router i x at =
-        let all = and_parts (list_all (λ m. is_none (m.1).computation) x.machines && is_empty (x.gate).held) (is_empty (changed_rows x.table)) (all_at is_quiet_router w.routers each.0 i x at) in
-        let first = and_parts (list_all (λ m. is_none (m.1).computation) x.machines) (is_empty (x.gate).held) all.0 in
-        idle_from_done x ((seen (record { addr = 0; len = 0 })).kept.routers_kept i x at).ripe_within (record { holds_none = empty_is (x.gate).held first.1; published = all.1 })
+        let all = and_parts (is_empty (changed_hops x) && list_all (λ m. is_none (m.1).computation) x.machines && is_empty (x.gate).held) (is_empty (changed_rows x.table)) (all_at is_quiet_router w.routers each.0 i x at) in
+        let first = and_parts (is_empty (changed_hops x) && list_all (λ m. is_none (m.1).computation) x.machines) (is_empty (x.gate).held) all.0 in
+        let hops = and_parts (is_empty (changed_hops x)) (list_all (λ m. is_none (m.1).computation) x.machines) first.0 in
+        idle_from_done x ((seen (record { addr = 0; len = 0 })).kept.routers_kept i x at).ripe_within (record { offers = hops.0; holds_none = empty_is (x.gate).held first.1; published = all.1 })
 
     -- the world has settled
     settled_then : is_settled w ≡ true

@@ -40,7 +40,7 @@ module _ (p : Prefix) where
   no_row-map h rows none = find-map prefix_cmp h p rows ∙ ap (option_map h) none
 
   -- a prefix with no row among the changed rows has none
-  no_row-from_map : {X Y : Type 0} (h : X → Y) (rows : List (Prefix × X)) → NoRow p (map (λ e. (e.0, h e.1)) rows) → NoRow p rows
+  pub no_row-from_map : {X Y : Type 0} (h : X → Y) (rows : List (Prefix × X)) → NoRow p (map (λ e. (e.0, h e.1)) rows) → NoRow p rows
   no_row-from_map {X} h rows none = by_row (row_of prefix_cmp p rows) (sym (find-map prefix_cmp h p rows) ∙ none)
     where
       by_row : (o : Option X) → option_map h o ≡ None → o ≡ None
@@ -48,7 +48,7 @@ module _ (p : Prefix) where
       by_row (Some x) e = absurd (None_not_Some (sym e))
 
   -- a prefix with no row after a row is put had none before
-  no_row-from_put : {X : Type 0} (k : Prefix) (v : X) (rows : List (Prefix × X)) → NoRow p (put prefix_cmp k v rows) → NoRow p rows
+  pub no_row-from_put : {X : Type 0} (k : Prefix) (v : X) (rows : List (Prefix × X)) → NoRow p (put prefix_cmp k v rows) → NoRow p rows
   no_row-from_put k v rows none = by_key (prefix_eq p k) (sym (find-put prefix_cmp prefix_cmp_total p k v rows) ∙ none)
     where
       by_key : (b : Bool) → cond b (Some v) (row_of prefix_cmp p rows) ≡ None → NoRow p rows

@@ -61,6 +61,7 @@ noticing_parts e ports r machines table gate kept machines_are control published
       ports = ports;
       machines = machines_are i;
       table = record { control = rows i; published = published i };
+      hops = sym kept.hops i;
       gate = record { held = held i; ripe = ripe i };
       generation = r.generation;
     }
@@ -78,6 +79,7 @@ meeting_parts p e r machines state table gate kept state_is machines_are control
       ports = r.ports;
       machines = all i;
       table = record { control = rows i; published = published i };
+      hops = sym kept.hops i;
       gate = record { held = held i; ripe = ripe i };
       generation = r.generation;
     }

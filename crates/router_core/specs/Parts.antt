@@ -2,7 +2,8 @@
 use Rattle.std.specs.Prelude.{◌≡◌, ℕ, ◌≤◌, true, false, Bool, List, map, length}
 use Rattle.std.specs.{List.AllByRecursion, FinMap.is_sorted}
 use Rattle.ipv4_prefix.specs.Prefix.{Prefix, prefix_cmp}
-use Rattle.network_model.specs.{declared.machine.Neighbour.Neighbour, declared.network.Port.Port, declared.machine.Event.Event, declared.machine.Event.TheVariants.Up, declared.machine.Event.TheVariants.Down, Machine.Machine, Machine.changed_at, World.Table, World.Gate, World.Router, Step.chosen_rows, Network.most_ports}
+use Rattle.network_model.specs.{declared.machine.Neighbour.Neighbour, declared.network.Port.Port, declared.machine.Event.Event, declared.machine.Event.TheVariants.Up, declared.machine.Event.TheVariants.Down, Machine.Machine, Machine.changed_at, Step.chosen_rows, Network.most_ports, declared.network.Offer.TheVariants.One}
+use Rattle.network_model.specs.World.{Table, Gate, Router, opening_hops}
 use Rattle.dual_machine.specs.State.{MachineState}
 
 -- the machines without their origin states
@@ -21,16 +22,18 @@ port_ups ports = map (λ p. p.up) ports
 abbrev pub HasPorts : List Port → Prefix × Machine → Type 0
 HasPorts ports m = ups (m.1).ports ≡ port_ups ports
 
--- what every router keeps: at most 32 ports, machines in the order of their prefixes, each over the router's ports, and the control rows that they choose
+-- what every router keeps: at most 32 ports, machines in the order of their prefixes, each over the router's ports, the control rows that they choose, and no
+-- next hops beside them
 pub record IsRouter (r : Router) : Type 0 where
   pub few : length r.ports ≤ most_ports
   pub sorted : is_sorted prefix_cmp r.machines ≡ true
   pub same_ports : AllByRecursion (HasPorts r.ports) r.machines
   pub rows : (r.table).control ≡ chosen_rows r.ports r.machines
+  pub hops : r.hops ≡ opening_hops One
 
--- a router of its parts
+-- a router of its parts, each row of which has one next hop
 abbrev pub router_of : List Port → List (Prefix × MachineState) → Table → Gate → ℕ → Router
-router_of ports machines table gate generation = record { ports = ports; machines = machines_of machines; table = table; gate = gate; generation = generation }
+router_of ports machines table gate generation = record { ports = ports; machines = machines_of machines; table = table; hops = opening_hops One; gate = gate; generation = generation }
 
 -- what an event makes of whether each port is up
 abbrev pub ups_after : Event → List Bool → List Bool

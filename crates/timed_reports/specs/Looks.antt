@@ -1,7 +1,8 @@
 -- What looks at a world rest on: which routers are cut off from a prefix, as marks say, and which routers and prefixes an event does not concern.
 use Rattle.std.specs.Prelude.{ℕ, ◌≡◌, ◌≢◌, ◌+◌, ◌*◌, ◌⊎◌, Bool, true, false, List, length, get_or, Option, Some, None, slice_get}
 use Rattle.ipv4_prefix.specs.Prefix.{Prefix, prefix_eq}
-use Rattle.network_model.specs.{declared.item.Item.Item, declared.item.Message.Message, declared.step.Step.Step, declared.step.Step.TheVariants.Deliver, declared.step.Step.TheVariants.Publish, Step.front_at, World.World}
+use Rattle.network_model.specs.{declared.item.Item.Item, declared.item.Message.Message, declared.step.Step.Step, Step.front_at, World.World}
+use Rattle.network_model.specs.declared.step.Step.TheVariants.{LinkUp, LinkDown, SetCost, Deliver, Publish, Release, Attach, Detach}
 use Rattle.reachability.specs.{Marks.Marks, Marks.size, Rounds.IsLast, Ways.IsCutOff}
 use Rattle.timed_reports.specs.{declared.spells.Spell.Spell, declared.spells.Watched.Watched}
 use Rattle.timed_reports.specs.Records.{AreInOrder, AreLooked, MovesNoWay, moves_ways}
@@ -29,7 +30,13 @@ IsUnmet i told c = (c.router ≢ i) ⊎ (meets told c.prefix ≡ false)
 -- the machine does not meet what the step takes
 abbrev pub IsPassedBy : Step → Option Prefix → Watched → Type 0
 IsPassedBy (Deliver i q) told c = IsUnmet i told c
-IsPassedBy _ told c = Unit {0}
+IsPassedBy (LinkUp l) told c = Unit {0}
+IsPassedBy (LinkDown l) told c = Unit {0}
+IsPassedBy (SetCost i q cost) told c = Unit {0}
+IsPassedBy (Publish i) told c = Unit {0}
+IsPassedBy (Release i) told c = Unit {0}
+IsPassedBy (Attach i p cost) told c = Unit {0}
+IsPassedBy (Detach i p) told c = Unit {0}
 
 -- ---- outages
 

@@ -106,7 +106,13 @@ IsLooked K v now Aside place old new before after = (c : Watched) → slice_get 
 -- a machine meets only what its own router takes, and of messages only those for its prefix; nothing else moves it
 abbrev pub IsElsewhere : World → Step → Watched → Type 0
 IsElsewhere w (Deliver i q) c = (c.router ≢ i) ⊎ ((m : Message) × (front_at w i q ≡ Some (Item.Message m)) × (prefix_eq c.prefix m.prefix ≡ false))
-IsElsewhere w _ c = Unit {0}
+IsElsewhere w (LinkUp l) c = Unit {0}
+IsElsewhere w (LinkDown l) c = Unit {0}
+IsElsewhere w (SetCost i q cost) c = Unit {0}
+IsElsewhere w (Publish i) c = Unit {0}
+IsElsewhere w (Release i) c = Unit {0}
+IsElsewhere w (Attach i p cost) c = Unit {0}
+IsElsewhere w (Detach i p) c = Unit {0}
 
 -- whether a step may move ways: links, attachments and published rows do
 abbrev pub moves_ways : Step → Bool
@@ -119,7 +125,9 @@ moves_ways _ = true
 abbrev pub MovesNoWay : World → Step → Prefix → Type 0
 MovesNoWay w (LinkUp l) p = ⊥
 MovesNoWay w (LinkDown l) p = ⊥
+MovesNoWay w (SetCost i q cost) p = Unit {0}
+MovesNoWay w (Deliver i q) p = Unit {0}
 MovesNoWay w (Publish i) p = control_entry w i p ≡ published_entry w i p
+MovesNoWay w (Release i) p = Unit {0}
 MovesNoWay w (Attach i q cost) p = prefix_eq p q ≡ false
 MovesNoWay w (Detach i q) p = prefix_eq p q ≡ false
-MovesNoWay w _ p = Unit {0}

@@ -1,6 +1,6 @@
 -- A step that is done at a moment leaves the moments of items and of publications on time.
 use Rattle.std.proofs.Common.{refl, sym, ap, subst, ◌∙◌, arith, inl, inr, ltb-true, lt-ltb, ◌≡◌, ◌≢◌, ◌⊎◌, ℕ, ◌+◌, ◌-◌, ◌<◌, ◌≤◌, Bool, true, false, not, ◌||◌, nat_lt, if◌then◌else◌, List, [], ◌∷◌, drop, filter, length, Option, Some, None, option_map, option_and_then, slice_get}
-use Rattle.no_packet_loops.proofs.Common.{option_map_or, or_cases, false≢true, length-changed_at, None_not_Some, Some_injective, routers-changed_link, changed_at, changed_rows, with_cost, with_delivered, with_front_taken, with_item, with_message, with_noticed, with_released, link_come_up, link_gone_down, router_accepting, router_at_home, router_publishing, router_releasing, other, place_at, front_at, notice_at, release_at, is_due, is_notice, is_up_in, next, Lawful, Held, Item, Notice, Place, End, A, B, Link, Router, World, Step, LinkUp, LinkDown, SetCost, Deliver, Publish, Release}
+use Rattle.no_packet_loops.proofs.Common.{option_map_or, or_cases, false≢true, length-changed_at, None_not_Some, Some_injective, routers-changed_link, changed_at, with_cost, with_delivered, with_front_taken, with_item, with_message, with_noticed, with_released, link_come_up, link_gone_down, router_accepting, router_at_home, router_publishing, router_releasing, other, place_at, front_at, notice_at, release_at, is_due, is_notice, is_up_in, next, Lawful, Held, Item, Notice, Place, End, A, B, Link, Router, World, Step, LinkUp, LinkDown, SetCost, Deliver, Publish, Release, has_changes}
 use Rattle.world.specs.Steps.{is_stale}
 use Rattle.timed_simulation.specs.declared.links.Motion.TheVariants.{Told, Cut, Put, Taken}
 use Rattle.timed_simulation.specs.{declared.events.RouterTime.RouterTime, Timed.begins_at, Timed.is_due_at, Timed.routers_after, Due.IsTimelyLink, Due.AreTimelyLinks, Due.AreTimelyRouters}
@@ -101,7 +101,7 @@ module _ (w : World) (m : ℕ) (fits : m ≤ last_moment) (xs : List TimedLink) 
 
 -- of a router that releases a message nothing more is due
 pub still_due : (r : Router) → is_due (router_releasing r) ≡ true → is_due r ≡ true
-still_due r due = by_cause (or_cases (nat_lt 0 (length (changed_rows r.table))) (nat_lt ((r.gate).ripe - 1) (length (drop 1 (r.gate).held))) due)
+still_due r due = by_cause (or_cases (has_changes r) (nat_lt ((r.gate).ripe - 1) (length (drop 1 (r.gate).held))) due)
   where
     more : (held : List Held) → nat_lt ((r.gate).ripe - 1) (length (drop 1 held)) ≡ true → nat_lt (r.gate).ripe (length held) ≡ true
     more [] lt = (let less : (r.gate).ripe - 1 < 0 = ltb-true ((r.gate).ripe - 1) 0 lt in absurd (omega (arith, less)))
@@ -115,9 +115,9 @@ still_due r due = by_cause (or_cases (nat_lt 0 (length (changed_rows r.table))) 
     or_right true c is = refl
     or_right false c is = is
 
-    by_cause : (nat_lt 0 (length (changed_rows r.table)) ≡ true) ⊎ (nat_lt ((r.gate).ripe - 1) (length (drop 1 (r.gate).held)) ≡ true) → is_due r ≡ true
-    by_cause (inl rows) = or_left (nat_lt 0 (length (changed_rows r.table))) (nat_lt (r.gate).ripe (length (r.gate).held)) rows
-    by_cause (inr held) = or_right (nat_lt 0 (length (changed_rows r.table))) (nat_lt (r.gate).ripe (length (r.gate).held)) (more (r.gate).held held)
+    by_cause : (has_changes r ≡ true) ⊎ (nat_lt ((r.gate).ripe - 1) (length (drop 1 (r.gate).held)) ≡ true) → is_due r ≡ true
+    by_cause (inl changed) = or_left (has_changes r) (nat_lt (r.gate).ripe (length (r.gate).held)) changed
+    by_cause (inr held) = or_right (has_changes r) (nat_lt (r.gate).ripe (length (r.gate).held)) (more (r.gate).held held)
 
 module _ (w : World) (m : ℕ) (fits : m ≤ last_moment) (xs : List RouterTime) (T : AreTimelyRouters m w.routers xs) where
   -- a router is changed, which has something to publish only if it had before

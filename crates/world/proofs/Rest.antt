@@ -1,10 +1,11 @@
 -- A step changes how much of a network is not at rest by what it makes of one link and one router.
 use Rattle.std.proofs.Common.{refl, sym, ap, ◌∙◌, arith, ◌≡◌, ℕ, zero, suc, ◌+◌, ◌≤◌, Bool, true, false, not, ◌&&◌, ◌==◌, cond, ◌||◌, nat_lt, List, [], ◌∷◌, filter, length, map, Option, Some, None, option_map, option_and_then, slice_get, Contains, ne_eqb}
-use Rattle.no_packet_loops.proofs.Common.{list_all, most_links, most_routers, range_with_len, option_map_or, length-map, length-map-range_with_len, Prefix, prefix_cmp, Contains-first, Contains-later, distinct_from_sorted, row_of-row, Held, Entry, Local, End, Place, changed_at, Link, Router, Attachments, World, Network, place_at, opening, opening_link, opening_router_of, costs_of, next, link_come_up, link_gone_down, with_cost, with_front_taken, with_message, with_delivered, with_noticed, with_released, with_attachment, without_attachment, with_notice_taken, changed_link, changed_router, changed_attachments, router_accepting, router_at_home, router_publishing, router_releasing, front_at, notice_at, release_at, is_due, changed_rows, has_row, entry_eq, is_quiet_link, has_no_notice, is_settled, option_map_or-ind, entry_eq-refl, sorted-map, sorted-rows_of, routers-changed_link, one_if, Step, LinkUp, LinkDown, SetCost, Deliver, Publish, Release, Attach, Detach}
-use Rattle.std.specs.FinMap.{is_sorted}
+use Rattle.no_packet_loops.proofs.Common.{list_all, most_links, most_routers, range_with_len, option_map_or, length-map, length-map-range_with_len, Prefix, prefix_cmp, Contains-first, Contains-later, distinct_from_sorted, row_of-row, Held, Entry, Local, End, Place, changed_at, Link, Router, Attachments, World, Network, place_at, opening, opening_link, opening_router_of, costs_of, next, link_come_up, link_gone_down, with_cost, with_front_taken, with_message, with_delivered, with_noticed, with_released, with_attachment, without_attachment, with_notice_taken, changed_link, changed_router, changed_attachments, router_accepting, router_at_home, router_publishing, router_releasing, front_at, notice_at, release_at, is_due, changed_rows, has_row, entry_eq, is_quiet_link, has_no_notice, is_settled, option_map_or-ind, entry_eq-refl, sorted-map, sorted-rows_of, routers-changed_link, one_if, Step, LinkUp, LinkDown, SetCost, Deliver, Publish, Release, Attach, Detach, opening_machine, is_sorted, session_at, neighbours, offered_hops, NextHop}
 use Rattle.no_packet_loops.proofs.WorldLaws.{SameShape, next-shape}
 use Rattle.world.specs.{declared.touched.Touched.Touched, Touched.touched_by, Touched.unrest_at}
 use Rattle.world.specs.Rest.{has_notice, is_busy, is_restless, count_passing, unrest, link_number, passes_at, IsWatched}
+use Rattle.network_model.specs.{NextHops.hops_eq, Step.has_hops}
+use Rattle.network_model.proofs.HopLaws.{hops_eq-refl, offered_sorted}
 
 -- ---- counts
 
@@ -89,7 +90,7 @@ settled w =
     neither false false = refl
 
 -- where each row fails, none is left
-filter-none : (test : Prefix × Entry → Bool) (rows : List (Prefix × Entry)) → ((r : Prefix × Entry) → Contains rows r → test r ≡ false) → filter test rows ≡ []
+filter-none : {V : Type 0} (test : Prefix × V → Bool) (rows : List (Prefix × V)) → ((r : Prefix × V) → Contains rows r → test r ≡ false) → filter test rows ≡ []
 filter-none test [] fails = refl
 filter-none test (r ∷ rows) fails =
     ap (λ b. cond b (r ∷ filter test rows) (filter test rows)) (fails r (Contains-first r rows)) ∙ filter-none test rows (λ x h. fails x (Contains-later r rows x h))
@@ -99,8 +100,18 @@ none_changed : (rows : List (Prefix × Entry)) → is_sorted prefix_cmp rows ≡
 none_changed rows sorted = filter-none (λ r. not (has_row rows r)) rows (λ r h.
     ap (λ o. not (option_map_or (λ e. entry_eq e r.1) o false)) (row_of-row rows r (distinct_from_sorted rows sorted) h) ∙ ap not (entry_eq-refl r.1))
 
+-- nor do next hops
+no_hops_changed : (rows : List (Prefix × List NextHop)) → is_sorted prefix_cmp rows ≡ true → filter (λ x. not (has_hops rows x)) rows ≡ []
+no_hops_changed rows sorted = filter-none (λ x. not (has_hops rows x)) rows (λ x h.
+    ap (λ o. not (option_map_or (λ hs. hops_eq hs x.1) o false)) (row_of-row rows x (distinct_from_sorted rows sorted) h) ∙ ap not (hops_eq-refl x.1))
+
 opening_router-rests : (n : Network) (i : ℕ) → is_restless (opening_router_of n i) ≡ false
-opening_router-rests n i = ap (λ xs. (nat_lt 0 (length xs) || nat_lt 0 0) || nat_lt 0 0) (none_changed (map (λ a. (a.0, Local)) (costs_of n i)) (sorted-map prefix_cmp (λ (c : ℕ). Local) (costs_of n i) ∙ sorted-rows_of (map (λ a. (a.0, a.2)) (filter (λ a. a.1 == i) n.attachments))))
+opening_router-rests n i =
+    let r = opening_router_of n i in
+    let costs : is_sorted prefix_cmp (costs_of n i) ≡ true = sorted-rows_of (map (λ a. (a.0, a.2)) (filter (λ a. a.1 == i) n.attachments)) in
+    let machines : is_sorted prefix_cmp r.machines ≡ true = sorted-map prefix_cmp (λ (c : ℕ). opening_machine (Some c) (neighbours r.ports)) (costs_of n i) ∙ costs in
+    ap (λ hs. (nat_lt 0 (length hs) || nat_lt 0 (length (changed_rows r.table)) || nat_lt 0 0) || nat_lt 0 0) (no_hops_changed (offered_hops r) (offered_sorted n.offer (session_at r.ports) r.machines machines))
+    ∙ ap (λ xs. (nat_lt 0 (length xs) || nat_lt 0 0) || nat_lt 0 0) (none_changed (map (λ a. (a.0, Local)) (costs_of n i)) (sorted-map prefix_cmp (λ (c : ℕ). Local) (costs_of n i) ∙ costs))
 
 -- a network that opens is at rest
 pub opening-rests : (n : Network) → unrest (opening n) ≡ 0

@@ -3,6 +3,7 @@
 ghost use Rattle.std.specs.Prelude.{◌≡◌, ◌≤◌, length, IfOk, IsOk, OnOk, MatchOption, Err, All};
 ghost use Rattle.ipv4_prefix.specs.Prefix.{IsPrefix};
 ghost use Rattle.metric.specs.Distance.{IsCost};
+ghost use Rattle.network_model.specs.declared.network.Offer.TheVariants.{One};
 ghost use Rattle.network_model.specs.World.{prefixes_of};
 ghost use Rattle.network_model.specs.Network as valid;
 ghost use Rattle.world.specs.Parts.{network_of_parts, HasAtMost};
@@ -118,11 +119,12 @@ impl Network {
     }
 
     /// The links, by number: at most the limit that the network was made within, which is 1024 by `new`,
-    /// and at most 65536.
+    /// and at most 65536. Each row of its routers has one next hop.
     pub fn links(&self) -> &[LinkSpec]
         ensures links { result.now ≡ (self.now).links }
         ensures few { length result.now ≤ valid.most_links }
         ensures valid { valid.IsNetwork self.now }
+        ensures offer { (self.now).offer ≡ One }
     {
         &self.links
     }

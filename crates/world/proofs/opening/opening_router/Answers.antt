@@ -1,7 +1,9 @@
 use Rattle.std.proofs.Common.{◌≡◌, ℕ, List, ◌<◌, ◌≤◌, length, get_or, map, sym, ap, subst, ◌∙◌, IfOk}
-use Rattle.no_packet_loops.proofs.Common.{length-map, LinkSpec, Place, Port, Network, places_from, opening_port, opening_link, opening_router, rows_of}
+use Rattle.no_packet_loops.proofs.Common.{length-map, LinkSpec, Place, Port, Network, places_from, opening_port, opening_link, opening_router, rows_of, costs_of}
 use Rattle.world.proofs.{Degrees.few_ports, Openings.place_known}
 use Rattle.world.proofs.opening.opening_router.Goals as goal
+use Rattle.network_model.specs.declared.network.Offer.{Offer}
+use Rattle.network_model.specs.World.{with_offer_published}
 
 pub opening_ports-requires : goal.opening_ports-requires
 opening_ports-requires g c =
@@ -26,5 +28,6 @@ returns g c =
     let n : Network = c.args.network.now in
     let ports : _ = ports_are n c.args.router c.links.result.now c.args.places.now c.in_ok-ports.ports.items c.in_ok-ports.ensures c.requires.places c.links.ensures.links in
     subst (λ x. IfOk c.new.result (λ r. r ≡ x))
-    (ap (λ (ps : List Port). opening_router ps (rows_of c.args.own.now)) ports ∙ ap (opening_router (map (opening_port (map opening_link n.links)) (places_from 0 c.args.router n.links))) c.requires.own)
+    (ap (λ (ps : List Port). opening_router ps (rows_of c.args.own.now)) ports ∙ ap (opening_router (map (opening_port (map opening_link n.links)) (places_from 0 c.args.router n.links))) c.requires.own
+    ∙ ap (λ (o : Offer). with_offer_published o (opening_router (map (opening_port (map opening_link n.links)) (places_from 0 c.args.router n.links)) (costs_of n c.args.router))) (sym c.links.ensures.offer))
     c.new.ensures

@@ -1,6 +1,6 @@
-use Rattle.std.proofs.Common.{◌≡◌, ℕ, Some, sym, ap, subst, ◌∙◌, arith, ◌-◌, drop, map, List}
+use Rattle.std.proofs.Common.{◌≡◌, ℕ, Some, sym, ap, subst, ◌∙◌, arith, ◌-◌, drop, map, List, refl}
 use Rattle.network_model.proofs.Common.{put, is_sorted, AllByRecursion, chosen_rows, Prefix, prefix_cmp, Machine, opening_machine, Router, Table, Gate, neighbours, rows_of, opening_router, sorted-map, sorted-rows_of}
-use Rattle.network_model.specs.{declared.network.Port.Port, declared.route.Entry.Entry, declared.route.Entry.TheVariants.Local}
+use Rattle.network_model.specs.{declared.network.Port.Port, declared.route.Entry.Entry, declared.route.Entry.TheVariants.Local, declared.network.Offer.TheVariants.One, World.opening_hops}
 use Rattle.dual_machine.specs.State.{opening_neighbours}
 use Rattle.router_core.specs.Parts.{machines_of, HasPorts, IsRouter}
 use Rattle.router_core.proofs.Kept.{kept-opening}
@@ -45,6 +45,7 @@ invariant_of-result g c =
       sorted = ap (is_sorted prefix_cmp) machines ∙ kept.sorted;
       same_ports = subst (AllByRecursion (HasPorts ports)) (sym machines) kept.same_ports;
       rows = ap (λ t. t.table.control) c.in_ok-effects.ensures.table ∙ ap (λ t. t.control) c.mark_published.ensures.table ∙ control ∙ kept.rows ∙ ap (chosen_rows ports) (sym machines);
+      hops = refl;
     }
 
 pub returns : goal.returns
@@ -54,7 +55,7 @@ returns g c =
     let over : c.loop-i.i ≡ 0 = omega arith in
     let machines : machines_of c.loop-i.machines.items ≡ opening_machines ports costs = c.loop-i.invariant.machines ∙ ap (λ n. opening_machines ports (rows_of (drop n c.args.attachments.now))) over in
     let control : c.loop-i.table.table.control ≡ local_rows costs = c.loop-i.invariant.control ∙ ap (λ n. local_rows (rows_of (drop n c.args.attachments.now))) over in
-    let parts : List (Prefix × Machine) → Table → Gate → Router = λ ms t g. record { ports = ports; machines = ms; table = t; gate = g; generation = 0 } in
+    let parts : List (Prefix × Machine) → Table → Gate → Router = λ ms t g. record { ports = ports; machines = ms; table = t; hops = opening_hops One; gate = g; generation = 0 } in
     let in_force : List (Prefix × Entry) → Table = λ rows. record { control = rows; published = rows } in
     ap (λ ms. parts ms c.in_ok-effects.effects.table.table c.in_ok-effects.effects.gate.gate) machines
     ∙ ap (λ t. parts (opening_machines ports costs) t c.in_ok-effects.effects.gate.gate) (ap (λ t. t.table) c.in_ok-effects.ensures.table ∙ c.mark_published.ensures.table ∙ ap in_force control)
