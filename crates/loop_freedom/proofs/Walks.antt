@@ -4,7 +4,7 @@ use Rattle.std.proofs.Common.{refl, ap, subst, arith, inl, inr, ◌≡◌, ◌�
 use Rattle.network_model.proofs.Common.{and_from, or_from, is_port, LinkEnd, State}
 use Rattle.machine_laws.specs.Laws.{MachineLaws, is_up_at}
 use Rattle.loop_freedom.specs.Network.{Topology, Step, Takes, TakesAtHome, Publishes, Releases, LinkComes, LinkGoes, CostChanges, Skips, Run, Start, Then, PublishedEdge, ControlEdge, IsEdgeWalk, met, is_met, meets_twice, HoldsInEveryState, PublishedLoopFree, MixedLoopFree}
-use Rattle.loop_freedom.specs.Facts.{is_current, is_next_hop}
+use Rattle.loop_freedom.specs.Facts.{is_current}
 use Rattle.loop_freedom.proofs.{Invariant.Invariant, Taking.take_keeps, TakingAtHome.take_at_home_keeps, Publishing.publish_keeps, StillMachines.release_keeps, StillMachines.set_cost_keeps, StillMachines.skip_keeps, Linking.link_up_keeps, Linking.link_down_keeps, Opened.opening_keeps}
 
 pub steps_keep : MachineLaws → (t : Topology) (old new : State) → Invariant t old → Step t old new → Invariant t new
@@ -27,18 +27,19 @@ walk_map t f g h i [] w = tt
 walk_map t f g h i (e ∷ es) w = (w.0, w.1, h e w.2, walk_map t f g h (t.far e).router es w.3)
 
 -- a router's height: the greater of its feasible distance and its published one
-abbrev height : State → ℕ → ℕ
+abbrev pub height : State → ℕ → ℕ
 height s i = max (s.machine i).fd (s.published_fd i)
 
--- along a published edge the height falls
-published_falls : (t : Topology) (s : State) → Invariant t s → (e : LinkEnd) → t.valid e ≡ true → PublishedEdge s e → height s (t.far e).router < height s e.router
-published_falls t s I e v E =
-    let shown : is_next_hop e.port (s.session e) (s.published e.router) ≡ true = rw E.chosen (and_from (e.port == e.port) (s.session e == s.session e) (eq-eqb e.port e.port refl) (eq-eqb (s.session e) (s.session e) refl)) in
-    let h = (I.links e v E.linked).published_edge_falls shown in
-    omega (arith, h.0, h.1)
+-- along a published edge both feasible distances of the far router are below the published one of this router
+pub published_lower : (t : Topology) (s : State) → Invariant t s → (e : LinkEnd) → t.valid e ≡ true → PublishedEdge s e → ((s.machine (t.far e).router).fd < s.published_fd e.router) × (s.published_fd (t.far e).router < s.published_fd e.router)
+published_lower t s I e v E = (I.links e v E.linked).published_edge_falls (rw E.chosen (and_from (e.port == e.port) (s.session e == s.session e) (eq-eqb e.port e.port refl) (eq-eqb (s.session e) (s.session e) refl)))
+
+-- so the height falls
+pub published_falls : (t : Topology) (s : State) → Invariant t s → (e : LinkEnd) → t.valid e ≡ true → PublishedEdge s e → height s (t.far e).router < height s e.router
+published_falls t s I e v E = (let h = published_lower t s I e v E in omega (arith, h.0, h.1))
 
 -- along an edge that a machine has chosen the height falls
-control_falls : (t : Topology) (s : State) → Invariant t s → (e : LinkEnd) → t.valid e ≡ true → ControlEdge s e → height s (t.far e).router < height s e.router
+pub control_falls : (t : Topology) (s : State) → Invariant t s → (e : LinkEnd) → t.valid e ≡ true → ControlEdge s e → height s (t.far e).router < height s e.router
 control_falls t s I e v E =
     let m = s.machine e.router in
     let port : is_port e.port m.successor ≡ true = rw E.chosen (eq-eqb e.port e.port refl) in
@@ -68,7 +69,7 @@ edges_fall : (t : Topology) (edge : LinkEnd → Type 0) (h : ℕ → ℕ) → ((
 edges_fall t edge h f i [] w = tt
 edges_fall t edge h f i (e ∷ es) w = (subst (λ (n : ℕ). h (t.far e).router < h n) w.0 (f e w.1 w.2), edges_fall t edge h f (t.far e).router es w.3)
 
-walk_distinct : (t : Topology) (edge : LinkEnd → Type 0) (h : ℕ → ℕ) → ((e : LinkEnd) → t.valid e ≡ true → edge e → h (t.far e).router < h e.router)
+pub walk_distinct : (t : Topology) (edge : LinkEnd → Type 0) (h : ℕ → ℕ) → ((e : LinkEnd) → t.valid e ≡ true → edge e → h (t.far e).router < h e.router)
     → (i : ℕ) (es : List LinkEnd) → IsEdgeWalk t edge i es → meets_twice (i ∷ met t es) ≡ false
 walk_distinct t edge h f i es w = falls_distinct h (i ∷ met t es) (edges_fall t edge h f i es w)
 

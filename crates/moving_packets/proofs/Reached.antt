@@ -1,8 +1,8 @@
 -- What holds of each history that lawful steps make, and of one more step.
 use Rattle.std.proofs.Common.{refl, sym, ap, subst, ◌∙◌, inl, inr, arith, ◌<◌, ◌≡◌, ◌⊎◌, ℕ, zero, suc, Bool, true, false, ◌==◌, if◌then◌else◌, List, [], ◌∷◌, ◌++◌, Option, Some, None, IsSome, slice_get, slice_set, option_and_then, eq-eqb}
-use Rattle.no_packet_loops.proofs.Common.{option_map_or, cases_eq, false≢true, Prefix, prefix_cmp, covers, infinity, Entry, Router, World, Network, opening, machine_of, Lawful, Runs, History, history, history_from, with_step, with_steps, published_after, fd_in, Some_injective, IsNetwork, find as row_of, is_sorted, longest_match-found, Item, Notice, changed_at, changed_link, router_publishing, router_releasing, router_accepting, router_at_home, with_cost, with_front_taken, with_message, with_delivered, with_noticed, with_released, front_at, notice_at, release_at, next, option_map_or-ind, routers-changed_link, Step, SetCost, Deliver, Publish, Release}
+use Rattle.no_packet_loops.proofs.Common.{option_map_or, cases_eq, false≢true, Prefix, prefix_cmp, covers, infinity, Entry, Router, World, Network, opening, machine_of, Lawful, Runs, History, history, history_from, with_step, published_after, fd_in, Some_injective, IsNetwork, find as row_of, is_sorted, longest_match-found, Item, Notice, changed_at, changed_link, router_publishing, router_releasing, router_accepting, router_at_home, with_cost, with_front_taken, with_message, with_delivered, with_noticed, with_released, front_at, notice_at, release_at, next, option_map_or-ind, routers-changed_link, Step, SetCost, Deliver, Publish, Release}
 use Rattle.no_packet_loops.specs.Packets.{DistancesFall, mixture_rows}
-use Rattle.no_packet_loops.proofs.{Wiring.IsWired, Wiring.wired, View.on_router-miss, View.on_router-same, Publishing.control_sorted, Runs.Reached, Runs.reached, Runs.history_world, Walks.distances_fall, Walks.match_is_row, WorldLaws.runs_more}
+use Rattle.no_packet_loops.proofs.{Wiring.IsWired, Wiring.wired, View.on_router-miss, View.on_router-same, Publishing.control_sorted, Runs.Reached, Runs.reached, Runs.history_world, Walks.distances_fall, Walks.match_is_row, WorldLaws.runs_more, WorldLaws.steps_more}
 use Rattle.all_packets.proofs.{Matches.GoesBefore, Matches.found, Known.Fits, Known.fits_leads, Known.always_fits, Ways.rows_by}
 use Rattle.moving_packets.specs.Moving.{fd_chosen, fd_published, fd_shown, entry_shown, IsSent, takes, publishes}
 
@@ -13,10 +13,6 @@ pub record IsMade (h : History) : Type 0 where
   pub valid : IsNetwork network
   pub runs : Runs (opening network) steps h.world
   pub is : history network steps ≡ h
-
-steps_more : (h : History) (ss : List Step) (s : Step) → with_steps h (ss ++ s ∷ []) ≡ with_step (with_steps h ss) s
-steps_more h [] s = refl
-steps_more h (x ∷ ss) s = steps_more (with_step h x) ss s
 
 pub made_more : (h : History) (s : Step) → IsMade h → Lawful h.world s → IsMade (with_step h s)
 made_more h s M L = record {

@@ -1,6 +1,6 @@
 -- Steps keep the shape of a world.
 use Rattle.std.proofs.Common.{refl, sym, ap, subst, ◌∙◌, ◌≡◌, ℕ, false, cond, List, [], ◌∷◌, ◌++◌, length, Some}
-use Rattle.no_packet_loops.proofs.Common.{find-put, Prefix, prefix_cmp, prefix_eq, prefix_cmp_total, End, Link, Router, Attachments, World, place_at, next, changed_link, changed_router, changed_attachments, router_accepting, router_at_home, with_delivered, with_noticed, with_released, with_front_taken, with_notice_taken, with_cost, with_message, front_at, notice_at, Runs, length-changed_at, option_map_or-ind, Lawful, find as row_of, put, Step, LinkUp, LinkDown, SetCost, Deliver, Publish, Release, Attach, Detach}
+use Rattle.no_packet_loops.proofs.Common.{find-put, Prefix, prefix_cmp, prefix_eq, prefix_cmp_total, End, Link, Router, Attachments, World, place_at, next, changed_link, changed_router, changed_attachments, router_accepting, router_at_home, with_delivered, with_noticed, with_released, with_front_taken, with_notice_taken, with_cost, with_message, front_at, notice_at, Runs, History, with_step, with_steps, length-changed_at, option_map_or-ind, Lawful, find as row_of, put, Step, LinkUp, LinkDown, SetCost, Deliver, Publish, Release, Attach, Detach}
 
 -- ---- look-ups
 
@@ -61,3 +61,7 @@ Runs-shape w (s ∷ ss) v r = SameShape-trans (next-shape w s) (Runs-shape (next
 pub runs_more : (w : World) (ss : List Step) (v : World) (s : Step) → Runs w ss v → Lawful v s → Runs w (ss ++ s ∷ []) (next v s)
 runs_more w [] v s r L = subst (λ x. Lawful w s × (next w s ≡ next x s)) r (subst (λ x. Lawful x s) (sym r) L, refl)
 runs_more w (t ∷ ss) v s r L = (r.0, runs_more (next w t) ss v s r.1 L)
+
+pub steps_more : (h : History) (ss : List Step) (s : Step) → with_steps h (ss ++ s ∷ []) ≡ with_step (with_steps h ss) s
+steps_more h [] s = refl
+steps_more h (x ∷ ss) s = steps_more (with_step h x) ss s

@@ -1,0 +1,95 @@
+-- What a way of a router is: a port that is up, whose neighbour reported less than the feasible distance.
+use Rattle.std.proofs.Common.{refl, sym, ap, subst, ◌∙◌, arith, inl, inr, ◌≡◌, ◌⊎◌, ℕ, zero, suc, ◌+◌, ◌<◌, Bool, true, false, nat_lt, if◌then◌else◌, List, [], ◌∷◌, map, Some, slice_get, ltb-true}
+use Rattle.no_packet_loops.proofs.Common.{and_parts, none-some, Some_injective, Prefix, Router, NextHop, machine_of, session_at, is_up_at, reported_at, Neighbour}
+use Rattle.network_model.proofs.Common.{distance}
+use Rattle.network_model.specs.NextHops.{passing_from}
+use Rattle.many_ways.specs.{Network.Among, Packets.is_low, Packets.way_over, Packets.feasible_ways}
+
+-- ---- lists
+
+-- the element stands in the list
+abbrev pub Stands : {A : Type 0} → A → List A → Type 0
+Stands x [] = ⊥
+Stands x (y ∷ ys) = (x ≡ y) ⊎ Stands x ys
+
+pub stands : {A : Type 0} (x : A) (xs : List A) (k : ℕ) → slice_get xs k ≡ Some x → Stands x xs
+stands x [] k at = absurd (none-some x at)
+stands x (y ∷ ys) zero at = inl (sym (Some_injective at))
+stands x (y ∷ ys) (suc k) at = inr (stands x ys k at)
+
+pub among : (h : NextHop) (hs : List NextHop) → Stands h hs → Among h hs
+among h [] s = absurd s
+among h (x ∷ xs) (inl e) = (zero, ap Some (sym e))
+among h (x ∷ xs) (inr s) = let a = among h xs s in (suc a.0, a.1)
+
+pub in_map : {A B : Type 0} (f : A → B) (y : B) (xs : List A) → Stands y (map f xs) → (x : A) × Stands x xs × (y ≡ f x)
+in_map f y [] s = absurd s
+in_map f y (x ∷ xs) (inl e) = (x, inl refl, e)
+in_map f y (x ∷ xs) (inr s) = let r = in_map f y xs s in (r.0, inr r.1, r.2)
+
+pub map_in : {A B : Type 0} (f : A → B) (x : A) (xs : List A) → Stands x xs → Stands (f x) (map f xs)
+map_in f x [] s = absurd s
+map_in f x (y ∷ ys) (inl e) = inl (ap f e)
+map_in f x (y ∷ ys) (inr s) = inr (map_in f x ys s)
+
+-- ---- those that pass
+
+-- the neighbour at this place passes, and this is its port
+pub record Passing (test : Neighbour → Bool) (q : ℕ) (ns : List Neighbour) (port : ℕ) : Type 0 where
+  pub place : ℕ
+  pub neighbour : Neighbour
+  pub at : slice_get ns place ≡ Some neighbour
+  pub passes : test neighbour ≡ true
+  pub port_is : port ≡ q + place
+
+later : (test : Neighbour → Bool) (q : ℕ) (n : Neighbour) (ns : List Neighbour) (port : ℕ) → Passing test (suc q) ns port → Passing test q (n ∷ ns) port
+later test q n ns port P = record { place = suc P.place; neighbour = P.neighbour; at = P.at; passes = P.passes; port_is = let e = P.port_is in omega (arith, e) }
+
+pub in_passing : (test : Neighbour → Bool) (q : ℕ) (ns : List Neighbour) (x : ℕ × ℕ) → Stands x (passing_from test q ns) → Passing test q ns x.1
+in_passing test q [] x s = absurd s
+in_passing test q (n ∷ ns) x s = by_test (λ t. in_passing test (suc q) ns x t) (test n) refl s
+  where
+    by_test : (Stands x (passing_from test (suc q) ns) → Passing test (suc q) ns x.1) → (b : Bool) → test n ≡ b → Stands x (if b then (distance n, q) ∷ passing_from test (suc q) ns else passing_from test (suc q) ns) → Passing test q (n ∷ ns) x.1
+    by_test rest true is (inl e) = record { place = 0; neighbour = n; at = refl; passes = is; port_is = let port : x.1 ≡ q = ap (λ (y : ℕ × ℕ). y.1) e in omega (arith, port) }
+    by_test rest true is (inr t) = later test q n ns x.1 (rest t)
+    by_test rest false is t = later test q n ns x.1 (rest t)
+
+-- and each neighbour that passes is among them
+pub passing_in : (test : Neighbour → Bool) (q : ℕ) (ns : List Neighbour) (k : ℕ) (n : Neighbour) (port : ℕ) → slice_get ns k ≡ Some n → test n ≡ true → port ≡ q + k → Stands (distance n, port) (passing_from test q ns)
+passing_in test q [] k n port at passes is = absurd (none-some n at)
+passing_in test q (x ∷ xs) zero n port at passes is =
+    let same : n ≡ x = sym (Some_injective at) in
+    let here : port ≡ q = omega (arith, is) in
+    subst (λ (b : Bool). Stands (distance n, port) (if b then (distance x, q) ∷ passing_from test (suc q) xs else passing_from test (suc q) xs)) (sym (ap test (Some_injective at) ∙ passes))
+    (inl (λ i. (distance (same i), here i)))
+passing_in test q (x ∷ xs) (suc k) n port at passes is = by_test (test x) (passing_in test (suc q) xs k n port at passes (omega (arith, is)))
+  where
+    by_test : (b : Bool) → Stands (distance n, port) (passing_from test (suc q) xs) → Stands (distance n, port) (if b then (distance x, q) ∷ passing_from test (suc q) xs else passing_from test (suc q) xs)
+    by_test true s = inr s
+    by_test false s = s
+
+-- where none passes there are none
+pub none_passing : (test : Neighbour → Bool) (q : ℕ) (ns : List Neighbour) → ((k : ℕ) (n : Neighbour) → slice_get ns k ≡ Some n → test n ≡ false) → passing_from test q ns ≡ []
+none_passing test q [] fail = refl
+none_passing test q (n ∷ ns) fail = ap (λ b. if b then (distance n, q) ∷ passing_from test (suc q) ns else passing_from test (suc q) ns) (fail 0 n refl) ∙ none_passing test (suc q) ns (λ k m at. fail (suc k) m at)
+
+-- ---- a router
+
+-- a way among those of a router is over a port that is up, in the session that the router saw last, to a neighbour that reported less
+pub record Way (p : Prefix) (r : Router) (h : NextHop) : Type 0 where
+  pub up : is_up_at (machine_of r p) h.port ≡ true
+  pub session_is : h.session ≡ session_at r.ports h.port
+  pub low : reported_at (machine_of r p) h.port < (machine_of r p).fd
+
+pub way_of : (p : Prefix) (r : Router) (h : NextHop) → Among h (feasible_ways p r) → Way p r h
+way_of p r h a =
+    let m = machine_of r p in
+    let (x, s, is) = in_map (way_over r) h (passing_from (is_low m.fd) 0 m.ports) (stands h (feasible_ways p r) a.0 a.1) in
+    let P = in_passing (is_low m.fd) 0 m.ports x s in
+    let n = P.neighbour in
+    let both = and_parts n.up (nat_lt n.reported m.fd) P.passes in
+    let port : h.port ≡ x.1 = ap (λ (y : NextHop). y.port) is in
+    let e = P.port_is in
+    let place : h.port ≡ P.place = omega (arith, port, e) in
+    let at : slice_get m.ports h.port ≡ Some n = ap (slice_get m.ports) place ∙ P.at in
+    record { up = rw at both.0; session_is = ap (λ (y : NextHop). y.session) is ∙ ap (session_at r.ports) (sym port); low = rw at (ltb-true n.reported m.fd both.1) }

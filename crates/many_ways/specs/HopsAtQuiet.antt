@@ -1,0 +1,34 @@
+-- What holds of the next hops that the routers of a quiet world published, if they offer those of equal cost: they lead along least walks.
+use Rattle.std.specs.Prelude.{◌≡◌, ℕ, ◌<◌, true, List, [], ◌∷◌, Some, slice_get}
+use Rattle.ipv4_prefix.specs.Prefix.{Prefix}
+use Rattle.network_model.specs.{declared.network.Offer.TheVariants.Equal, declared.network.Place.Place, declared.step.Step.Step, NextHops.hops_at, Step.offered_hops, Network.IsNetwork, Run.Runs, Forwarding.IsLeastWalk, Forwarding.is_quiet}
+use Rattle.network_model.specs.World.{Link, Router, World, Network, other, side, place_at, attachment_at, opening}
+use Rattle.quiet_routes.specs.Routes.{machine_at}
+use Rattle.many_ways.specs.Network.{Among}
+
+-- router i published a next hop out of this place, over a link that is up in the session of the hop
+pub record SendsOver (w : World) (p : Prefix) (i : ℕ) (x : Place) : Type 0 where
+  pub port : ℕ
+  pub link : Link
+  pub router : Router
+  pub is_place : place_at w i port ≡ Some x
+  pub is_link : slice_get w.links x.link ≡ Some link
+  pub is_up : link.up ≡ true
+  pub is_router : slice_get w.routers i ≡ Some router
+  pub published : Among (record { port = port; session = link.session }) (hops_at p (router.hops).published)
+
+-- such next hops, whichever each router takes, lead along these places from router i to router o, which is attached, and at the
+-- distance of its attachment
+abbrev pub IsHopChain : World → Prefix → ℕ → List Place → ℕ → Type 0
+IsHopChain w p i [] o = (i ≡ o) × (attachment_at w o p ≡ Some (machine_at w o p).rd)
+IsHopChain w p i (x ∷ xs) o = (h : SendsOver w p i x) × IsHopChain w p (side (other x.end) h.link).router xs o
+
+-- in every quiet world of a network that offers next hops of equal cost, each such chain is a least walk at the reported distance
+abbrev pub EqualHopsAreLeast : Type 0
+EqualHopsAreLeast = (n : Network) (ss : List Step) (w : World) (most : ℕ) → IsNetwork n → Runs (opening n) ss w → n.offer ≡ Equal most → is_quiet w ≡ true
+    → (p : Prefix) (i : ℕ) (xs : List Place) (o : ℕ) → i < n.routers → IsHopChain w p i xs o → IsLeastWalk w p i xs o (machine_at w i p).rd
+
+-- and each router published what it offers
+abbrev pub EqualHopsAreInForce : Type 0
+EqualHopsAreInForce = (n : Network) (ss : List Step) (w : World) (most : ℕ) → IsNetwork n → Runs (opening n) ss w → n.offer ≡ Equal most → is_quiet w ≡ true
+    → (p : Prefix) (i : ℕ) (r : Router) → slice_get w.routers i ≡ Some r → hops_at p (r.hops).published ≡ hops_at p (offered_hops r)

@@ -1,0 +1,28 @@
+-- What holds of every packet of every network whose routers keep next hops beside their rows, as the model has them.
+use Rattle.std.specs.Prelude.{◌≡◌, ℕ, ◌<◌, ◌≤◌, Bool, false, if◌then◌else◌, List, [], ◌∷◌, slice_get, length}
+use Rattle.std.specs.Option.{option_map_or}
+use Rattle.ipv4_prefix.specs.Prefix.{Prefix}
+use Rattle.network_model.specs.{declared.route.NextHop.NextHop, NextHops.hops_at, World.World, World.Router, Step.offered_hops}
+use Rattle.all_packets.specs.Packets.{IsWayBy}
+use Rattle.loop_freedom.specs.Network.{meets_twice}
+use Rattle.many_ways.specs.Packets.{MayGoBy}
+
+-- the next hops of a router for the prefix beside its row: those that it offers now, or those that it published
+abbrev pub hops_by : Bool → Prefix → Router → List NextHop
+hops_by is_present p r = hops_at p (if is_present then offered_hops r else (r.hops).published)
+
+-- a packet for the address may go from router i to router k, by what the router published or by what it would publish now
+abbrev pub MayGoOver : World → Bool → ℕ → ℕ → ℕ → Type 0
+MayGoOver w is_present addr i k = MayGoBy (λ b j p. option_map_or (hops_by b p) (slice_get w.routers j) []) w is_present addr i k
+
+-- a way of a packet that goes at each router by any of what that published, or of what it publishes meanwhile
+abbrev pub IsHopWay : World → ℕ → List ℕ → Type 0
+IsHopWay w addr way = IsWayBy (λ i k. (is_present : Bool) × MayGoOver w is_present addr i k) way
+
+-- no packet meets a router twice, whichever of its next hops each router takes
+abbrev pub NoHopCircles : World → Type 0
+NoHopCircles w = (addr : ℕ) (way : List ℕ) → IsHopWay w addr way → meets_twice way ≡ false
+
+-- no such way has more routers than there are
+abbrev pub HopWaysEnd : World → Type 0
+HopWaysEnd w = (addr i : ℕ) (ks : List ℕ) → i < length w.routers → IsHopWay w addr (i ∷ ks) → length (i ∷ ks) ≤ length w.routers

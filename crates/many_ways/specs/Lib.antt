@@ -1,0 +1,8 @@
+-- The definitions of the laws about routers that may forward by many ways.
+pub mod Network
+pub mod Packets
+pub mod Quiet
+pub mod Journeys
+pub mod QuietWorlds
+pub mod InForce
+pub mod HopsAtQuiet

@@ -1,0 +1,83 @@
+-- What holds of every packet of every network, in which a router may send each packet by any way that is feasible.
+use Rattle.std.specs.Prelude.{◌≡◌, ◌≢◌, ◌⊎◌, ℕ, ◌<◌, ◌≤◌, Bool, false, ◌&&◌, nat_lt, if◌then◌else◌, List, [], ◌∷◌, map, Some, None, slice_get, length}
+use Rattle.std.specs.Option.{option_map_or}
+use Rattle.ipv4_prefix.specs.{Prefix.Prefix, LongestMatch.longest_match}
+use Rattle.network_model.specs.{NextHops.passing_from, declared.machine.Neighbour.Neighbour, declared.route.Entry.Entry, declared.route.Entry.TheVariants.Via, declared.step.Step.Step, Step.session_at, Network.IsNetwork, Run.Runs, Run.History, Run.history, declared.route.NextHop.NextHop, Forwarding.entry_leads, Forwarding.hop}
+use Rattle.network_model.specs.World.{World, Router, Network, machine_of, opening}
+use Rattle.no_packet_loops.specs.Packets.{mixture_rows}
+use Rattle.all_packets.specs.Packets.{IsWayBy}
+use Rattle.loop_freedom.specs.Network.{meets_twice}
+use Rattle.many_ways.specs.Network.{Among}
+
+-- ---- the ways of a router
+
+-- whether a neighbour is feasible: it is up, and reported less than the feasible distance
+abbrev pub is_low : ℕ → Neighbour → Bool
+is_low fd n = n.up && nat_lt n.reported fd
+
+-- the way over a port that has such a neighbour, in the session that the router saw last there
+abbrev pub way_over : Router → ℕ × ℕ → NextHop
+way_over r x = record { port = x.1; session = session_at r.ports x.1 }
+
+-- the ways of a router for a prefix, by ascending port
+abbrev pub feasible_ways : Prefix → Router → List NextHop
+feasible_ways p r = map (way_over r) (passing_from (is_low (machine_of r p).fd) 0 (machine_of r p).ports)
+
+-- the routers as they are, or as they were when they published last
+abbrev pub routers_by : Bool → History → List Router
+routers_by is_present h = if is_present then (h.world).routers else h.published
+
+-- the ways that router i has for the prefix: those of now, or those of when it published last
+abbrev pub ways_by : Bool → History → ℕ → Prefix → List NextHop
+ways_by is_present h i p = option_map_or (feasible_ways p) (slice_get (routers_by is_present h) i) []
+
+-- ---- packets
+
+-- where these are the ways of routers for prefixes, those that go with what they published and those that go with what they have chosen since: a
+-- packet for the address may go from router i to router k. Its longest match is a row of the prefix, and that row leads to k, or one of
+-- the router's ways for that prefix does
+pub record MayGoBy (ways : Bool → ℕ → Prefix → List NextHop) (w : World) (is_present : Bool) (addr i k : ℕ) : Type 0 where
+  pub prefix : Prefix
+  pub entry : Entry
+  pub matched : longest_match addr (mixture_rows (λ j. is_present) w i) ≡ Some (prefix, entry)
+  pub leads : (entry_leads w i entry ≡ Some k) ⊎ ((o : NextHop) × Among o (ways is_present i prefix) × (entry_leads w i (Via o.port o.session) ≡ Some k))
+
+-- by all that were feasible when the router published last, or that are now
+abbrev pub MayGoByWays : History → Bool → ℕ → ℕ → ℕ → Type 0
+MayGoByWays h is_present addr i k = MayGoBy (λ b. ways_by b h) h.world is_present addr i k
+
+-- a way of a packet that goes at each router by what that published, any of it, whichever prefix matches
+abbrev pub IsManyWay : History → ℕ → List ℕ → Type 0
+IsManyWay h addr way = IsWayBy (MayGoByWays h false addr) way
+
+-- no packet meets a router twice
+abbrev pub NoManyWayCircles : History → Type 0
+NoManyWayCircles h = (addr : ℕ) (way : List ℕ) → IsManyWay h addr way → meets_twice way ≡ false
+
+-- a way of a packet that at each router goes by what that published, or by what it has chosen and publishes meanwhile
+abbrev pub IsMovingManyWay : History → ℕ → List ℕ → Type 0
+IsMovingManyWay h addr way = IsWayBy (λ i k. (is_present : Bool) × MayGoByWays h is_present addr i k) way
+
+-- no packet meets a router twice while routers publish
+abbrev pub NoMovingManyWayCircles : History → Type 0
+NoMovingManyWayCircles h = (addr : ℕ) (way : List ℕ) → IsMovingManyWay h addr way → meets_twice way ≡ false
+
+-- no way has more routers than there are
+abbrev pub ManyWaysEnd : History → Type 0
+ManyWaysEnd h = (addr i : ℕ) (ks : List ℕ) → i < length (h.world).routers → IsMovingManyWay h addr (i ∷ ks) → length (i ∷ ks) ≤ length (h.world).routers
+
+-- what holds of the history of every run from the opening of a network
+abbrev pub HoldsInEveryHistory : (History → Type 0) → Type 0
+HoldsInEveryHistory P = (n : Network) (ss : List Step) (w : World) → IsNetwork n → Runs (opening n) ss w → P (history n ss)
+
+-- ---- that there is something to say
+
+-- some run leads to a world in which a router has a choice: it may send a packet to either of two others, by what it published
+abbrev pub SomeRouterHasAChoice : Type 0
+SomeRouterHasAChoice = (n : Network) × (ss : List Step) × (w : World) × (addr : ℕ) × (i : ℕ) × (j : ℕ) × (k : ℕ) × IsNetwork n × Runs (opening n) ss w
+    × MayGoByWays (history n ss) false addr i j × MayGoByWays (history n ss) false addr i k × (j ≢ k)
+
+-- and to one in which the row of a router leads nowhere any more, while one of its ways does
+abbrev pub SomeWayOutlivesItsRow : Type 0
+SomeWayOutlivesItsRow = (n : Network) × (ss : List Step) × (w : World) × (addr : ℕ) × (i : ℕ) × (k : ℕ) × IsNetwork n × Runs (opening n) ss w
+    × (hop w addr i ≡ None) × MayGoByWays (history n ss) false addr i k

@@ -1,0 +1,95 @@
+//! No packet meets a router twice, whichever of many next hops each router takes for it.
+//!
+//! Beside its row for a prefix a router may have more next hops, here called its *ways*, for example two at
+//! the same distance. It sends each packet by the row or by any of them, and chooses anew for the next one.
+//! With one next hop the law is that of `all_packets`. Can a packet come back if each router on its way may
+//! choose?
+//!
+//! The law ([`no_hop_circles`]): no, in every world of every run, whichever prefixes match the packet, and
+//! also if some routers go by what they would publish now (`NoHopCircles` in `specs/InForce.antt`). Each way
+//! only has to be *feasible* when it is published: its port is up, and the neighbour there has reported less
+//! than the feasible distance. At rest, if routers offer ways of equal cost, each chain of them is a least
+//! walk ([`equal_hops_at_quiet`]).
+//!
+//! ```text
+//!    0 -- 1 -- 3     links cost 1, and router 3 is attached to the prefix at cost 1
+//!     \-- 2 --/      router 0 has its row via 1, and the way via 2, which reported 2, less than 3
+//! ```
+//!
+//! Why it is true: whichever next hop each router shows, its row's or one of its ways, what `loop_freedom`
+//! keeps of every state is kept (`WideInvariant` in `proofs/Kept.antt`). That rests on one fact, which is
+//! that a feasible way may be shown in place of the row (`shown_keeps` in `proofs/Shown.antt`), because both
+//! feasible distances of its neighbour are less. All other steps are used as they stand, since a publication
+//! that lets no message out and leaves the feasible distance is no step for those who look at a way alone. In
+//! whole networks matches then get longer, or stay and feasible distances fall, as along rows
+//! (`proofs/Packets.antt`).
+//!
+//! What is tricky is when a way has to go. It may stay until its router lets a message out, or publishes
+//! another feasible distance, and so a router that publishes chooses its ways anew even if its row stays. A
+//! neighbour that reported the feasible distance itself is no way, because two routers that are level would
+//! choose each other.
+#![tactic(auto)]
+
+ghost use Rattle.many_ways.specs.Network.{ManyWaysLoopFree};
+ghost use Rattle.many_ways.specs.Packets.{HoldsInEveryHistory, NoManyWayCircles, NoMovingManyWayCircles, ManyWaysEnd, SomeRouterHasAChoice, SomeWayOutlivesItsRow};
+ghost use Rattle.many_ways.specs.InForce.{NoHopCircles, HopWaysEnd};
+ghost use Rattle.many_ways.specs.HopsAtQuiet.{EqualHopsAreLeast, EqualHopsAreInForce};
+ghost use Rattle.no_packet_loops.specs.Packets.{HoldsInEveryWorld};
+ghost use Rattle.many_ways.specs.Journeys.{NoManyWayJourneyCircles};
+ghost use Rattle.many_ways.specs.Quiet.{ManyWaysAtQuiet};
+ghost use Rattle.many_ways.specs.QuietWorlds.{EqualChainsAreLeast};
+
+/// In every state of every run no walk meets a router twice, where each router may send each packet over
+/// any way that it has published, or that is feasible now.
+pub fn many_ways()
+    ensures { ManyWaysLoopFree }
+{}
+
+/// In every world of every run no packet meets a router twice, whichever prefixes match its address on its
+/// way, where each router may send it by its row or over any way that was feasible when it published last;
+/// nor does one that moves while routers publish. No such way has more routers than there are.
+pub fn no_many_way_circles()
+    ensures published { HoldsInEveryHistory NoManyWayCircles }
+    ensures moving { HoldsInEveryHistory NoMovingManyWayCircles }
+    ensures end { HoldsInEveryHistory ManyWaysEnd }
+{}
+
+/// In a quiet network every walk along ways of equal cost, whichever each router takes, is a least one;
+/// the row is among them; and no feasible way is a dead end, of equal cost or not.
+pub fn many_ways_at_quiet()
+    ensures { ManyWaysAtQuiet }
+{}
+
+/// Some run leads to a world in which a router may send a packet to either of two others; and some run to
+/// one in which the row of a router leads nowhere any more, while one of its ways does.
+pub fn some_router_has_a_choice()
+    ensures choice { SomeRouterHasAChoice }
+    ensures outlives { SomeWayOutlivesItsRow }
+{}
+
+/// From every world of every run no packet meets a router twice while steps are done, whichever way each
+/// router takes of those that are in force at that moment, or that it is out to publish, until a router
+/// takes a message or a notice.
+pub fn no_many_way_journey_circles()
+    ensures { HoldsInEveryHistory NoManyWayJourneyCircles }
+{}
+
+/// In every quiet world of every run, every chain of ways of equal cost, whichever each router takes, is a
+/// least walk to an attached router, and costs the reported distance.
+pub fn equal_chains_are_least()
+    ensures { EqualChainsAreLeast }
+{}
+
+/// In every world of every run no packet meets a router twice, where each router sends it by its row or by
+/// any of the next hops that it published beside that, or would publish now.
+pub fn no_hop_circles()
+    ensures circles { HoldsInEveryWorld NoHopCircles }
+    ensures end { HoldsInEveryWorld HopWaysEnd }
+{}
+
+/// In every quiet world of every run of a network that offers next hops of equal cost, each router published
+/// what it offers, and every chain of published next hops is a least walk to an attached router.
+pub fn equal_hops_at_quiet()
+    ensures least { EqualHopsAreLeast }
+    ensures in_force { EqualHopsAreInForce }
+{}
