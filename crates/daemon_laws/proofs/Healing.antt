@@ -1,7 +1,7 @@
 -- Nothing counts as lost in a session that both ends of a link may still come into.
 use Rattle.std.proofs.Common.{refl, ap, subst, ◌∙◌, arith, inl, inr, ◌≡◌, ℕ, ◌<◌, ◌≤◌, true, false, not, ◌&&◌, ◌||◌, nat_lt, nat_le, List, [], ◌∷◌, ne_eqb}
-use Rattle.no_packet_loops.proofs.Common.{Prefix, Topology, LinkEnd}
-use Rattle.network_model.proofs.Common.{cases_Bool, cases_lt, and_from, and_right, or_from, or_left, or_right, lt-ltb, le-leb}
+use Rattle.no_packet_loops.proofs.Common.{Prefix, Topology, LinkEnd, cases_lt, and_from, and_right, or_left, or_right, lt-ltb}
+use Rattle.network_model.proofs.Common.{cases_Bool, or_from, le-leb}
 use Rattle.daemon_laws.specs.{Processes.Carried, Processes.Processes, Moments.fds_reached, Rest.SessionsBeginWhole}
 use Rattle.daemon_laws.specs.Happenings.{Happening, Tells, Takes, Loses, Releases, BeginsAnew, is_same_end, is_first_of, last_anew, may_come_again, lost_anew, link_stays, after_happening, MayRewire, rewired, Begun, Happened, Rewired, HoldsAlways}
 use Rattle.daemon_laws.proofs.{Cases.by_take, Cases.by_release, Invariant.Invariant, Orderly.CarriedPast, Orderly.Orderly, Rewiring.stays_at, Rewiring.stays_far, Rewiring.same_at, Always.always}

@@ -1,11 +1,12 @@
 -- What both processes at a link remember is enough to number its next session.
 use Rattle.std.proofs.Common.{refl, sym, ap, subst, ◌∙◌, arith, inl, inr, ◌≡◌, ◌≢◌, ◌⊎◌, ℕ, ◌≤◌, max, Bool, true, false, not, ◌&&◌, ◌==◌, if◌then◌else◌, List, [], ◌∷◌, ◌++◌, drop, Some, slice_get}
-use Rattle.no_packet_loops.proofs.Common.{Some_injective, Prefix, Held, Router, session_at, router_publishing, router_releasing, Topology, LinkEnd, at_port}
-use Rattle.network_model.proofs.Common.{cases_eq, cases_Bool}
+use Rattle.no_packet_loops.proofs.Common.{Some_injective, Prefix, Held, Router, session_at, router_publishing, router_releasing, Topology, LinkEnd, at_port, cases_eq}
+use Rattle.network_model.proofs.Common.{cases_Bool}
+use Rattle.network_model.specs.World.{with_offer}
 use Rattle.router_core.specs.Alone.{router_publishing_some, may_forget, router_forgetting}
 use Rattle.single_router.specs.Openings.{made_router}
 use Rattle.daemon_laws.specs.{Processes.Carried, Processes.Processes, Packets.is_in_session, Moments.fds_reached}
-use Rattle.daemon_laws.specs.Happenings.{Happening, Tells, Takes, Loses, Publishes, PublishesSome, Forgets, Releases, BeginsAnew, CanHappen, with_process, is_same_end, with_coming, forgotten, sent_from, having_released, after_happening, latest, latest_coming, last_anew, link_stays, MayRewire, rewired, AreReached, Begun, Happened, Rewired}
+use Rattle.daemon_laws.specs.Happenings.{Happening, Tells, Takes, Loses, Publishes, PublishesSome, Forgets, Releases, BeginsAnew, CanHappen, with_process, is_same_end, with_coming, forgotten, sent_from, having_released, after_happening, latest, latest_coming, last_anew, link_stays, MayRewire, rewired, AreReached, Begun, Happened, Rewired, Offers}
 use Rattle.daemon_laws.specs.Numbers.{known_session, IsClean, Cleanly, NumbersSuffice}
 use Rattle.daemon_laws.proofs.{Cases.after_message, Cases.by_take, Cases.by_release, Invariant.session_of, Invariant.Invariant, Orderly.Orderly, Meeting.GoesAt, Releasing.as_carried, Rewiring.stays_at, Rewiring.stays_far, Rewiring.same_at, Always.always}
 use Rattle.daemon_laws.proofs.Steps.{router_away, end_same, tells_at, taken_at}
@@ -111,6 +112,7 @@ module _ (t : Topology) (w : Processes) (e : LinkEnd) (K : Known t w e) where
         let a = sent_more t w (at_port i h.port) h e in
         let b = sent_more t w (at_port i h.port) h (t.far e) in
         kept_with i router_releasing (λ r. refl) (having_released t i w h) (λ j. refl) refl (omega (arith, a, b)))
+    known_next (Offers i offer) can clean = kept_with i (with_offer offer) (λ r. refl) (after_happening t w (Offers i offer)) (λ j. refl) refl (omega arith)
     known_next (BeginsAnew i costs attachments) can clean = by_place (anew_at t i w e)
       where
         away : (d : LinkEnd) → d.router ≢ i → session_of (after_happening t w (BeginsAnew i costs attachments)) d ≡ session_of w d

@@ -1,13 +1,14 @@
 -- Whatever happens keeps the order of sessions.
 use Rattle.std.proofs.Common.{refl, sym, ap, subst, ◌∙◌, arith, inl, inr, ◌≡◌, ◌⊎◌, ℕ, ◌≤◌, max, Bool, true, false, ◌&&◌, ◌==◌, is_none, if◌then◌else◌, List, [], ◌∷◌, take, drop, Some, None, slice_get, eq-eqb, ne_eqb, min, Option}
-use Rattle.no_packet_loops.proofs.Common.{and_parts, and_from, false≢true, take-append-le, Prefix, Held, Router, machine_of, session_at, router_publishing, router_releasing, ripe_front, next_hop_at, ripe_of, is_up_at, is_port, is_next_hop, Topology, LinkEnd, at_port, place_cases, Message}
-use Rattle.network_model.proofs.Common.{cases_eq, both_ways}
+use Rattle.no_packet_loops.proofs.Common.{and_parts, and_from, false≢true, take-append-le, Prefix, Held, Router, machine_of, session_at, router_publishing, router_releasing, ripe_front, next_hop_at, ripe_of, is_up_at, is_port, is_next_hop, Topology, LinkEnd, at_port, place_cases, Message, cases_eq}
+use Rattle.network_model.proofs.Common.{both_ways}
+use Rattle.network_model.specs.World.{with_offer}
 use Rattle.loop_freedom.specs.Facts.{End}
 use Rattle.router_core.specs.Alone.{router_publishing_some}
 use Rattle.single_router.specs.{declared.input.Input.Input, declared.opening.Attachment.Attachment, Inputs.told_fault, Inputs.kind_fault, Inputs.message_fault, Openings.make_fault, Openings.made_router}
 use Rattle.single_router.specs.declared.input.Input.TheVariants as input
 use Rattle.daemon_laws.specs.{Processes.Carried, Processes.Processes, Facts.fds_next, Facts.fds_after}
-use Rattle.daemon_laws.specs.Happenings.{Happening, Tells, Takes, Loses, Publishes, PublishesSome, Forgets, Releases, BeginsAnew, IsLocalInput, CanHappen, with_process, is_same_end, with_coming, told_router, forgotten, having_released, after_happening, after_happenings, IsOpening, AllCanHappen, latest_coming, last_anew, heard_anew}
+use Rattle.daemon_laws.specs.Happenings.{Happening, Tells, Takes, Loses, Publishes, PublishesSome, Forgets, Releases, BeginsAnew, IsLocalInput, CanHappen, with_process, is_same_end, with_coming, told_router, forgotten, having_released, after_happening, after_happenings, IsOpening, AllCanHappen, latest_coming, last_anew, heard_anew, Offers}
 use Rattle.daemon_laws.proofs.{Cases.after_message, Cases.by_take, Cases.by_release, Seen.is_port_in, Moving.in_session, Moving.hop_same as hop_from, Meeting.GoesAt, Meeting.may_before, Beginning.Made, Beginning.made, Items.session_is, Telling.passed, Telling.neither, Telling.message_passes, Placed.placed_next}
 use Rattle.daemon_laws.proofs.Invariant.{router_at, session_of, Invariant, Placed}
 use Rattle.daemon_laws.proofs.InForce.{Ends, AsChosen, AsBefore, PutsInForce}
@@ -16,7 +17,7 @@ use Rattle.no_packet_loops.proofs.Releasing.{front_of, ripe_front_is}
 use Rattle.daemon_laws.proofs.Orderly.{CarriedPast, HeldPast, carried_later, carried_append, carried_drop, carried_first, held_later, held_append, held_drop, held_take, stamped_past, HoldsMore, told_more, Shows, Orderly}
 use Rattle.c_interface.specs.{declared.fault.CallFault.CallFault, Faults.first_of}
 use Rattle.daemon_laws.proofs.Anew.{carried_least, anew_less, anew_least, anew_far}
-use Rattle.daemon_laws.proofs.Steps.{router_here, router_away, end_same, tells_at, taken_at, publishes_puts, publishes_some_puts, forgets_puts, sent_is, next_keeps}
+use Rattle.daemon_laws.proofs.Steps.{router_here, router_away, end_same, tells_at, taken_at, publishes_puts, publishes_some_puts, forgets_puts, sent_is, next_keeps, offers_puts}
 
 -- a message that is taken is of the session of its port
 in_its_session : (r : Router) (q session : ℕ) (m : Message) → is_none (told_fault (input.Message q session m) r) ≡ true → session_at r.ports q ≡ session
@@ -319,7 +320,7 @@ module _ (t : Topology) (p : Prefix) (pfd : ℕ → ℕ) (w : Processes) (I : In
   }
 
   -- a router puts rows in force, or forgets a prefix
-  puts_orderly : (i : ℕ) (f : Router → Router) (fd fd' : ℕ) → PutsInForce p (w.routers i) (f (w.routers i)) fd fd'
+  pub puts_orderly : (i : ℕ) (f : Router → Router) (fd fd' : ℕ) → PutsInForce p (w.routers i) (f (w.routers i)) fd fd'
       → Orderly t p (record { routers = with_process i f w.routers; coming = w.coming; last = w.last; heard = w.heard; lost = w.lost })
   puts_orderly i f fd fd' P = record {
     up_last = λ e u. (let s = same e in let l = O.up_last e (sym (s.up_is) ∙ u) in let q = s.session_is in omega (arith, l, q));
@@ -467,6 +468,7 @@ module _ (t : Topology) (p : Prefix) (pfd : ℕ → ℕ) (w : Processes) (I : In
   next_orderly (PublishesSome i n) can = puts_orderly i (router_publishing_some n) (pfd i) (fds_next p w (PublishesSome i n) pfd i) (publishes_some_puts t p pfd w I i n)
   next_orderly (Forgets i k) can = puts_orderly i (forgotten k) (pfd i) (fds_next p w (Forgets i k) pfd i) (forgets_puts t p pfd w I i k)
   next_orderly (Releases i) can = releases_orderly i
+  next_orderly (Offers i offer) can = puts_orderly i (with_offer offer) (pfd i) (fds_next p w (Offers i offer) pfd i) (offers_puts t p pfd w I i offer)
   next_orderly (BeginsAnew i costs attachments) can = anew_orderly i costs attachments can
 
 pub after_keeps : (t : Topology) (p : Prefix) (pfd : ℕ → ℕ) (w : Processes) (hs : List Happening) → Invariant t p pfd w → Orderly t p w → Placed t w → AllCanHappen t w hs → Invariant t p (fds_after t p w hs pfd) (after_happenings t w hs)

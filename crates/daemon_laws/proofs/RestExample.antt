@@ -1,12 +1,12 @@
 -- The two routers once more: router 1 takes the route, begins anew, and takes it again in a second session; then both are at rest.
 use Rattle.std.proofs.Common.{refl, sym, ap, subst, ◌∙◌, inl, inr, arith, ◌≡◌, ℕ, zero, suc, ◌<◌, Bool, true, false, ◌&&◌, ◌==◌, if◌then◌else◌, List, [], ◌∷◌, ◌++◌, slice_get, ne_eqb, eqb-true}
-use Rattle.no_packet_loops.proofs.Common.{option_map_or, list_any, Port, Router, is_quiet_router, LinkEnd, at_port}
-use Rattle.network_model.proofs.Common.{cases_eq, both_ways, false_from_ne_true, or_left, or_right}
+use Rattle.no_packet_loops.proofs.Common.{option_map_or, list_any, Port, Router, is_quiet_router, LinkEnd, at_port, cases_eq, false_from_ne_true, or_left, or_right}
+use Rattle.network_model.proofs.Common.{both_ways}
 use Rattle.loop_freedom.proofs.Example.{pair}
 use Rattle.least_cost.proofs.Reached.{each_place, each_router}
 use Rattle.single_router.specs.declared.input.Input.TheVariants as input
 use Rattle.daemon_laws.specs.{Processes.Processes, Packets.is_in_session, Rest.IsUpIn, Rest.NothingLost, Reached.ExampleOfRest}
-use Rattle.daemon_laws.specs.Happenings.{Happening, Tells, Takes, Loses, Publishes, PublishesSome, Forgets, Releases, BeginsAnew, after_happening, after_happenings}
+use Rattle.daemon_laws.specs.Happenings.{Happening, Tells, Takes, Loses, Publishes, PublishesSome, Forgets, Releases, BeginsAnew, after_happening, after_happenings, Offers}
 use Rattle.daemon_laws.proofs.Cases.{by_take, by_release}
 use Rattle.daemon_laws.proofs.Example.{first, begins, happenings, seven}
 
@@ -41,6 +41,7 @@ speaks_of (Publishes i) j = j == i
 speaks_of (PublishesSome i n) j = j == i
 speaks_of (Forgets i p) j = j == i
 speaks_of (Releases i) j = j == i
+speaks_of (Offers i offer) j = j == i
 speaks_of (BeginsAnew i costs attachments) j = j == i
 
 -- a router that a happening does not speak of stays

@@ -1,7 +1,6 @@
 -- Where routers in processes of their own are at rest, each has its best row.
 use Rattle.std.proofs.Common.{refl, sym, ap, subst, ◌∙◌, inl, arith, ◌≡◌, ℕ, ◌+◌, ◌<◌, ◌≤◌, Bool, true, false, ◌==◌, if◌then◌else◌, List, [], ◌∷◌, ◌++◌, Option, Some, None, slice_get, eq-eqb}
-use Rattle.no_packet_loops.proofs.Common.{option_map_or, and_parts, and_from, false≢true, Prefix, test_at, Machine, Neighbour, Local, Via, Port, machine_of, is_up_at, Topology, IsEdgeWalk, walk_map, LinkEnd, State, next_hop_at, most_routers, reported_at, pipe, messages, live}
-use Rattle.network_model.proofs.Common.{infinity}
+use Rattle.no_packet_loops.proofs.Common.{option_map_or, and_parts, and_from, false≢true, Prefix, test_at, Machine, Neighbour, Local, Via, Port, machine_of, is_up_at, Topology, IsEdgeWalk, walk_map, LinkEnd, State, next_hop_at, most_routers, reported_at, pipe, messages, live, infinity}
 use Rattle.least_cost.specs.Quiet.{LeadsHome, Follows, IsQuiet, IsRouted, IsOptimal, walk_end, edges_cost}
 use Rattle.least_cost.proofs.{Replay.cost_of, Kept.Kept as NetKept, AtQuiet.optimal_here}
 use Rattle.daemon_laws.specs.{Processes.Processes, Packets.is_in_session}
@@ -13,19 +12,19 @@ use Rattle.daemon_laws.proofs.Quiet.{still, ripe_quiet, unripe_quiet, hop_quiet,
 
 module _ (t : Topology) (p : Prefix) (pfd : ℕ → ℕ) (w : Processes) (I : Invariant t p pfd w) (n : ℕ) (few : n ≤ most_routers) (A : AreAtRest t n w) where
   -- the machine of the prefix at each router
-  abbrev machine : ℕ → Machine
+  abbrev pub machine : ℕ → Machine
   machine i = machine_of (w.routers i) p
 
   -- whether the machine at an end of a link has it up
-  abbrev up : LinkEnd → Bool
+  abbrev pub up : LinkEnd → Bool
   up e = is_up_at (machine e.router) e.port
 
   -- the cost of a link from an end, as the machine there has it
-  abbrev cost : LinkEnd → ℕ
+  abbrev pub cost : LinkEnd → ℕ
   cost e = cost_of (slice_get (machine e.router).ports e.port)
 
   -- the processes at rest, as the prefix sees them
-  abbrev s : State
+  abbrev pub s : State
   s = record {
     machine = machine;
     seen = session_of w;
@@ -42,7 +41,7 @@ module _ (t : Topology) (p : Prefix) (pfd : ℕ → ℕ) (w : Processes) (I : In
   -- ---- links that are up
 
   -- a link that one end has up is up in its session
-  up_in : (e : LinkEnd) → up e ≡ true → IsUpIn t w e (session_of w e)
+  pub up_in : (e : LinkEnd) → up e ≡ true → IsUpIn t w e (session_of w e)
   up_in e u = A.agree e (session_of w e) (opened t p pfd w I e u).in_own
 
   -- an end in a session is up, and was last in that session
@@ -56,18 +55,18 @@ module _ (t : Topology) (p : Prefix) (pfd : ℕ → ℕ) (w : Processes) (I : In
       record { is_up = (and_parts (up e) (session_of w e == session) on).0; last = in_session p (router_at w e) e.port session on }
 
   -- the other end is up too
-  up_far : (e : LinkEnd) → up e ≡ true → up (t.far e) ≡ true
+  pub up_far : (e : LinkEnd) → up e ≡ true → up (t.far e) ≡ true
   up_far e u = (in_last (t.far e) (session_of w e) (up_in e u).far).is_up
 
   session_far : (e : LinkEnd) → up e ≡ true → session_of w (t.far e) ≡ session_of w e
   session_far e u = (in_last (t.far e) (session_of w e) (up_in e u).far).last
 
   -- the links that are up
-  abbrev t' : Topology
+  abbrev pub t' : Topology
   t' = record { far = t.far; valid = up; far_valid = up_far; far_far = λ e u. t.far_far e (up_in e u).valid }
 
   -- the router at an end that is up is one of the first n
-  placed : (e : LinkEnd) → up e ≡ true → e.router < n
+  pub placed : (e : LinkEnd) → up e ≡ true → e.router < n
   placed e u = A.placed e (up_in e u).valid
 
   -- an end that is up is in its session
@@ -82,7 +81,7 @@ module _ (t : Topology) (p : Prefix) (pfd : ℕ → ℕ) (w : Processes) (I : In
       (λ z. (messages (arriving_in m (carried p (A.nothing_comes (t.far e) (session_of w (t.far e)) (up_in (t.far e) (up_far e u)) z))) ++ live m (ripe_quiet p (router_at w e) (I.keeps e.router) quiet e.port z)) ++ live m (unripe_quiet p (router_at w e) (I.keeps e.router) quiet e.port z))
 
   -- the far end of a link that is up was told the distance
-  told_now : (e : LinkEnd) → up e ≡ true → reported_at (machine (t.far e).router) (t.far e).port ≡ (machine e.router).rd
+  pub told_now : (e : LinkEnd) → up e ≡ true → reported_at (machine (t.far e).router) (t.far e).port ≡ (machine e.router).rd
   told_now e u =
       let f = t.far e in
       let v = (up_in e u).valid in
@@ -97,7 +96,7 @@ module _ (t : Topology) (p : Prefix) (pfd : ℕ → ℕ) (w : Processes) (I : In
       ∙ sym (ap (last_value (listens (end_from t p k pfd w f))) (pipe_none e u k))
       ∙ T.last_is here
 
-  kept_state : NetKept t' s
+  pub kept_state : NetKept t' s
   kept_state = record {
     sound = I.sound;
     there = λ e u. port_within (machine e.router).ports e.port u;
@@ -116,7 +115,7 @@ module _ (t : Topology) (p : Prefix) (pfd : ℕ → ℕ) (w : Processes) (I : In
           by_port None at h = absurd (false≢true h)
           by_port (Some x) at h = ((I.sound e.router).ports_sound e.port x at).costs
 
-  quiet_state : IsQuiet t' n s
+  pub quiet_state : IsQuiet t' n s
   quiet_state = record {
     passive = λ i l. (still p (w.routers i) (I.keeps i) (A.quiet i l)).passive;
     inbox_empty = λ e u. refl;
@@ -126,7 +125,7 @@ module _ (t : Topology) (p : Prefix) (pfd : ℕ → ℕ) (w : Processes) (I : In
   }
 
   -- its costs have 16 bits
-  cheap_now : (e : LinkEnd) → up e ≡ true → cost e ≤ 65535
+  pub cheap_now : (e : LinkEnd) → up e ≡ true → cost e ≤ 65535
   cheap_now e u = by_port (slice_get (machine e.router).ports e.port) refl
     where
       by_port : (o : Option Neighbour) → slice_get (machine e.router).ports e.port ≡ o → cost_of o ≤ 65535
@@ -140,7 +139,7 @@ module _ (t : Topology) (p : Prefix) (pfd : ℕ → ℕ) (w : Processes) (I : In
   -- ---- ways
 
   -- a cost is that which the router was told
-  cost_now : (e : LinkEnd) → up e ≡ true → cost e ≡ cost_from w e
+  pub cost_now : (e : LinkEnd) → up e ≡ true → cost e ≡ cost_from w e
   cost_now e u =
       let O = opened t p pfd w I e u in
       cost_is p (router_at w e) (I.keeps e.router) e.port O.port O.at ∙ sym (ap (λ o. option_map_or (λ (x : Port). x.cost) o 0) O.at)

@@ -1,15 +1,15 @@
 -- The feasible distance with which a router published last fits the row that it published, whatever has happened.
 use Rattle.std.proofs.Common.{refl, sym, ap, subst, ◌∙◌, inl, inr, ◌≡◌, ◌≢◌, ℕ, Bool, true, false, if◌then◌else◌, List, take, Option, is_some, is_none, ◌&&◌, eq-eqb, ne_eqb}
-use Rattle.no_packet_loops.proofs.Common.{Prefix, prefix_cmp, prefix_eq, Entry, infinity, Router, machine_of, router_publishing, router_releasing, Topology, changed_rows, with_rows}
-use Rattle.network_model.proofs.Common.{cases_eq, find as row_of}
+use Rattle.no_packet_loops.proofs.Common.{Prefix, prefix_cmp, prefix_eq, Entry, infinity, Router, machine_of, router_publishing, router_releasing, Topology, with_rows, cases_eq, find as row_of}
+use Rattle.network_model.specs.World.{with_offer}
 use Rattle.all_packets.proofs.Known.{Follows, Fits, chosen_fits}
 use Rattle.no_packet_loops.proofs.Machines.{prefix_same}
 use Rattle.route_table.specs.Place.{without}
-use Rattle.router_core.specs.Alone.{router_publishing_some, may_forget, router_forgetting}
+use Rattle.router_core.specs.Alone.{router_publishing_some, may_forget, router_forgetting, rows_due}
 use Rattle.single_router.specs.{declared.input.Input.Input, Inputs.told_fault, Inputs.router_after, Openings.made_router}
 use Rattle.single_router.specs.declared.input.Input.TheVariants as input
 use Rattle.daemon_laws.specs.{Processes.Processes, Facts.fd_then, Facts.fds_next, Facts.first_fds}
-use Rattle.daemon_laws.specs.Happenings.{Happening, Tells, Takes, Loses, Publishes, PublishesSome, Forgets, Releases, BeginsAnew, CanHappen, IsMade, IsOpening, with_process, told_router, forgotten, after_happening}
+use Rattle.daemon_laws.specs.Happenings.{Happening, Tells, Takes, Loses, Publishes, PublishesSome, Forgets, Releases, BeginsAnew, CanHappen, IsMade, IsOpening, with_process, told_router, forgotten, after_happening, Offers}
 use Rattle.daemon_laws.proofs.{Cases.by_take, Cases.by_release, SomeRows.row_forgotten, SomeRows.row_beside, SomeRows.chosen_without, Beginning.made, Invariant.Invariant, PublishingSome.some_in_force, Steps.router_here, Steps.router_away}
 
 module _ (p : Prefix) where
@@ -68,7 +68,7 @@ module _ (p : Prefix) where
       (rw (eq-eqb i i refl) (record { follows = (A i).follows; fits = subst (λ (o : Option Entry). Fits o (fd_then p rows (w.routers i) (fds i))) (sym row_now) (by_among (is_some (row_of prefix_cmp p rows))) }))
     where
       rows : List (Prefix × Entry)
-      rows = take n (changed_rows (w.routers i).table)
+      rows = take n (rows_due (w.routers i))
 
       row_now : row_of prefix_cmp p (with_rows rows ((w.routers i).table).published) ≡ (if is_some (row_of prefix_cmp p rows) then row_of prefix_cmp p ((w.routers i).table).control else row_of prefix_cmp p ((w.routers i).table).published)
       row_now = some_in_force p (w.routers i) (I.keeps i) n
@@ -89,6 +89,7 @@ module _ (p : Prefix) where
       by_test _ _ _ = A i
   next_shown t w (Releases i) fds can I A = by_release t w (λ v. AllShown v.routers fds) A i
       (λ h is. changed_shown i router_releasing w.routers fds fds (λ j d. refl) A (record { follows = (A i).follows; fits = (A i).fits }))
+  next_shown t w (Offers i offer) fds can I A = changed_shown i (with_offer offer) w.routers fds fds (λ j d. refl) A (record { follows = (A i).follows; fits = (A i).fits })
   next_shown t w (BeginsAnew i costs attachments) fds can I A = changed_shown i (λ r. made_router costs attachments) w.routers fds (fds_next p w (BeginsAnew i costs attachments) fds) (λ j d. rw (ne_eqb j i d) refl) A
       (rw (eq-eqb i i refl) (made_shown (made_router costs attachments) (record { costs = costs; attachments = attachments; good = can; made = refl })))
 

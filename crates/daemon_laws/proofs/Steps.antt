@@ -1,13 +1,14 @@
 -- Whatever happens keeps the invariant.
 use Rattle.std.proofs.Common.{refl, sym, ap, subst, ◌∙◌, arith, inl, inr, ◌≡◌, ◌≢◌, ◌⊎◌, ℕ, ◌<◌, ◌≤◌, Bool, true, false, ◌&&◌, ◌==◌, if◌then◌else◌, List, [], ◌∷◌, ◌++◌, take, drop, Some, None, slice_get, eqb-true, eq-eqb, ne_eqb}
-use Rattle.no_packet_loops.proofs.Common.{and_parts, and_from, Prefix, prefix_eq, Held, Router, machine_of, session_at, router_publishing, router_releasing, msg_of, Topology, LinkEnd, at_port, changed_rows, live, front, IsLawfullyHeld}
-use Rattle.network_model.proofs.Common.{cases_eq, both_ways, false_from_ne_true, SeenHeld, infinity}
-use Rattle.router_core.specs.Alone.{router_publishing_some, may_forget}
+use Rattle.no_packet_loops.proofs.Common.{and_parts, and_from, Prefix, prefix_eq, Held, Router, machine_of, session_at, router_publishing, router_releasing, msg_of, Topology, LinkEnd, at_port, live, front, IsLawfullyHeld, cases_eq, false_from_ne_true, infinity}
+use Rattle.network_model.proofs.Common.{both_ways, SeenHeld}
+use Rattle.network_model.specs.{declared.network.Offer.Offer, World.with_offer}
+use Rattle.router_core.specs.Alone.{router_publishing_some, may_forget, rows_due}
 use Rattle.single_router.specs.{declared.input.Input.Input, declared.opening.Attachment.Attachment, Openings.make_fault, Openings.made_router}
 use Rattle.single_router.specs.declared.input.Input.TheVariants as input
 use Rattle.daemon_laws.specs.{Processes.Carried, Processes.Processes, Packets.is_in_session, Facts.fd_then, Facts.fds_next}
-use Rattle.daemon_laws.specs.Happenings.{Happening, Tells, Takes, Loses, Publishes, PublishesSome, Forgets, Releases, BeginsAnew, IsLocalInput, CanHappen, with_process, is_same_end, with_coming, told_router, forgotten, sent_from, having_released, after_happening}
-use Rattle.daemon_laws.proofs.{Cases.after_message, Cases.by_take, Cases.by_release, Seen.carried, Seen.is_port_in, Goes.Goes, Orderly.Orderly, Invariant.router_at, Invariant.Placed, Invariant.Invariant, Meeting.GoesAt, Meeting.goes_keeps, Polite.first_is, Polite.polite, InForce.PutsInForce, InForce.puts_keeps, Publishing.puts_published, PublishingSome.puts_some, Forgetting.puts_forgetting, Beginning.Made, Beginning.made, Losing.loses_keeps, Restarting.restart_keeps}
+use Rattle.daemon_laws.specs.Happenings.{Happening, Tells, Takes, Loses, Publishes, PublishesSome, Forgets, Releases, BeginsAnew, IsLocalInput, CanHappen, with_process, is_same_end, with_coming, told_router, forgotten, sent_from, having_released, after_happening, Offers}
+use Rattle.daemon_laws.proofs.{Cases.after_message, Cases.by_take, Cases.by_release, Seen.carried, Seen.is_port_in, Goes.Goes, Orderly.Orderly, Invariant.router_at, Invariant.Placed, Invariant.Invariant, Meeting.GoesAt, Meeting.goes_keeps, Polite.first_is, Polite.polite, InForce.PutsInForce, InForce.puts_keeps, InForce.puts_nothing, Publishing.puts_published, PublishingSome.puts_some, Forgetting.puts_forgetting, Beginning.Made, Beginning.made, Losing.loses_keeps, Restarting.restart_keeps}
 use Rattle.daemon_laws.proofs.Telling.{in_session_is, GoesAlone, goes_told, GoesWith, goes_with}
 use Rattle.daemon_laws.proofs.Releasing.{as_carried, Sent, OnItsWay, Lost, release_keeps}
 
@@ -164,7 +165,7 @@ module _ (t : Topology) (p : Prefix) (pfd : ℕ → ℕ) (w : Processes) (I : In
   takes_keeps e = by_take t w (Invariant t p pfd) I e (taken_keeps e)
 
   -- router i puts rows in force, or forgets a prefix
-  puts_at : (i : ℕ) (f : Router → Router) (pfd' : ℕ → ℕ) → ((j : ℕ) → j ≢ i → pfd' j ≡ pfd j) → PutsInForce p (w.routers i) (f (w.routers i)) (pfd i) (pfd' i)
+  pub puts_at : (i : ℕ) (f : Router → Router) (pfd' : ℕ → ℕ) → ((j : ℕ) → j ≢ i → pfd' j ≡ pfd j) → PutsInForce p (w.routers i) (f (w.routers i)) (pfd i) (pfd' i)
       → Invariant t p pfd' (record { routers = with_process i f w.routers; coming = w.coming; last = w.last; heard = w.heard; lost = w.lost })
   puts_at i f pfd' elsewhere puts = puts_keeps t p pfd pfd' w (record { routers = with_process i f w.routers; coming = w.coming; last = w.last; heard = w.heard; lost = w.lost }) I (record {
     i = i;
@@ -185,7 +186,7 @@ module _ (t : Topology) (p : Prefix) (pfd : ℕ → ℕ) (w : Processes) (I : In
   pub publishes_some_puts : (i n : ℕ) → PutsInForce p (w.routers i) (router_publishing_some n (w.routers i)) (pfd i) (fds_next p w (PublishesSome i n) pfd i)
   publishes_some_puts i n =
       subst (λ (k : ℕ). PutsInForce p (w.routers i) (router_publishing_some n (w.routers i)) (pfd i) k)
-      (sym (ap (λ b. if b then fd_then p (take n (changed_rows (w.routers i).table)) (w.routers i) (pfd i) else pfd i) (eq-eqb i i refl)))
+      (sym (ap (λ b. if b then fd_then p (take n (rows_due (w.routers i))) (w.routers i) (pfd i) else pfd i) (eq-eqb i i refl)))
       (puts_some p (w.routers i) (I.keeps i) (I.sound i) (I.cheap i) (pfd i) (I.pfd_bounded i) n)
 
   -- a router forgets a prefix, where it may
@@ -194,6 +195,19 @@ module _ (t : Topology) (p : Prefix) (pfd : ℕ → ℕ) (w : Processes) (I : In
       subst (λ (n : ℕ). PutsInForce p (w.routers i) (forgotten k (w.routers i)) (pfd i) n)
       (sym (ap (λ b. if b && prefix_eq p k && may_forget k (w.routers i) then infinity else pfd i) (eq-eqb i i refl)))
       (puts_forgetting p (w.routers i) (I.keeps i) (I.sound i) (I.cheap i) k (pfd i) (I.pfd_bounded i))
+
+  -- a router offers other next hops
+  pub offers_puts : (i : ℕ) (offer : Offer) → PutsInForce p (w.routers i) (with_offer offer (w.routers i)) (pfd i) (fds_next p w (Offers i offer) pfd i)
+  offers_puts i offer =
+      let R = I.keeps i in
+      puts_nothing p (w.routers i) (with_offer offer (w.routers i)) (pfd i) (pfd i) (I.sound i) (record {
+        ripe_within = R.ripe_within;
+        sorted = R.sorted;
+        published_sorted = R.published_sorted;
+        control_is = R.control_is;
+        published_heard = R.published_heard;
+        faces_are = R.faces_are;
+      }) (I.cheap i) (I.pfd_bounded i) refl refl refl refl refl
 
   -- a router that is not in a session by its port is not in it by its machine
   not_in_it : (e : LinkEnd) (session : ℕ) → is_in_session w e session ≡ false → is_port_in p (router_at w e) e.port session ≡ false
@@ -250,4 +264,5 @@ module _ (t : Topology) (p : Prefix) (pfd : ℕ → ℕ) (w : Processes) (I : In
   next_keeps O P (PublishesSome i n) can = puts_at i (router_publishing_some n) (fds_next p w (PublishesSome i n) pfd) (λ j d. rw (ne_eqb j i d) refl) (publishes_some_puts i n)
   next_keeps O P (Forgets i k) can = puts_at i (forgotten k) (fds_next p w (Forgets i k) pfd) (λ j d. ap (λ b. if b && prefix_eq p k && may_forget k (w.routers i) then infinity else pfd j) (ne_eqb j i d)) (forgets_puts i k)
   next_keeps O P (Releases i) can = releases_keeps i
+  next_keeps O P (Offers i offer) can = puts_at i (with_offer offer) (fds_next p w (Offers i offer) pfd) (λ j d. refl) (offers_puts i offer)
   next_keeps O P (BeginsAnew i costs attachments) can = anew_keeps O P i costs attachments can

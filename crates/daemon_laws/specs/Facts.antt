@@ -3,11 +3,11 @@ use Rattle.std.specs.Prelude.{◌≡◌, ℕ, Bool, true, ◌&&◌, ◌==◌, if
 use Rattle.std.specs.FinMap.{find as row_of}
 use Rattle.ipv4_prefix.specs.Prefix.{Prefix, prefix_cmp, prefix_eq}
 use Rattle.metric.specs.Distance.{infinity}
-use Rattle.network_model.specs.{declared.route.Entry.Entry, Step.session_at, Step.changed_rows, World.Router, World.machine_of}
+use Rattle.network_model.specs.{declared.route.Entry.Entry, Step.session_at, World.Router, World.machine_of}
 use Rattle.network_model.specs.View.{LinkEnd, SeenHeld, SeenItem, Reported, msg_of, kept, ripe_of, unripe_of, next_hop_at}
 use Rattle.loop_freedom.specs.Facts.{End, end_of, is_current, LinkFacts}
 use Rattle.loop_freedom.specs.Network.{Topology}
-use Rattle.router_core.specs.Alone.{may_forget}
+use Rattle.router_core.specs.Alone.{may_forget, rows_due}
 use Rattle.single_router.specs.Openings.{made_router}
 use Rattle.daemon_laws.specs.Processes.{Carried, Processes}
 use Rattle.daemon_laws.specs.Happenings.{Happening, Publishes, PublishesSome, Forgets, BeginsAnew, after_happening, after_happenings, IsOpening, AllCanHappen}
@@ -51,7 +51,7 @@ fd_then p rows r fd = if is_some (row_of prefix_cmp p rows) then (machine_of r p
 -- is made counts as published
 abbrev pub fds_next : Prefix → Processes → Happening → (ℕ → ℕ) → ℕ → ℕ
 fds_next p w (Publishes i) fds j = if j == i then (machine_of (w.routers i) p).fd else fds j
-fds_next p w (PublishesSome i n) fds j = if j == i then fd_then p (take n (changed_rows (w.routers i).table)) (w.routers i) (fds j) else fds j
+fds_next p w (PublishesSome i n) fds j = if j == i then fd_then p (take n (rows_due (w.routers i))) (w.routers i) (fds j) else fds j
 fds_next p w (Forgets i k) fds j = if (j == i) && prefix_eq p k && may_forget k (w.routers i) then infinity else fds j
 fds_next p w (BeginsAnew i costs attachments) fds j = if j == i then (machine_of (made_router costs attachments) p).fd else fds j
 fds_next p w _ fds j = fds j

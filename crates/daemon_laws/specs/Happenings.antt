@@ -3,7 +3,7 @@ use Rattle.std.specs.Prelude.{◌≡◌, ℕ, ◌<◌, min, max, Bool, true, fal
 use Rattle.std.specs.Option.{option_map_or}
 use Rattle.metric.specs.Distance.{IsCost}
 use Rattle.ipv4_prefix.specs.Prefix.{Prefix}
-use Rattle.network_model.specs.{declared.item.Held.Held, World.Router, View.LinkEnd, View.at_port}
+use Rattle.network_model.specs.{declared.item.Held.Held, World.Router, World.with_offer, View.LinkEnd, View.at_port, declared.network.Offer.Offer}
 use Rattle.network_model.specs.Step.{router_publishing, router_releasing, ripe_front, session_at}
 use Rattle.loop_freedom.specs.Network.{Topology}
 use Rattle.router_core.specs.Alone.{router_publishing_some, may_forget, router_forgetting}
@@ -24,12 +24,14 @@ pub data Happening : Type 0 where
   Loses : (e : LinkEnd) → Happening
   -- router i publishes (`publish`)
   Publishes : (i : ℕ) → Happening
-  -- router i puts the first n of its changed rows in force, and no more (`publish`, without room for all)
+  -- router i puts the first n of its rows that are due in force, and no more (`publish`, without room for all)
   PublishesSome : (i n : ℕ) → Happening
   -- router i forgets a prefix, where it may (`forget`)
   Forgets : (i : ℕ) (p : Prefix) → Happening
   -- router i releases a message (`release`)
   Releases : (i : ℕ) → Happening
+  -- router i offers these next hops from now on. Those that it published are dropped, until it publishes again
+  Offers : (i : ℕ) (offer : Offer) → Happening
   -- the process of router i ends, and one begins in its place, with a router that is made of these costs and attachments (`new`)
   BeginsAnew : (i : ℕ) (costs : List ℕ) (attachments : List Attachment) → Happening
 
@@ -46,8 +48,14 @@ IsLocalInput w i (Detached p) = ⊤
 -- what a process tells is its own, and a router that it makes has no fault; all else may happen
 abbrev pub CanHappen : Processes → Happening → Type 0
 CanHappen w (Tells i input) = IsLocalInput w i input
+CanHappen w (Takes e) = ⊤
+CanHappen w (Loses e) = ⊤
+CanHappen w (Publishes i) = ⊤
+CanHappen w (PublishesSome i n) = ⊤
+CanHappen w (Forgets i p) = ⊤
+CanHappen w (Releases i) = ⊤
+CanHappen w (Offers i offer) = ⊤
 CanHappen w (BeginsAnew i costs attachments) = make_fault costs attachments ≡ None
-CanHappen w _ = ⊤
 
 -- ---- what comes of it
 
@@ -163,6 +171,7 @@ after_happening t w (Publishes i) = record { routers = with_process i router_pub
 after_happening t w (PublishesSome i n) = record { routers = with_process i (router_publishing_some n) w.routers; coming = w.coming; last = w.last; heard = w.heard; lost = w.lost }
 after_happening t w (Forgets i p) = record { routers = with_process i (forgotten p) w.routers; coming = w.coming; last = w.last; heard = w.heard; lost = w.lost }
 after_happening t w (Releases i) = option_map_or (having_released t i w) (ripe_front (w.routers i)) w
+after_happening t w (Offers i offer) = record { routers = with_process i (with_offer offer) w.routers; coming = w.coming; last = w.last; heard = w.heard; lost = w.lost }
 after_happening t w (BeginsAnew i costs attachments) = record { routers = with_process i (λ r. made_router costs attachments) w.routers; coming = w.coming; last = last_anew t i w; heard = heard_anew i w.heard; lost = lost_anew t i w }
 
 -- the processes after all this, one after another

@@ -1,9 +1,9 @@
 -- What comes to rest has a bound: at each moment only finitely much may still happen.
 use Rattle.std.proofs.Common.{refl, sym, ap, subst, arith, inl, inr, ◌∙◌, ◌≡◌, ◌⊎◌, ℕ, zero, suc, ◌<◌, Bool, true, false, cond, List, [], ◌∷◌, ◌++◌, map, length, Option, Some, None, slice_get}
-use Rattle.no_packet_loops.proofs.Common.{None_not_Some, Some_injective, Prefix, prefix_cmp, prefix_eq, Machine, changed_rows, Held, is_due, ripe_front, Topology, LinkEnd, at_port}
-use Rattle.network_model.proofs.Common.{cases_lt, cases_Bool, both_ways, find as row_of}
+use Rattle.no_packet_loops.proofs.Common.{None_not_Some, Some_injective, Prefix, prefix_cmp, prefix_eq, Machine, Held, is_due, ripe_front, Topology, LinkEnd, at_port, cases_lt, find as row_of}
+use Rattle.network_model.proofs.Common.{cases_Bool, both_ways}
 use Rattle.no_packet_loops.proofs.Machines.{prefix_same}
-use Rattle.router_core.specs.Alone.{may_forget}
+use Rattle.router_core.specs.Alone.{may_forget, rows_due}
 use Rattle.coming_to_rest.specs.Rest.{IsFinite}
 use Rattle.coming_to_rest.proofs.Order.{lower_cases}
 use Rattle.coming_to_rest.proofs.Bounds.{IsIn, in_left, in_right, bound_of_all}
@@ -40,20 +40,20 @@ forgetting i machines = map (λ x. Forgets i x.0) machines
 
 -- at a router of so many ports
 abbrev pub at_router : Processes → ℕ → ℕ → List Happening
-at_router w d i = Publishes i ∷ Releases i ∷ (all_below (length (changed_rows (w.routers i).table)) (some_rows i) ++ (forgetting i (w.routers i).machines ++ all_below d (at_ports i)))
+at_router w d i = Publishes i ∷ Releases i ∷ (all_below (length (rows_due (w.routers i))) (some_rows i) ++ (forgetting i (w.routers i).machines ++ all_below d (at_ports i)))
 
 module _ (w : Processes) (d i : ℕ) (h : Happening) where
   -- the publications of some rows
   abbrev parts : List Happening
-  parts = all_below (length (changed_rows (w.routers i).table)) (some_rows i)
+  parts = all_below (length (rows_due (w.routers i))) (some_rows i)
 
   -- what is at a port is at its router
   of_port : (q : ℕ) → q < d → IsIn h (at_ports i q) → IsIn h (at_router w d i)
   of_port q lt here = inr (inr (in_right h parts _ (in_right h (forgetting i (w.routers i).machines) _ (in_all d (at_ports i) q h lt here))))
 
   -- so is a publication of some rows
-  of_part : (k : ℕ) → k < length (changed_rows (w.routers i).table) → IsIn h (some_rows i k) → IsIn h (at_router w d i)
-  of_part k lt here = inr (inr (in_left h parts _ (in_all (length (changed_rows (w.routers i).table)) (some_rows i) k h lt here)))
+  of_part : (k : ℕ) → k < length (rows_due (w.routers i)) → IsIn h (some_rows i k) → IsIn h (at_router w d i)
+  of_part k lt here = inr (inr (in_left h parts _ (in_all (length (rows_due (w.routers i))) (some_rows i) k h lt here)))
 
   -- and a prefix that is forgotten
   of_forgotten : IsIn h (forgetting i (w.routers i).machines) → IsIn h (at_router w d i)
@@ -114,7 +114,7 @@ either n w (PublishesSome i k) = elim (cases_lt i n) [
   | inr le ↦ inr (λ (lt, some, fewer). (omega (arith, le, lt)))
   | inl lt ↦ elim (cases_lt 0 k) [
     | inr none ↦ inr (λ (l, some, fewer). (omega (arith, none, some)))
-    | inl some ↦ elim (cases_lt k (length (changed_rows (w.routers i).table))) [ inl fewer ↦ inl (lt, some, fewer) | inr all ↦ inr (λ (l, s, fewer). (omega (arith, all, fewer))) ]
+    | inl some ↦ elim (cases_lt k (length (rows_due (w.routers i)))) [ inl fewer ↦ inl (lt, some, fewer) | inr all ↦ inr (λ (l, s, fewer). (omega (arith, all, fewer))) ]
   ]
 ]
 either n w (Forgets i p) = elim (cases_lt i n) [

@@ -1,6 +1,6 @@
 -- The two routers whose second session has begun: what still happens leads to where nothing is left.
 use Rattle.std.proofs.Common.{refl, sym, ap, subst, ◌∙◌, arith, ◌≡◌, ℕ, ◌<◌, eqb-true, Bool, true, false, List, [], length, None, slice_get}
-use Rattle.no_packet_loops.proofs.Common.{None_not_Some, false≢true, changed_rows, is_due, ripe_front, LinkEnd, at_port}
+use Rattle.no_packet_loops.proofs.Common.{None_not_Some, false≢true, is_due, ripe_front, LinkEnd, at_port}
 use Rattle.loop_freedom.proofs.Example.{pair}
 use Rattle.coming_to_rest.specs.Rest.{IsFinite}
 use Rattle.daemon_laws.specs.{Processes.Carried, Processes.Processes, Packets.is_in_session, Rest.NothingLost}
@@ -10,6 +10,7 @@ use Rattle.least_cost.proofs.Reached.{each_place, each_router}
 use Rattle.daemon_laws.proofs.RestExample.{until_up, onward, rest, agree}
 use Rattle.daemons_come_to_rest.specs.{Rest.AllAlone, Settled.NothingLeft, Settled.SameGround, Settled.SomeConverges}
 use Rattle.daemons_come_to_rest.proofs.{Kept.Kept, Kept.kept_first, Kept.kept_after, Converging.kept_alone, Converging.ground_after, Converging.still_agree}
+use Rattle.router_core.specs.Alone.{rows_due}
 
 abbrev now : Processes
 now = after_happenings pair first until_up
@@ -40,7 +41,7 @@ left : NothingLeft 2 rest
 left (Takes e) (c, at, le) = absurd (None_not_Some (sym (ap (λ (cs : List Carried). slice_get cs 0) (none_comes e)) ∙ at))
 left (Loses e) alone = refl
 left (Publishes i) (lt, due) = absurd (false≢true (sym (each_router (λ j. is_due (rest.routers j) ≡ false) refl refl i lt) ∙ due))
-left (PublishesSome i k) (lt, some, fewer) = absurd (let none : length (changed_rows (rest.routers i).table) ≡ 0 = each_router (λ j. length (changed_rows (rest.routers j).table) ≡ 0) refl refl i lt in omega (arith, none, fewer))
+left (PublishesSome i k) (lt, some, fewer) = absurd (let none : length (rows_due (rest.routers i)) ≡ 0 = each_router (λ j. length (rows_due (rest.routers j)) ≡ 0) refl refl i lt in omega (arith, none, fewer))
 left (Forgets i p) alone = refl
 left (Releases i) (h, lt, front) = absurd (None_not_Some (sym (each_router (λ j. ripe_front (rest.routers j) ≡ None) refl refl i lt) ∙ front))
 left _ alone = absurd alone

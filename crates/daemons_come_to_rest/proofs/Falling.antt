@@ -1,11 +1,11 @@
 -- Whatever still happens makes the measure of the processes fall: at how many ports that are down a report is left that is forgotten with
 -- its prefix, then what counts for all prefixes together, place by place, then the loads of all prefixes, then what is to be done.
 use Rattle.std.proofs.Common.{refl, sym, ap, subst, ◌∙◌, arith, inl, inr, ◌≡◌, ◌≢◌, ◌⊎◌, ℕ, ◌<◌, ◌≤◌, Bool, true, false, if◌then◌else◌, List, [], ◌∷◌, length, drop, Option, Some, None, is_none, slice_get, le-ltb}
-use Rattle.no_packet_loops.proofs.Common.{option_map_or, list_any, None_not_Some, Some_injective, Prefix, prefix_eq, Held, Item, Router, machine_of, kept, ripe_of, unripe_of, changed_rows, is_due, router_accepting, router_publishing, router_releasing, ripe_front, Topology, LinkEnd}
-use Rattle.network_model.proofs.Common.{cases_eq, both_ways, false_from_ne_true, infinity}
-use Rattle.router_core.specs.Alone.{router_publishing_some, may_forget, router_forgetting}
+use Rattle.no_packet_loops.proofs.Common.{option_map_or, list_any, None_not_Some, Some_injective, Prefix, prefix_eq, Held, Item, Router, machine_of, kept, ripe_of, unripe_of, is_due, router_accepting, router_publishing, router_releasing, ripe_front, Topology, LinkEnd, cases_eq, false_from_ne_true, infinity}
+use Rattle.network_model.proofs.Common.{both_ways}
+use Rattle.router_core.specs.Alone.{router_publishing_some, may_forget, router_forgetting, rows_due}
 use Rattle.c_interface.specs.declared.fault.CallFault.{CallFault}
-use Rattle.single_router.specs.Inputs.{told_fault, attachment_of}
+use Rattle.single_router.specs.{Inputs.told_fault, Inputs.attachment_of}
 use Rattle.single_router.specs.declared.input.Input.TheVariants as input
 use Rattle.no_packet_loops.proofs.Machines.{prefix_same, prefix_itself}
 use Rattle.coming_to_rest.specs.Rest.{IsFinite}
@@ -111,7 +111,7 @@ module _ (t : Topology) (F : IsFinite t) (ps : List Prefix) where
 
       -- a router publishes some of its rows
       publish_some_falls : (i n : ℕ) → v.routers i ≡ router_publishing_some n (w.routers i) → ((j : ℕ) → j ≢ i → v.routers j ≡ w.routers j) → ((e : LinkEnd) → v.coming e ≡ w.coming e)
-          → i < F.routers → 0 < n → n < length (changed_rows (w.routers i).table) → ProcessesFall w v
+          → i < F.routers → 0 < n → n < length (rows_due (w.routers i)) → ProcessesFall w v
       publish_some_falls i n here away coming within more fewer =
           by_dues
           (λ p there. alike_less t F.routers F.ports p w v (record {
@@ -238,7 +238,7 @@ module _ (t : Topology) (F : IsFinite t) (ps : List Prefix) where
         record { falls = publish_falls w (after_happening t w (Publishes i)) K G P within due; known = known_publish t F.routers ps w (after_happening t w (Publishes i)) G P; ground = λ j. (stays_of w (after_happening t w (Publishes i)) i (router_publishing (w.routers i)) P.router_is P.routers_elsewhere (λ (y : Router). y.ports) refl j, λ p. stays_of w (after_happening t w (Publishes i)) i (router_publishing (w.routers i)) P.router_is P.routers_elsewhere (λ (y : Router). attachment_of y p) refl j) }
 
     -- a router publishes some of its rows
-    goes_publishes_some : (i n : ℕ) → i < F.routers → 0 < n → n < length (changed_rows (w.routers i).table) → Goes (after_happening t w (PublishesSome i n))
+    goes_publishes_some : (i n : ℕ) → i < F.routers → 0 < n → n < length (rows_due (w.routers i)) → Goes (after_happening t w (PublishesSome i n))
     goes_publishes_some i n within more fewer =
         let v : Processes = after_happening t w (PublishesSome i n) in
         let r' : Router = router_publishing_some n (w.routers i) in

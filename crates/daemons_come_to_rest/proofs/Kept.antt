@@ -4,14 +4,15 @@ use Rattle.std.proofs.Common.{refl, sym, ap, subst, ◌∙◌, arith, ◌≡◌,
 use Rattle.no_packet_loops.proofs.Common.{and_parts, None_not_Some, Prefix, prefix_eq, opening_machine, neighbours, Router, machine_of, is_up_at, router_publishing, router_releasing, IsSound, Topology, LinkEnd}
 use Rattle.no_packet_loops.proofs.Machines.{prefix_same}
 use Rattle.router_core.specs.Alone.{router_publishing_some, may_forget, router_forgetting}
-use Rattle.single_router.specs.declared.input.Input.TheVariants as input
 use Rattle.single_router.specs.Openings.{made_router}
+use Rattle.single_router.specs.declared.input.Input.TheVariants as input
 use Rattle.coming_to_rest.proofs.Calm.{IsCalm, stays_calm, opens_calm}
 use Rattle.daemon_laws.specs.{Processes.Carried, Processes.Processes, Facts.fds_next, Facts.first_fds}
-use Rattle.daemon_laws.specs.Happenings.{Happening, Tells, Takes, Loses, Publishes, PublishesSome, Forgets, Releases, BeginsAnew, CanHappen, with_process, told_router, forgotten, after_happening, after_happenings, AllCanHappen, IsOpening, AreReached, Begun, Happened, Rewired}
+use Rattle.daemon_laws.specs.Happenings.{Happening, Tells, Takes, Loses, Publishes, PublishesSome, Forgets, Releases, BeginsAnew, CanHappen, with_process, told_router, forgotten, after_happening, after_happenings, AllCanHappen, IsOpening, AreReached, Begun, Happened, Rewired, Offers}
 use Rattle.daemon_laws.proofs.{Cases.each_but, Cases.by_take, Cases.by_release, Goes.Reacted, Goes.stays, Goes.meets_one, Telling.goes_told, Beginning.made, Beginning.begins_kept, Orderly.Orderly, Order.next_orderly, Order.begins_orderly, Placed.placed_next, Rewiring.rewired_keeps, Rewiring.rewired_orderly, Rewiring.rewired_placed, Seen.is_port_in, SomeRows.row_forgotten, SomeRows.row_beside, Moving.in_session}
 use Rattle.daemon_laws.proofs.Invariant.{router_at, session_of, Placed, Invariant}
 use Rattle.daemon_laws.proofs.Steps.{router_here, router_away, goes_here, next_keeps}
+use Rattle.network_model.specs.World.{with_offer}
 
 pub record Kept (t : Topology) (w : Processes) : Type 0 where
   pub pfd : Prefix → ℕ → ℕ
@@ -57,6 +58,7 @@ module _ (t : Topology) (w : Processes) (K : Kept t w) (p : Prefix) where
       by_may true = by_prefix (prefix_eq p k) refl
       by_may false = K.calm p i
   calm_next (Releases i) can = by_release t w (λ v. (j : ℕ) → IsCalm (machine_of (v.routers j) p)) (K.calm p) i (λ h at. calm_with i router_releasing (K.calm p i))
+  calm_next (Offers i offer) can = calm_with i (with_offer offer) (K.calm p i)
   calm_next (BeginsAnew i costs attachments) can =
       let M = made p (made_router costs attachments) (record { costs = costs; attachments = attachments; good = can; made = refl }) in
       calm_with i (λ r. made_router costs attachments) (subst IsCalm (sym M.opened) (opens_calm M.home M.neighbours_are))

@@ -1,13 +1,13 @@
 -- A packet that moves between processes: matches get longer, or stay and feasible distances fall, while it stays near.
 use Rattle.std.proofs.Common.{refl, sym, ap, subst, ◌∙◌, inl, inr, arith, ◌<◌, ◌≤◌, ◌≡◌, ◌⊎◌, ℕ, Bool, true, false, ◌&&◌, ◌||◌, if◌then◌else◌, take, is_some, eq-eqb, ne_eqb, List, [], ◌∷◌, ◌++◌, Option, Some, None, IsSome}
-use Rattle.no_packet_loops.proofs.Common.{false≢true, prefix_eq, Prefix, prefix_cmp, covers, infinity, Entry, Via, Topology, None_not_Some, Some_injective, or_parts, changed_rows, machine_of, longest_match-found}
+use Rattle.no_packet_loops.proofs.Common.{false≢true, prefix_eq, Prefix, prefix_cmp, covers, infinity, Entry, Via, Topology, None_not_Some, Some_injective, or_parts, machine_of, longest_match-found}
 use Rattle.all_packets.proofs.{Known.Fits, Known.chosen_fits, Matches.GoesBefore, Matches.found}
 use Rattle.moving_packets.specs.Moving.{IsBetter}
 use Rattle.moving_packets.proofs.Returns.{IsLow, stays_low as low_next, meets_low, IsOn, Hop, first_on, goes_on, finds_better}
 use Rattle.daemon_laws.specs.{Processes.Processes, Packets.session_leads, Packets.unmarked_leads, Facts.fd_then}
 use Rattle.daemon_laws.specs.Happenings.{Happening, Publishes, PublishesSome, Forgets, BeginsAnew, CanHappen, MayRewire, AreReached}
 use Rattle.network_model.proofs.Common.{cases_eq, find as row_of}
-use Rattle.router_core.specs.Alone.{may_forget}
+use Rattle.router_core.specs.Alone.{may_forget, rows_due}
 use Rattle.single_router.specs.Openings.{made_router}
 use Rattle.daemon_laws.proofs.Always.{Always, always, always_next, always_rewired}
 use Rattle.daemon_laws.proofs.Ways.{falls, has_row}
@@ -35,14 +35,14 @@ stays_or_chosen m (Publishes i) p k keeps = elim (cases_eq k i) [
   | inr d ↦ inl (rw (ne_eqb k i d) refl)
 ]
 stays_or_chosen m (PublishesSome i n) p k keeps = elim (cases_eq k i) [
-  | inl e ↦ by_row e (is_some (row_of prefix_cmp p (take n (changed_rows ((m.processes).routers i).table)))) refl
+  | inl e ↦ by_row e (is_some (row_of prefix_cmp p (take n (rows_due ((m.processes).routers i))))) refl
   | inr d ↦ inl (rw (ne_eqb k i d) refl)
 ]
   where
-    next_is : k ≡ i → (moment_next m (PublishesSome i n)).fd_published p k ≡ fd_then p (take n (changed_rows ((m.processes).routers i).table)) ((m.processes).routers i) (m.fd_published p k)
-    next_is e = ap (λ b. if b then fd_then p (take n (changed_rows ((m.processes).routers i).table)) ((m.processes).routers i) (m.fd_published p k) else m.fd_published p k) (eq-eqb k i e)
+    next_is : k ≡ i → (moment_next m (PublishesSome i n)).fd_published p k ≡ fd_then p (take n (rows_due ((m.processes).routers i))) ((m.processes).routers i) (m.fd_published p k)
+    next_is e = ap (λ b. if b then fd_then p (take n (rows_due ((m.processes).routers i))) ((m.processes).routers i) (m.fd_published p k) else m.fd_published p k) (eq-eqb k i e)
 
-    by_row : k ≡ i → (b : Bool) → is_some (row_of prefix_cmp p (take n (changed_rows ((m.processes).routers i).table))) ≡ b
+    by_row : k ≡ i → (b : Bool) → is_some (row_of prefix_cmp p (take n (rows_due ((m.processes).routers i)))) ≡ b
         → ((moment_next m (PublishesSome i n)).fd_published p k ≡ m.fd_published p k) ⊎ ((moment_next m (PublishesSome i n)).fd_published p k ≡ moment_fd m p k)
     by_row e true is = inr (next_is e ∙ ap (λ b. if b then (machine_of ((m.processes).routers i) p).fd else m.fd_published p k) is ∙ ap (λ (j : ℕ). (machine_of ((m.processes).routers j) p).fd) (sym e))
     by_row e false is = inl (next_is e ∙ ap (λ b. if b then (machine_of ((m.processes).routers i) p).fd else m.fd_published p k) is)

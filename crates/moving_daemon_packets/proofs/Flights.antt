@@ -2,11 +2,12 @@
 use Rattle.std.proofs.Common.{refl, sym, ap, subst, ◌∙◌, inl, inr, arith, ◌<◌, ◌≤◌, ◌≡◌, ◌≢◌, ◌⊎◌, ℕ, zero, suc, Bool, true, false, ◌&&◌, ◌==◌, if◌then◌else◌, is_none, eq-eqb, eqb-true, List, [], ◌∷◌, Some, None, slice_get, option_and_then}
 use Rattle.no_packet_loops.proofs.Common.{option_map_or, false≢true, and_parts, and_from, Prefix, prefix_cmp, Via, Port, Router, Topology, LinkEnd, at_port, None_not_Some, session_at, next_hop, is_next_hop, router_publishing, router_releasing, changed_at}
 use Rattle.network_model.proofs.Common.{cases_eq, find as row_of}
+use Rattle.network_model.specs.World.{with_offer}
 use Rattle.router_core.specs.Alone.{router_publishing_some}
 use Rattle.single_router.specs.{declared.input.Input.Input, Inputs.told_fault, Inputs.router_after, Openings.made_router}
 use Rattle.single_router.specs.declared.input.Input.TheVariants as input
 use Rattle.daemon_laws.specs.{Processes.Processes, Packets.is_in_session, Packets.session_leads, Packets.lets_in}
-use Rattle.daemon_laws.specs.Happenings.{Happening, Tells, Takes, Loses, Publishes, PublishesSome, Forgets, Releases, BeginsAnew, CanHappen, with_process, told_router, forgotten, after_happening, link_stays, MayRewire}
+use Rattle.daemon_laws.specs.Happenings.{Happening, Tells, Takes, Loses, Publishes, PublishesSome, Forgets, Releases, BeginsAnew, CanHappen, with_process, told_router, forgotten, after_happening, link_stays, MayRewire, Offers}
 use Rattle.daemon_laws.proofs.Anew.{Anew, Here, Across, Away, anew_at}
 use Rattle.daemon_laws.proofs.{Cases.by_take, Cases.by_release, Numbers.forgotten_ports, Steps.router_here, Steps.router_away, Walks.control_reached, Walks.row_reached, Walks.let_in}
 use Rattle.daemon_laws.proofs.Rewiring.{Stays, stays_far, stays_at, same_at}
@@ -105,6 +106,7 @@ module _ (t : Topology) (w : Processes) (f : LinkEnd) (session : ℕ) where
   was_in (Forgets i p) can stays h = inl (changed_in i (forgotten p) (forgotten_ports p) h)
   was_in (Releases i) can stays is = by_release t w (λ v. is_in_session v f session ≡ true → (is_in_session w f session ≡ true) ⊎ (w.last f < session)) (λ h. inl h) i
       (λ x at h. inl (changed_in i router_releasing (λ r. refl) h)) is
+  was_in (Offers i offer) can stays h = inl (changed_in i (with_offer offer) (λ r. refl) h)
   was_in (BeginsAnew i costs attachments) can stays h =
       inl (ap (λ (r : Router). is_up_in r.ports f.port session) (sym (router_away i (λ r. made_router costs attachments) w.routers f.router (λ e. stays i costs attachments refl (sym e)))) ∙ h)
 

@@ -1,9 +1,9 @@
 -- While a router publishes nothing, no row that leads to it has a feasible distance as low as that at which a packet left it: so one that stays near does not come back.
 use Rattle.std.proofs.Common.{refl, sym, ap, subst, ◌∙◌, inl, inr, arith, ◌<◌, ◌≤◌, ◌≡◌, ◌≢◌, ◌⊎◌, ℕ, suc, ◌+◌, Bool, true, false, ◌&&◌, ◌==◌, if◌then◌else◌, List, [], ◌∷◌, ◌++◌, take, Option, Some, None, IsSome, eq-eqb, ne_eqb}
-use Rattle.no_packet_loops.proofs.Common.{false≢true, Prefix, prefix_cmp, prefix_eq, infinity, Entry, Topology, changed_rows, machine_of}
+use Rattle.no_packet_loops.proofs.Common.{false≢true, Prefix, prefix_cmp, prefix_eq, infinity, Entry, Topology, machine_of}
 use Rattle.network_model.proofs.Common.{cases_eq, cases_lt, find as row_of}
 use Rattle.all_packets.proofs.Known.{Fits}
-use Rattle.router_core.specs.Alone.{may_forget}
+use Rattle.router_core.specs.Alone.{may_forget, rows_due}
 use Rattle.single_router.specs.Openings.{made_router}
 use Rattle.daemon_laws.specs.{Processes.Processes, Packets.session_leads, Packets.unmarked_leads, Facts.fd_then, Facts.fds_next}
 use Rattle.daemon_laws.specs.Happenings.{Happening, Publishes, PublishesSome, Forgets, BeginsAnew, CanHappen, MayRewire}
@@ -37,7 +37,7 @@ same_publications i (Rewires t ∷ es) = same_publications i es
 -- where it publishes nothing, that stays
 same_fd : (p : Prefix) (w : Processes) (h : Happening) (fds : ℕ → ℕ) (i : ℕ) → happening_publishes i h ≡ false → fds_next p w h fds i ≡ fds i
 same_fd p w (Publishes j) fds i quiet = ap (λ b. if b then (machine_of (w.routers j) p).fd else fds i) quiet
-same_fd p w (PublishesSome j n) fds i quiet = ap (λ b. if b then fd_then p (take n (changed_rows (w.routers j).table)) (w.routers j) (fds i) else fds i) quiet
+same_fd p w (PublishesSome j n) fds i quiet = ap (λ b. if b then fd_then p (take n (rows_due (w.routers j))) (w.routers j) (fds i) else fds i) quiet
 same_fd p w (Forgets j k) fds i quiet = ap (λ b. if b && prefix_eq p k && may_forget k (w.routers j) then infinity else fds i) quiet
 same_fd p w (BeginsAnew j costs attachments) fds i quiet = ap (λ b. if b then (machine_of (made_router costs attachments) p).fd else fds i) quiet
 same_fd p w _ fds i quiet = refl
@@ -45,7 +45,7 @@ same_fd p w _ fds i quiet = refl
 -- that of a router depends on its own before alone
 own_fd : (p : Prefix) (w : Processes) (h : Happening) (fds fds' : ℕ → ℕ) (j : ℕ) → fds j ≡ fds' j → fds_next p w h fds j ≡ fds_next p w h fds' j
 own_fd p w (Publishes i) fds fds' j e = ap (λ (x : ℕ). if j == i then (machine_of (w.routers i) p).fd else x) e
-own_fd p w (PublishesSome i n) fds fds' j e = ap (λ (x : ℕ). if j == i then fd_then p (take n (changed_rows (w.routers i).table)) (w.routers i) x else x) e
+own_fd p w (PublishesSome i n) fds fds' j e = ap (λ (x : ℕ). if j == i then fd_then p (take n (rows_due (w.routers i))) (w.routers i) x else x) e
 own_fd p w (Forgets i k) fds fds' j e = ap (λ (x : ℕ). if (j == i) && prefix_eq p k && may_forget k (w.routers i) then infinity else x) e
 own_fd p w (BeginsAnew i costs attachments) fds fds' j e = ap (λ (x : ℕ). if j == i then (machine_of (made_router costs attachments) p).fd else x) e
 own_fd p w _ fds fds' j e = e

@@ -10,7 +10,7 @@ pub record Patch : Type 0 where
   pub rows : List (Prefix × Entry)
 
 -- a table with these rows set, in order
-abbrev pub with_rows : List (Prefix × Entry) → List (Prefix × Entry) → List (Prefix × Entry)
+abbrev pub with_rows : {X : Type 0} → List (Prefix × X) → List (Prefix × X) → List (Prefix × X)
 with_rows [] table = table
 with_rows (r ∷ rs) table = with_rows rs (put prefix_cmp r.0 r.1 table)
 

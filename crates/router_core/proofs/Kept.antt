@@ -1,7 +1,7 @@
 -- What every router keeps, whatever it takes, publishes or releases.
 use Rattle.std.proofs.Common.{refl, sym, ap, ◌∙◌, ◌≡◌, ℕ, ◌≤◌, Bool, true, false, cond, if◌then◌else◌, List, [], ◌∷◌, map, length, Some, None, unwrap_or, eq-eqb}
 use Rattle.network_model.proofs.Common.{AllByRecursion, by_order, eq_by_cmp, Prefix, prefix_cmp, Machine, reaction, opening_machine, Router, machine_of, neighbours, opening_router, chosen_rows, entry_of, session_at, reactions, router_noticing, router_meeting, with_rows, map-put, sorted-map, sorted-put, find as row_of, put, is_sorted, filter, Ordering, Less, Equal, Greater}
-use Rattle.network_model.specs.{declared.machine.Event.Event, declared.network.Port.Port, declared.route.Entry.TheVariants.Local, declared.route.Entry.TheVariants.Via}
+use Rattle.network_model.specs.{declared.machine.Event.Event, declared.network.Port.Port, declared.route.Entry.TheVariants.Local, declared.route.Entry.TheVariants.Via, World.NextHops}
 use Rattle.route_table.specs.Place.{without}
 use Rattle.route_table.proofs.{PrefixPlaces.sorted-without, Forgotten.map-without}
 use Rattle.router_core.specs.Parts.{HasPorts, IsRouter, ups, port_ups, ups_after}
@@ -56,6 +56,7 @@ kept-noticing e ports r kept few moves = record {
   sorted = sorted-reacted e r.machines ∙ kept.sorted;
   same_ports = all-reacted e r.ports ports r.machines moves kept.same_ports;
   rows = refl;
+  hops = kept.hops;
 }
 
 -- ---- an event of one prefix
@@ -69,6 +70,7 @@ kept-meeting p e r kept still = record {
   sorted = sorted-put r.machines p _ kept.sorted;
   same_ports = all-put (HasPorts r.ports) p _ r.machines (λ q. ups-reaction (machine_of r p) e ∙ ap (ups_after e) (machine_of-ports r p kept) ∙ still) kept.same_ports;
   rows = refl;
+  hops = kept.hops;
 }
 
 -- the rows that it makes: that of its prefix is set
@@ -97,6 +99,7 @@ kept-opening ports costs few sorted = record {
   sorted = sorted-map prefix_cmp (λ cost. opening_machine (Some cost) (neighbours ports)) costs ∙ sorted;
   same_ports = all-opening ports costs;
   rows = entries-opening ports costs;
+  hops = refl;
 }
 
 -- ---- a prefix that is forgotten
@@ -115,6 +118,7 @@ kept-forgetting p r kept = record {
   sorted = sorted-without r.machines p kept.sorted;
   same_ports = all-filter (HasPorts r.ports) _ r.machines kept.same_ports;
   rows = ap (without p) kept.rows ∙ sym (map-without (entry_of r.ports) p r.machines);
+  hops = ap (λ (x : NextHops). record x { published = without p x.published }) kept.hops;
 }
 
 -- the machine that is found has as many ports as the router
