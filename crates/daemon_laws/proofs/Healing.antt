@@ -68,8 +68,8 @@ whole_always _ _ (Begun t w B) = λ e n valid near far. B.never_lost e n
 whole_always _ _ (Happened t w h M can) =
     let p : Prefix = record { addr = 0; len = 0 } in
     let A = always p t w M in
-    whole_next t w (whole_always t w M) p A.orderly h
+    whole_next t w (whole_always t w M) p A.kept.orderly h
 whole_always _ _ (Rewired t t' w M R) =
     let p : Prefix = record { addr = 0; len = 0 } in
     let A = always p t w M in
-    whole_rewired t t' p (fds_reached t w M p) w (whole_always t w M) A.invariant A.orderly R
+    whole_rewired t t' p (fds_reached t w M p) w (whole_always t w M) A.kept.invariant A.kept.orderly R

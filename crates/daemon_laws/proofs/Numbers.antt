@@ -147,13 +147,13 @@ known_always _ _ (Begun t w B) e valid apart clean = (let z = B.never_up e in om
 known_always _ _ (Happened t w h M can) e valid apart clean =
     let p : Prefix = record { addr = 0; len = 0 } in
     let A = always p t w M in
-    known_next t w e (known_always t w M e valid apart clean.1) p (fds_reached t w M p) A.invariant apart h can clean.0
+    known_next t w e (known_always t w M e valid apart clean.1) p (fds_reached t w M p) A.kept.invariant apart h can clean.0
 known_always _ _ (Rewired t t' w M R) e valid apart clean =
     let p : Prefix = record { addr = 0; len = 0 } in
     let A = always p t w M in
     let fds = fds_reached t w M p in
-    known_rewired t t' p fds w A.invariant A.orderly R e valid (λ on.
-    let S = stays_at t t' p fds w A.invariant A.orderly R e on in
+    known_rewired t t' p fds w A.kept.invariant A.kept.orderly R e valid (λ on.
+    let S = stays_at t t' p fds w A.kept.invariant A.kept.orderly R e on in
     known_always t w M e S.was (subst (λ (f : LinkEnd). e.router ≢ f.router) S.far_is apart) (clean on))
 
 pub numbers_suffice : NumbersSuffice

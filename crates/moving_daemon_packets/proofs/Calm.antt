@@ -66,19 +66,19 @@ marked m K b p i k e row lead = lead
 
 -- and where they carry none
 pub unmarked_is : Sound unmarked_leads
-unmarked_is m K true p i k e row lead = unmarked m.topology p (m.fd_published p) m.processes (K p).invariant (K p).orderly i k e (inr row) lead
-unmarked_is m K false p i k e row lead = unmarked m.topology p (m.fd_published p) m.processes (K p).invariant (K p).orderly i k e (inl row) lead
+unmarked_is m K true p i k e row lead = unmarked m.topology p (m.fd_published p) m.processes (K p).kept.invariant (K p).kept.orderly i k e (inr row) lead
+unmarked_is m K false p i k e row lead = unmarked m.topology p (m.fd_published p) m.processes (K p).kept.invariant (K p).kept.orderly i k e (inl row) lead
 
 module _ (m : Moment) (K : IsKept m) where
   -- a router whose feasible distance is below infinity has a row that goes with it
   pub row_there : (c : Bool) (p : Prefix) (i : ℕ) → fd_shown c m p i < infinity → IsSome (row_of prefix_cmp p (rows_shown c m i))
   row_there c p i lt =
-      let here = has_row m.topology m.processes m.fd_published (λ x. (K x).invariant) (λ x. (K x).shown) c p i lt in
+      let here = has_row m.topology m.processes m.fd_published (λ x. (K x).kept.invariant) (λ x. (K x).shown) c p i lt in
       subst IsSome (sym here.1) refl
 
   -- the feasible distance fits the row
   pub fits : (c : Bool) (p : Prefix) (i : ℕ) → Fits (row_of prefix_cmp p (rows_shown c m i)) (fd_shown c m p i)
-  fits true p i = chosen_fits p ((m.processes).routers i) ((K p).shown i).follows ((K p).invariant.sound i)
+  fits true p i = chosen_fits p ((m.processes).routers i) ((K p).shown i).follows ((K p).kept.invariant.sound i)
   fits false p i = ((K p).shown i).fits
 
 -- a row by which a packet goes on is near, if it is of the prefix by which the packet came
@@ -97,7 +97,7 @@ module _ (leads : LeadsOn) (sound : Sound leads) where
       covered = (longest_match-found addr t.table (p, (F.by).entry) (F.by).matched).covered;
       finite = by_entry (F.by).entry (subst (λ (o : Option Entry). Fits o (fd_shown (t.is_new p) m p i)) F.is_row (fits m K (t.is_new p) p i)) leads_in;
       before = λ q c some. by_row q c (row_of prefix_cmp q t.table) refl some;
-      lower = λ d. falls m.topology m.processes m.fd_published (λ x. (K x).invariant) (λ x. (K x).shown) (t.is_new p) d p i k (F.by).entry F.is_row leads_in;
+      lower = λ d. falls m.topology m.processes m.fd_published (λ x. (K x).kept.invariant) (λ x. (K x).shown) (t.is_new p) d p i k (F.by).entry F.is_row leads_in;
     }
       where
         by_entry : (e : Entry) → Fits (Some e) (fd_shown (t.is_new p) m p i) → session_leads m.topology m.processes i e ≡ Some k → fd_shown (t.is_new p) m p i < infinity

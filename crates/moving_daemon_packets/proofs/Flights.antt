@@ -133,13 +133,13 @@ stays_there m e session h S i costs attachments is = (subst (Survives e session 
 abbrev any : Prefix
 any = record { addr = 0; len = 0 }
 
-stays : (m : Moment) (K : IsKept m) (t : Topology) (e : LinkEnd) (R : MayRewire m.topology t m.processes) → link_stays m.topology t e ≡ true → Stays m.topology t any (m.fd_published any) m.processes (K any).invariant (K any).orderly R e
-stays m K t e R on = stays_at m.topology t any (m.fd_published any) m.processes (K any).invariant (K any).orderly R e on
+stays : (m : Moment) (K : IsKept m) (t : Topology) (e : LinkEnd) (R : MayRewire m.topology t m.processes) → link_stays m.topology t e ≡ true → Stays m.topology t any (m.fd_published any) m.processes (K any).kept.invariant (K any).kept.orderly R e
+stays m K t e R on = stays_at m.topology t any (m.fd_published any) m.processes (K any).kept.invariant (K any).kept.orderly R e on
 
 last_same : (m : Moment) (K : IsKept m) (t : Topology) (e : LinkEnd) (R : MayRewire m.topology t m.processes) → link_stays m.topology t e ≡ true → ((moment_rewired m t).processes).last (t.far e) ≡ (m.processes).last ((m.topology).far e)
 last_same m K t e R on =
-    let far = stays_far m.topology t any (m.fd_published any) m.processes (K any).invariant (K any).orderly R e on in
-    let same = same_at m.topology t any (m.fd_published any) m.processes (K any).invariant (K any).orderly R (t.far e) far in
+    let far = stays_far m.topology t any (m.fd_published any) m.processes (K any).kept.invariant (K any).kept.orderly R e on in
+    let same = same_at m.topology t any (m.fd_published any) m.processes (K any).kept.invariant (K any).kept.orderly R (t.far e) far in
     same.last ∙ ap (m.processes).last (stays m K t e R on).far_is
 
 -- the link is there, and leads where it led
@@ -192,8 +192,8 @@ kept_after m K e session (Rewires t ∷ es) on = kept_after (moment_rewired m t)
 
 -- no row is of a session that the other end has not been in
 reached : (m : Moment) → IsKept m → (i q session : ℕ) (p : Prefix) (b : Bool) → row_of prefix_cmp p (rows_shown b m i) ≡ Some (Via q session) → (m.topology).valid (at_port i q) ≡ true → session ≤ (m.processes).last ((m.topology).far (at_port i q))
-reached m K i q session p true row v = control_reached m.topology p (m.fd_published p) m.processes (K p).invariant i q session row v
-reached m K i q session p false row v = row_reached m.topology p (m.fd_published p) m.processes (K p).invariant (K p).orderly (at_port i q) v session
+reached m K i q session p true row v = control_reached m.topology p (m.fd_published p) m.processes (K p).kept.invariant i q session row v
+reached m K i q session p false row v = row_reached m.topology p (m.fd_published p) m.processes (K p).kept.invariant (K p).kept.orderly (at_port i q) v session
     (ap (λ o. is_next_hop q session o) (ap (option_and_then next_hop) row) ∙ and_from (q == q) (session == session) (eq-eqb q q refl) (eq-eqb session session refl))
 
 -- so the row led there
@@ -225,7 +225,7 @@ in_order m K i k q session p b es row on before leads = by_test (n.valid (at_por
         let L = same_link m K (at_port i q) session es on a in
         let then_le = last_along m K (at_port i q) session es L.valid (reached m K i q session p b row L.valid) on in
         let A = kept_after m K (at_port i q) session es on p in
-        let is = (let_in n p ((moment_after m es).fd_published p) v A.invariant A.orderly (n.far (at_port i q)) h).last_is in
+        let is = (let_in n p ((moment_after m es).fd_published p) v A.kept.invariant A.kept.orderly (n.far (at_port i q)) h).last_is in
         let same : v.heard (n.far (at_port i q)) ≡ session = omega (arith, then_le, is, before) in
         at_once m K i k q session p b es row on
         (ap (λ c. if c then Some (n.far (at_port i q)).router else None) (and_from (n.valid (at_port i q)) (is_in_session v (n.far (at_port i q)) session) a (ap (is_in_session v (n.far (at_port i q))) (sym same) ∙ h)) ∙ g)

@@ -65,7 +65,7 @@ record Bars (addr i : ℕ) (m : Moment) (l : Left addr) : Type 0 where
 stays_barred : (m : Moment) → IsKept m → (h : Happening) → CanHappen m.processes h → (addr i : ℕ) (l : Left addr) → Bars addr i m l → happening_publishes i h ≡ false → Bars addr i (moment_next m h) l
 stays_barred m K h can addr i l B quiet = record {
   fds = fds_next l.prefix m.processes h B.fds;
-  inv = next_keeps m.topology l.prefix B.fds m.processes B.inv (K l.prefix).orderly (K l.prefix).placed h can;
+  inv = next_keeps m.topology l.prefix B.fds m.processes B.inv (K l.prefix).kept.orderly (K l.prefix).kept.placed h can;
   above = (let le = B.above in let same = same_fd l.prefix m.processes h B.fds i quiet in omega (arith, le, same));
   beside = λ j d. own_fd l.prefix m.processes h B.fds (m.fd_published l.prefix) j (B.beside j d);
   unknown = λ q none. same_fd q m.processes h (m.fd_published q) i quiet ∙ B.unknown q none;
@@ -73,16 +73,16 @@ stays_barred m K h can addr i l B quiet = record {
 
 -- and where ports get other neighbours
 rewired_barred : (m : Moment) → IsKept m → (t : Topology) → MayRewire m.topology t m.processes → (addr i : ℕ) (l : Left addr) → Bars addr i m l → Bars addr i (moment_rewired m t) l
-rewired_barred m K t R addr i l B = record { fds = B.fds; inv = rewired_keeps m.topology t l.prefix B.fds m.processes B.inv (K l.prefix).orderly R; above = B.above; beside = B.beside; unknown = B.unknown }
+rewired_barred m K t R addr i l B = record { fds = B.fds; inv = rewired_keeps m.topology t l.prefix B.fds m.processes B.inv (K l.prefix).kept.orderly R; above = B.above; beside = B.beside; unknown = B.unknown }
 
 module _ (leads : LeadsOn) (sound : Sound leads) where
   -- it is so where a packet leaves the router
   begins_barred : (m : Moment) (K : IsKept m) (addr i l : ℕ) (t : Met m i) (p : Prefix) (F : Forwards leads m i t addr p l) → Bars addr i m (left_by (hop leads sound m K addr i l t p F))
   begins_barred m K addr i l t p F = elim (cases_lt (m.fd_published p i) (fd_shown (t.is_new p) m p i)) [
-    | inr le ↦ record { fds = m.fd_published p; inv = (K p).invariant; above = le; beside = λ j d. refl; unknown = unknown }
+    | inr le ↦ record { fds = m.fd_published p; inv = (K p).kept.invariant; above = le; beside = λ j d. refl; unknown = unknown }
     | inl lt ↦ record {
       fds = with_one i (fd_shown (t.is_new p) m p i) (m.fd_published p);
-      inv = counted_keeps m.topology p (m.fd_published p) (with_one i (fd_shown (t.is_new p) m p i) (m.fd_published p)) m.processes (K p).invariant
+      inv = counted_keeps m.topology p (m.fd_published p) (with_one i (fd_shown (t.is_new p) m p i) (m.fd_published p)) m.processes (K p).kept.invariant
           (count_one i (fd_shown (t.is_new p) m p i) (m.fd_published p) (moment_fd m p) (record { least = omega (arith, lt); is = by_kind (t.is_new p) }));
       above = (let same : with_one i (fd_shown (t.is_new p) m p i) (m.fd_published p) i ≡ fd_shown (t.is_new p) m p i = ap (λ b. if b then fd_shown (t.is_new p) m p i else m.fd_published p i) (eq-eqb i i refl) in omega (arith, same));
       beside = λ j d. ap (λ b. if b then fd_shown (t.is_new p) m p i else m.fd_published p j) (ne_eqb j i d);
