@@ -65,7 +65,7 @@ def trace(router: Router, addr: int, through: bool = False) -> tuple[list[str], 
             return path, "delivered"
         if not isinstance(entry, Via):
             return path, "unreachable"
-        if not entry.port.link.is_up_in(entry.session):
+        if not entry.leads():
             return path, "dead link"
         first, router = prefix, entry.port.other.router
 

@@ -9,6 +9,9 @@ UP, DOWN, COST = "up", "down", "cost"
 ATTACHED, DETACHED = "attached", "detached"
 UPDATE, QUERY, REPLY = "update", "query", "reply"
 
+# Which next hops a router offers beside its rows: none, feasible ones at the least distance, or all feasible ones.
+ONE, EQUAL, FEASIBLE = "one", "equal", "feasible"
+
 # A port, the kind of the message that is sent there, and its distance.
 Send = tuple[int, str, int]
 
@@ -53,6 +56,18 @@ class Machine:
 
     def is_local(self) -> bool:
         return self.successor == len(self.ports)
+
+    def may_forward(self, port: int) -> bool:
+        """Whether packets may go over a port: the neighbour there reported less than the feasible distance, and is in reach."""
+        return self.ports[port].up and self.values[port] < self.fd and self._sum(port) < INF
+
+    def offered(self, offer: str, most: int) -> list[int]:
+        """The ports that it offers: the nearest first, of equal ones the successor, and then the lower port."""
+        ports = [] if offer == ONE or self.is_local() else [q for q in range(len(self.ports)) if self.may_forward(q)]
+        if offer == EQUAL:
+            least = self._choice()[1]
+            ports = [q for q in ports if self._sum(q) == least]
+        return sorted(ports, key=lambda q: (self._sum(q), q != self.successor, q))[:most]
 
     def _decide(self, kind: str, port: int, lost: bool) -> list[Send]:
         if lost:

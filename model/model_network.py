@@ -5,7 +5,7 @@ from collections.abc import Callable
 from itertools import cycle
 from typing import Any, NamedTuple
 
-from model_machine import COST, DOWN, INF, UP, Machine, Send
+from model_machine import COST, DOWN, INF, ONE, UP, Machine, Send
 
 MAX_SESSION = 65535
 MAX_STEPS = 1_000_000
@@ -73,6 +73,10 @@ class Via(NamedTuple):
     port: "Port"
     session: int
 
+    def leads(self) -> bool:
+        """Whether a packet goes over the link now."""
+        return self.port.link.is_up_in(self.session)
+
     def __str__(self) -> str:
         return f"via {self.port.other.router.name} {self.session}"
 
@@ -117,13 +121,19 @@ class Link:
 class Router:
     """A router: its machines, the tables of its rows, and the gate that holds what it sends."""
 
-    def __init__(self, name: str) -> None:
+    def __init__(self, name: str, offer: str = ONE, most: int = 8) -> None:
         self.name = name
+        self.offer = offer
+        self.most = most
         self.ports: list[Port] = []
         self.machines: dict[Prefix, Machine] = {}
         self.control: dict[Prefix, Entry] = {}
         self.published: dict[Prefix, Entry] = {}
         self.changed: set[Prefix] = set()
+        # The next hops beside the rows: those offered, those published, and where they differ.
+        self.offered: dict[Prefix, list[Via]] = {}
+        self.hops: dict[Prefix, list[Via]] = {}
+        self.changed_hops: set[Prefix] = set()
         # The costs at which it is attached, and the notices of them that it has yet to take.
         self.attachments: dict[Prefix, int] = {}
         self.notices: deque[AttachmentNotice] = deque()
@@ -137,9 +147,10 @@ class Router:
         self.attachments[prefix] = cost
         self.machines[prefix] = Machine(self.ports, cost)
         self.control[prefix] = self.published[prefix] = LOCAL
+        self.hops[prefix] = []
 
     def is_due(self) -> bool:
-        return bool(self.changed) or self.ripe < len(self.gate)
+        return bool(self.changed or self.changed_hops) or self.ripe < len(self.gate)
 
     def accept(self, number: int, item: Notice | Message) -> None:
         """Takes an item from a port."""
@@ -176,6 +187,12 @@ class Router:
             self.changed.discard(prefix)
         else:
             self.changed.add(prefix)
+        ports = self.machines[prefix].offered(self.offer, self.most)
+        self.offered[prefix] = [Via(self.ports[q], self.ports[q].session) for q in ports]
+        if self.offer == ONE or self.offered[prefix] == self.hops.get(prefix):
+            self.changed_hops.discard(prefix)
+        else:
+            self.changed_hops.add(prefix)
 
     def _entry(self, machine: Machine) -> Entry:
         if machine.successor is None:
@@ -189,6 +206,9 @@ class Router:
         for prefix in self.changed:
             self.published[prefix] = self.control[prefix]
         self.changed.clear()
+        for prefix in self.changed_hops:
+            self.hops[prefix] = self.offered[prefix]
+        self.changed_hops.clear()
         self.ripe = len(self.gate)
         self.generation += 1
 
@@ -207,11 +227,13 @@ Step = tuple[Callable[..., None], *tuple[Any, ...]]
 class Network:
     """Routers and links, and the steps that they do."""
 
-    def __init__(self, routers: list[str], links: list[str], prefixes: list[str]) -> None:
+    def __init__(
+        self, routers: list[str], links: list[str], prefixes: list[str], offer: str = ONE, most: int = 8
+    ) -> None:
         self.steps = 0
         # How many messages of each kind were put on links.
         self.sent: Counter[str] = Counter()
-        self.routers = {name: Router(name) for name in routers}
+        self.routers = {name: Router(name, offer, most) for name in routers}
         self.links: list[Link] = []
         # The number of a router's port, by the names of the router and of the other end.
         self.numbers: dict[tuple[str, str], int] = {}
@@ -281,11 +303,14 @@ class Network:
             raise Refused("17 NothingDue")
         router.publish()
 
+    def may_release(self, router: Router) -> bool:
+        return router.ripe > 0
+
     def release(self, router: Router) -> None:
-        if not router.ripe:
+        if not self.may_release(router):
             raise Refused("18 NothingRipe")
         held = router.gate.popleft()
-        router.ripe -= 1
+        router.ripe = max(0, router.ripe - 1)
         if held.port.link.is_up_in(held.session):
             held.port.other.put(held.message)
             self.sent[held.message.kind] += 1
@@ -299,7 +324,7 @@ class Network:
 
     def next_step(self, router: Router) -> Step | None:
         """What a router does in its turn."""
-        if router.ripe:
+        if self.may_release(router):
             return self.release, router
         if router.is_due():
             return self.publish, router

@@ -5,12 +5,12 @@ machine is that of the plain model. Functions that say what may be, and function
 `trials/processes` can plant an error in one of them."""
 
 from collections import deque
-from collections.abc import Callable
+from collections.abc import Callable, Iterable
 from dataclasses import dataclass
 from ipaddress import IPv4Network
 from typing import Any, NamedTuple
 
-from model_machine import COST, DOWN, INF, QUERY, REPLY, UP, Machine, Send
+from model_machine import COST, DOWN, EQUAL, INF, ONE, QUERY, REPLY, UP, Machine, Send
 
 # A prefix is its place here. They are in order, by address, then by length.
 PREFIXES = [IPv4Network(it) for it in ("0.0.0.0/0", "10.0.0.0/8", "10.1.0.0/16", "10.1.2.0/24", "10.2.0.0/16")]
@@ -26,6 +26,8 @@ REFUSED, STANDS = "a message of the present session is refused", "a row of a for
 STUCK = "a machine has no step for what it meets"
 ACTIVE, NOT_BEST = "a machine is active at rest", "a row at rest is not the best"
 NOT_WHOLE = "something counts as lost in a session that both ends may still come into"
+OTHER_HOPS = "other next hops are in force at rest than are offered"
+HOP_NOT_BEST = "a next hop at rest does not lead nearer, or one of equal cost not along a least walk"
 
 
 class Via(NamedTuple):
@@ -81,20 +83,24 @@ class Port:
 class Router:
     """The router of one process: its machines, its rows, and what it holds."""
 
-    def __init__(self, costs: list[int], attachments: dict[int, int]) -> None:
+    def __init__(self, costs: list[int], attachments: dict[int, int], machine: type[Machine] = Machine) -> None:
+        self.machine = machine
         self.ports = [Port(cost) for cost in costs]
         self.attachments = dict(attachments)
-        self.machines = {prefix: Machine(self.ports, cost) for prefix, cost in attachments.items()}
+        self.machines = {prefix: machine(self.ports, cost) for prefix, cost in attachments.items()}
         self.control: dict[int, Entry] = dict.fromkeys(attachments, LOCAL)
         self.published = dict(self.control)
+        # Which next hops it offers beside its rows, and those in force.
+        self.offer, self.most = ONE, 0
+        self.hops: dict[int, list[Via]] = {}
         self.gate: deque[Message] = deque()
         self.ripe = 0
-        # Rows of the process before that still stand. While no port is up any of them may be the longest match.
-        self.left: dict[int, Entry] = {}
+        # Rows and next hops of the process before that still stand. While no port is up a packet may go by any of them.
+        self.left: dict[int, set[Entry]] = {}
 
     def meets(self, prefix: int, event: Callable[[Machine], list[Send]]) -> None:
         """The machine of a prefix meets an event. What it sends is held, and its row is chosen anew."""
-        machine = self.machines.get(prefix) or self.machines.setdefault(prefix, Machine(self.ports, None))
+        machine = self.machines.get(prefix) or self.machines.setdefault(prefix, self.machine(self.ports, None))
         for port, kind, value in event(machine):
             self.gate.append(Message(port, self.ports[port].session, kind, prefix, value))
         q = machine.successor
@@ -104,19 +110,33 @@ class Router:
         for prefix in sorted(self.machines):
             self.meets(prefix, lambda machine: machine.meet(kind, port))
 
+    def over(self, ports: Iterable[int]) -> list[Via]:
+        return [Via(q, self.ports[q].session) for q in ports]
+
+    def offered(self, prefix: int) -> list[Via]:
+        return self.over(self.machines[prefix].offered(self.offer, self.most))
+
+    def feasible(self, prefix: int) -> list[Via]:
+        """The next hops that it might put in force now."""
+        machine = self.machines.get(prefix)
+        return self.over(q for q in range(len(self.ports)) if machine and machine.may_forward(q))
+
     def changed(self) -> list[int]:
-        """The prefixes of the rows that are chosen and not in force, in order."""
-        return sorted(prefix for prefix, entry in self.control.items() if entry != self.published.get(prefix))
+        """The prefixes whose rows are chosen and not in force, or beside whose rows other next hops are, in order."""
+        return sorted(prefix for prefix, entry in self.control.items()
+                      if entry != self.published.get(prefix) or (self.offer != ONE and self.offered(prefix) != self.hops.get(prefix)))
 
     def longest(self, covers: list[int]) -> list[Entry]:
-        """The rows that match longest, of those in force and of the chosen ones."""
-        return [next((rows[p] for p in covers if p in rows), UNREACHABLE) for rows in (self.published, self.control)]
+        """Where a packet may go by the rows that match longest, of those in force and of the chosen ones."""
+        shown = next(([self.published[p], *self.hops.get(p, [])] for p in covers if p in self.published), [])
+        return shown + next(([self.control[p], *self.feasible(p)] for p in covers if p in self.control), [])
 
     def of_both_kinds(self, covers: list[int]) -> list[Entry]:
-        """The rows that may match longest where some of the chosen ones are in force already."""
-        entries: list[Entry] = [self.left[prefix] for prefix in covers if prefix in self.left]
+        """Where it may go while rows and next hops are put in force, some of them and then the others."""
+        entries = [entry for prefix in covers for entry in self.left.get(prefix, ())]
         for prefix in covers:
             entries += [rows[prefix] for rows in (self.control, self.published) if prefix in rows]
+            entries += [*self.hops.get(prefix, []), *self.feasible(prefix)]
             if prefix in self.published:
                 break
         return entries
@@ -126,9 +146,11 @@ class Processes:
     """Routers, what is on its way to each end, the last session of each of which something is left, that of the message
     that it took last, and of which sessions a message to it was lost."""
 
+    machine = Machine
+
     def __init__(self, plan: Plan) -> None:
         self.prefixes, self.far = plan.prefixes, dict(plan.far)
-        self.routers = [Router(costs, attachments) for costs, attachments in zip(plan.costs, plan.attachments)]
+        self.routers = [Router(costs, attachments, self.machine) for costs, attachments in zip(plan.costs, plan.attachments)]
         self.coming: dict[End, deque[Message]] = {end: deque() for end in plan.far}
         self.last = dict.fromkeys(plan.far, 0)
         self.heard = dict.fromkeys(plan.far, 0)
@@ -257,12 +279,14 @@ class Processes:
     def publishes(self, i: int) -> str:
         router = self.routers[i]
         router.published, router.ripe = dict(router.control), len(router.gate)
+        router.hops = {prefix: router.offered(prefix) for prefix in router.control}
         return "publishes"
 
     def publishes_some(self, i: int, n: int) -> str:
         router = self.routers[i]
         changed = router.changed()
-        router.published.update((prefix, router.control[prefix]) for prefix in self.part(changed, n))
+        for prefix in self.part(changed, n):
+            router.published[prefix], router.hops[prefix] = router.control[prefix], router.offered(prefix)
         return f"publishes {'all rows, and ripens nothing' if n >= len(changed) else 'some rows'}"
 
     def forgets(self, i: int, prefix: int) -> str:
@@ -271,6 +295,7 @@ class Processes:
             return "may not forget"
         del router.machines[prefix], router.control[prefix]
         router.published.pop(prefix, None)
+        router.hops.pop(prefix, None)
         shorter = next((router.published[p] for p in COVERS[prefix] if p in router.published), None)
         if isinstance(shorter, Via):
             shorter = "leads on" if self.leads(End(i, shorter.port), shorter.session) else "is dead"
@@ -285,6 +310,11 @@ class Processes:
         sent = self.sent(router.ports[message.port], message)
         self.coming[self.far[End(i, message.port)]].extend(sent)
         return "releases" if sent else "releases what is dropped"
+
+    def offers(self, i: int, offer: str, most: int) -> str:
+        router = self.routers[i]
+        router.offer, router.most, router.hops = offer, most, {}
+        return f"offers {offer}"
 
     def own_session(self, end: End) -> int:
         """The last session that the process at an end was in."""
@@ -312,9 +342,11 @@ class Processes:
             self.lost[end] = {session for session in self.lost[end] if not self.heals(i, anew, end, session)}
             self.heard[end] = 0 if end.router == i else self.heard[end]
         self.last = anew
-        left = self.routers[i].left | self.routers[i].published
-        self.routers[i] = Router(costs, attachments)
-        self.routers[i].left = left
+        old = self.routers[i]
+        self.routers[i] = Router(costs, attachments, self.machine)
+        for prefix, entry in old.published.items():
+            self.routers[i].left[prefix] = {entry, *old.hops.get(prefix, []), *old.left.pop(prefix, ())}
+        self.routers[i].left |= old.left
         return f"begins anew{', and sessions may be used again' * is_less}"
 
     def clears(self, i: int) -> None:
@@ -364,14 +396,15 @@ class Processes:
         """What a router forwards by, and what it lets in."""
         it = self.routers[i]
         heard = [self.heard[End(i, port)] for port in range(len(it.ports))]
-        return dict(it.control), dict(it.published), it.left, [(port.up, port.session) for port in it.ports], heard
+        hops = [[*it.hops.get(prefix, []), None, *it.feasible(prefix)] for prefix in self.prefixes]
+        return dict(it.control), dict(it.published), hops, it.left, [(port.up, port.session) for port in it.ports], heard
 
     # ---- what is claimed
 
     def wrong(self, are_rows_same: bool = False) -> list[str]:
         """What is wrong after a step."""
         wrong = list(self.faults)
-        if not all(it.machines.keys() == it.control.keys() >= it.published.keys() for it in self.routers):
+        if not all(it.machines.keys() == it.control.keys() >= it.published.keys() >= it.hops.keys() for it in self.routers):
             wrong.append(STANDS)
         if any(max(lost) > max(self.last[end], self.last[self.far[end]]) for end, lost in self.lost.items() if lost):
             wrong.append(NOT_WHOLE)
@@ -417,8 +450,19 @@ class Processes:
         if any(machine.origin is not None for router in self.routers for machine in router.machines.values()):
             return [ACTIVE]
         bests = [(prefix, self.best(prefix)) for prefix in self.prefixes]
-        are_best = all(self.is_best(i, prefix, best) for prefix, best in bests for i in range(len(best)))
-        return [] if are_best else [NOT_BEST]
+        wrong = {NOT_BEST for prefix, best in bests for i in range(len(best)) if not self.is_best(i, prefix, best)}
+        for prefix, best in bests:
+            for i, router in enumerate(self.routers):
+                hops = router.hops.get(prefix, [])
+                wrong |= {OTHER_HOPS} if prefix in router.machines and hops != router.offered(prefix) else set()
+                wrong |= {HOP_NOT_BEST for hop in hops if not self.is_near(End(i, hop.port), hop.session, best)}
+        return sorted(wrong)
+
+    def is_near(self, end: End, session: int, best: list[int]) -> bool:
+        """Whether a next hop leads over a link that is up to a router that is nearer, and where it is of equal cost so much."""
+        near, far = best[end.router], best[self.far[end].router]
+        is_up = self.is_up_at(end) and self.port(end).is_in(session)
+        return is_up and far < near and (self.routers[end.router].offer != EQUAL or near == self.port(end).cost + far)
 
     def is_best(self, i: int, prefix: int, best: list[int]) -> bool:
         """Whether a row is of least cost: Local, or it leads over a link that is up to a router that is so much nearer."""
