@@ -1,7 +1,7 @@
 -- Two routers and two links of cost 7 between them: when one link fails, the row that leads over it leads nowhere, and the next hop beside it
 -- leads on.
 use Rattle.std.proofs.Common.{refl, sym, arith, ap, subst, inl, inr, ◌≡◌, ℕ, Bool, true, false, ◌||◌, ◌==◌, if◌then◌else◌, List, [], ◌∷◌, eqb-true}
-use Rattle.no_packet_loops.proofs.Common.{or_cases, Topology, Via, at_port}
+use Rattle.no_packet_loops.proofs.Common.{or_cases, Topology, at_port}
 use Rattle.network_model.specs.declared.network.Offer.TheVariants.{Equal}
 use Rattle.single_router.specs.Openings.{made_router}
 use Rattle.single_router.specs.declared.input.Input.TheVariants as input
@@ -76,7 +76,8 @@ some_hop_outlives = record {
   can = (tt, ((omega arith, seven), ((omega arith, seven), ((omega arith, seven), ((omega arith, seven), (tt, (tt, (tt, (tt, (tt, (tt, (tt, tt))))))))))));
   prefix = record { addr = 0; len = 0 };
   router = 1;
-  entry = Via 0 1;
+  port = 0;
+  session = 1;
   hop = record { port = 1; session = 1 };
   to = 0;
   row = refl;

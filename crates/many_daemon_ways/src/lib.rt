@@ -52,7 +52,7 @@ pub fn hops_at_rest()
     ensures in_force { HoldsAlways HopsAreInForce }
 {}
 
-/// Some next hop leads on where the row beside it leads nowhere any more.
+/// Some published next hop leads on where the row beside it, which is of a port, leads nowhere any more.
 pub fn some_hop_outlives()
     ensures { SomeHopOutlives }
 {}

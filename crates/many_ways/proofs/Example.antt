@@ -1,9 +1,10 @@
--- Four routers in a square: 10.0.0.0/8 is at the first, and the last has two ways of equal cost to it, over the second and the third.
+-- Four routers in a square, which offer up to eight next hops of equal cost: 10.0.0.0/8 is at the first, and the last publishes two next
+-- hops to it, over the second and the third.
 use Rattle.std.proofs.Common.{refl, arith, inl, inr, ◌≡◌, ℕ, List, [], ◌∷◌, ◌++◌, All, zero, suc}
 use Rattle.no_packet_loops.proofs.Common.{Prefix, IsPrefix, IsCost, Via, World, Network, opening, LinkSpec, HasCosts, IsNetwork, Runs, run, run-Runs, Step, LinkUp, LinkDown, Deliver, Publish, Release}
 use Rattle.no_packet_loops.proofs.Example.{all_of_one}
-use Rattle.network_model.specs.declared.network.Offer.TheVariants.{One}
-use Rattle.many_ways.specs.Packets.{SomeRouterHasAChoice, SomeWayOutlivesItsRow}
+use Rattle.network_model.specs.declared.network.Offer.TheVariants.{Equal}
+use Rattle.many_ways.specs.InForce.{SomeRouterHasAChoice, SomeHopOutlivesItsRow}
 
 -- a link of cost 1 between two routers
 abbrev link : ℕ → ℕ → LinkSpec
@@ -15,7 +16,7 @@ ten = record { addr = 0x0a000000; len = 8 }
 
 -- the network
 abbrev square : Network
-square = record { routers = 4; links = link 0 1 ∷ link 0 2 ∷ link 1 3 ∷ link 2 3 ∷ []; attachments = (ten, 0, 1) ∷ []; offer = One }
+square = record { routers = 4; links = link 0 1 ∷ link 0 2 ∷ link 1 3 ∷ link 2 3 ∷ []; attachments = (ten, 0, 1) ∷ []; offer = Equal 8 }
 
 -- a cost of 1 is a cost
 cost_one : IsCost 1
@@ -62,7 +63,7 @@ leads = run-Runs (opening square) steps (tt, (tt, (tt, (tt, (tt, (tt, (tt, (tt, 
 differ : ◌≡◌ {A = ℕ} 1 2 → ⊥
 differ e = omega (arith, e)
 
--- router 3 may send a packet for 10.0.0.1 to router 1, which its row names, or to router 2
+-- router 3 may send a packet for 10.0.0.1 to router 1, which its row names, or to router 2, over the next hop that it published beside that
 pub some_router_has_a_choice : SomeRouterHasAChoice
 some_router_has_a_choice = (
   square,
@@ -89,17 +90,21 @@ last_down = (run (opening square) steps_down).world
 leads_down : Runs (opening square) steps_down last_down
 leads_down = run-Runs (opening square) steps_down (tt, (tt, (tt, (tt, (tt, (tt, (tt, (tt, (tt, (tt, (tt, (tt, (tt, (tt, (tt, (tt, (tt, (tt, (tt, (tt, (tt, (tt, (tt, (tt, (tt, (tt, (tt, tt))))))))))))))))))))))))))) refl
 
--- the row of router 3 leads nowhere at once, and the way over router 2 is there still
-pub some_way_outlives_its_row : SomeWayOutlivesItsRow
-some_way_outlives_its_row = (
-  square,
-  steps_down,
-  last_down,
-  0x0a000001,
-  3,
-  2,
-  square_good,
-  leads_down,
-  refl,
-  record { prefix = ten; entry = Via 0 1; matched = refl; leads = inr (record { port = 1; session = 1 }, (1, refl), refl) },
-)
+-- the row of router 3 leads nowhere at once, and the next hop over router 2 is there still
+pub some_hop_outlives_its_row : SomeHopOutlivesItsRow
+some_hop_outlives_its_row = record {
+  network = square;
+  steps = steps_down;
+  world = last_down;
+  is_network = square_good;
+  runs = leads_down;
+  addr = 0x0a000001;
+  router = 3;
+  prefix = ten;
+  port = 0;
+  session = 1;
+  row = refl;
+  dead = refl;
+  to = 2;
+  goes_on = record { prefix = ten; entry = Via 0 1; matched = refl; leads = inr (record { port = 1; session = 1 }, (1, refl), refl) };
+}

@@ -1,8 +1,8 @@
 -- What holds of every packet of every network whose routers keep next hops beside their rows, as the model has them.
-use Rattle.std.specs.Prelude.{◌≡◌, ℕ, ◌<◌, ◌≤◌, Bool, false, if◌then◌else◌, List, [], ◌∷◌, slice_get, length}
+use Rattle.std.specs.Prelude.{◌≡◌, ◌≢◌, ℕ, ◌<◌, ◌≤◌, Bool, false, if◌then◌else◌, List, [], ◌∷◌, Some, None, slice_get, length}
 use Rattle.std.specs.Option.{option_map_or}
 use Rattle.ipv4_prefix.specs.Prefix.{Prefix}
-use Rattle.network_model.specs.{declared.route.NextHop.NextHop, NextHops.hops_at, World.World, World.Router, Step.offered_hops}
+use Rattle.network_model.specs.{declared.route.Entry.TheVariants.Via, declared.route.NextHop.NextHop, declared.step.Step.Step, NextHops.hops_at, World.World, World.Router, World.Network, World.opening, Network.IsNetwork, Run.Runs, Step.offered_hops, Forwarding.row_for, Forwarding.entry_leads}
 use Rattle.all_packets.specs.Packets.{IsWayBy}
 use Rattle.loop_freedom.specs.Network.{meets_twice}
 use Rattle.many_ways.specs.Packets.{MayGoBy}
@@ -26,3 +26,28 @@ NoHopCircles w = (addr : ℕ) (way : List ℕ) → IsHopWay w addr way → meets
 -- no such way has more routers than there are
 abbrev pub HopWaysEnd : World → Type 0
 HopWaysEnd w = (addr i : ℕ) (ks : List ℕ) → i < length w.routers → IsHopWay w addr (i ∷ ks) → length (i ∷ ks) ≤ length w.routers
+
+-- ---- that there is something to say
+
+-- some run leads to a world in which a router has a choice: it may send a packet to either of two others, by what it published
+abbrev pub SomeRouterHasAChoice : Type 0
+SomeRouterHasAChoice = (n : Network) × (ss : List Step) × (w : World) × (addr : ℕ) × (i : ℕ) × (j : ℕ) × (k : ℕ) × IsNetwork n × Runs (opening n) ss w
+    × MayGoOver w false addr i j × MayGoOver w false addr i k × (j ≢ k)
+
+-- and to one in which the row that matches a packet is of a port and leads nowhere any more, so that it is a next hop beside that
+-- row which leads on
+pub record SomeHopOutlivesItsRow : Type 0 where
+  pub network : Network
+  pub steps : List Step
+  pub world : World
+  pub is_network : IsNetwork network
+  pub runs : Runs (opening network) steps world
+  pub addr : ℕ
+  pub router : ℕ
+  pub prefix : Prefix
+  pub port : ℕ
+  pub session : ℕ
+  pub row : row_for world router addr ≡ Some (prefix, Via port session)
+  pub dead : entry_leads world router (Via port session) ≡ None
+  pub to : ℕ
+  pub goes_on : MayGoOver world false addr router to

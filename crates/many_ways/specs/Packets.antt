@@ -1,8 +1,8 @@
 -- What holds of every packet of every network, in which a router may send each packet by any way that is feasible.
-use Rattle.std.specs.Prelude.{◌≡◌, ◌≢◌, ◌⊎◌, ℕ, ◌<◌, ◌≤◌, Bool, false, ◌&&◌, nat_lt, if◌then◌else◌, List, [], ◌∷◌, map, Some, None, slice_get, length}
+use Rattle.std.specs.Prelude.{◌≡◌, ◌⊎◌, ℕ, ◌<◌, ◌≤◌, Bool, false, ◌&&◌, nat_lt, if◌then◌else◌, List, [], ◌∷◌, map, Some, slice_get, length}
 use Rattle.std.specs.Option.{option_map_or}
 use Rattle.ipv4_prefix.specs.{Prefix.Prefix, LongestMatch.longest_match}
-use Rattle.network_model.specs.{NextHops.passing_from, declared.machine.Neighbour.Neighbour, declared.route.Entry.Entry, declared.route.Entry.TheVariants.Via, declared.step.Step.Step, Step.session_at, Network.IsNetwork, Run.Runs, Run.History, Run.history, declared.route.NextHop.NextHop, Forwarding.entry_leads, Forwarding.hop}
+use Rattle.network_model.specs.{NextHops.passing_from, declared.machine.Neighbour.Neighbour, declared.route.Entry.Entry, declared.route.Entry.TheVariants.Via, declared.step.Step.Step, Step.session_at, Network.IsNetwork, Run.Runs, Run.History, Run.history, declared.route.NextHop.NextHop, Forwarding.entry_leads}
 use Rattle.network_model.specs.World.{World, Router, Network, machine_of, opening}
 use Rattle.no_packet_loops.specs.Packets.{mixture_rows}
 use Rattle.all_packets.specs.Packets.{IsWayBy}
@@ -69,15 +69,3 @@ ManyWaysEnd h = (addr i : ℕ) (ks : List ℕ) → i < length (h.world).routers 
 -- what holds of the history of every run from the opening of a network
 abbrev pub HoldsInEveryHistory : (History → Type 0) → Type 0
 HoldsInEveryHistory P = (n : Network) (ss : List Step) (w : World) → IsNetwork n → Runs (opening n) ss w → P (history n ss)
-
--- ---- that there is something to say
-
--- some run leads to a world in which a router has a choice: it may send a packet to either of two others, by what it published
-abbrev pub SomeRouterHasAChoice : Type 0
-SomeRouterHasAChoice = (n : Network) × (ss : List Step) × (w : World) × (addr : ℕ) × (i : ℕ) × (j : ℕ) × (k : ℕ) × IsNetwork n × Runs (opening n) ss w
-    × MayGoByWays (history n ss) false addr i j × MayGoByWays (history n ss) false addr i k × (j ≢ k)
-
--- and to one in which the row of a router leads nowhere any more, while one of its ways does
-abbrev pub SomeWayOutlivesItsRow : Type 0
-SomeWayOutlivesItsRow = (n : Network) × (ss : List Step) × (w : World) × (addr : ℕ) × (i : ℕ) × (k : ℕ) × IsNetwork n × Runs (opening n) ss w
-    × (hop w addr i ≡ None) × MayGoByWays (history n ss) false addr i k

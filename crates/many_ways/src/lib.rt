@@ -31,8 +31,8 @@
 #![tactic(auto)]
 
 ghost use Rattle.many_ways.specs.Network.{ManyWaysLoopFree};
-ghost use Rattle.many_ways.specs.Packets.{HoldsInEveryHistory, NoManyWayCircles, NoMovingManyWayCircles, ManyWaysEnd, SomeRouterHasAChoice, SomeWayOutlivesItsRow};
-ghost use Rattle.many_ways.specs.InForce.{NoHopCircles, HopWaysEnd};
+ghost use Rattle.many_ways.specs.Packets.{HoldsInEveryHistory, NoManyWayCircles, NoMovingManyWayCircles, ManyWaysEnd};
+ghost use Rattle.many_ways.specs.InForce.{NoHopCircles, HopWaysEnd, SomeRouterHasAChoice, SomeHopOutlivesItsRow};
 ghost use Rattle.many_ways.specs.HopsAtQuiet.{EqualHopsAreLeast, EqualHopsAreInForce};
 ghost use Rattle.no_packet_loops.specs.Packets.{HoldsInEveryWorld};
 ghost use Rattle.many_ways.specs.Journeys.{NoManyWayJourneyCircles};
@@ -60,11 +60,12 @@ pub fn many_ways_at_quiet()
     ensures { ManyWaysAtQuiet }
 {}
 
-/// Some run leads to a world in which a router may send a packet to either of two others; and some run to
-/// one in which the row of a router leads nowhere any more, while one of its ways does.
+/// Some run leads to a world in which a router may send a packet to either of two others, by what it
+/// published; and some run to one in which its row for a packet names a port that leads nowhere any more,
+/// while a next hop that it published beside that row leads on.
 pub fn some_router_has_a_choice()
     ensures choice { SomeRouterHasAChoice }
-    ensures outlives { SomeWayOutlivesItsRow }
+    ensures outlives { SomeHopOutlivesItsRow }
 {}
 
 /// From every world of every run no packet meets a router twice while steps are done, whichever way each
