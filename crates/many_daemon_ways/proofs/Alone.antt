@@ -9,11 +9,8 @@ use Rattle.single_router.specs.declared.input.Input.TheVariants as input
 use Rattle.daemon_laws.specs.Processes.{Processes}
 use Rattle.daemon_laws.specs.Happenings.{Happening, Tells, Takes, Loses, Publishes, PublishesSome, Forgets, Releases, Offers, BeginsAnew, AreReached, Begun, Happened, Rewired, with_process, told_router, forgotten, after_happening}
 use Rattle.daemon_laws.proofs.Cases.{by_take, by_release}
+use Rattle.many_ways.proofs.Offered.{OneAlone}
 use Rattle.many_daemon_ways.proofs.Told.{told_hops}
-
--- so it is of a router
-abbrev pub OneAlone : Router → Type 0
-OneAlone r = (r.hops).offer ≡ One → (r.hops).published ≡ []
 
 -- one router changed
 changed : (j : ℕ) (f : Router → Router) → ((r : Router) → OneAlone r → OneAlone (f r)) → (rs : ℕ → Router) → ((i : ℕ) → OneAlone (rs i)) → (i : ℕ) → OneAlone (with_process j f rs i)

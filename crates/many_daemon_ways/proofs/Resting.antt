@@ -1,16 +1,15 @@
 -- Where routers in processes of their own are at rest, each published what it offers, and next hops of equal cost lead along least ways.
-use Rattle.std.proofs.Common.{refl, sym, ap, subst, ◌∙◌, arith, ◌≡◌, ◌≢◌, ℕ, ◌+◌, ◌<◌, ◌≤◌, List, [], ◌∷◌, None, slice_get}
-use Rattle.no_packet_loops.proofs.Common.{find as row_of, None_not_Some, Prefix, prefix_cmp, NextHop, machine_of, session_at, offered_hops, Topology, LinkEnd, most_routers, reported_at}
-use Rattle.network_model.specs.{declared.network.Offer.Offer, declared.network.Offer.TheVariants.One, declared.network.Offer.TheVariants.Equal, declared.network.Offer.TheVariants.Feasible, NextHops.hops_at, NextHops.hops_by_prefix}
-use Rattle.network_model.proofs.HopLaws.{equal_not_one, feasible_not_one}
+use Rattle.std.proofs.Common.{refl, sym, ap, subst, ◌∙◌, arith, ◌≡◌, ℕ, ◌+◌, ◌<◌, ◌≤◌, List, [], ◌∷◌, None, slice_get}
+use Rattle.no_packet_loops.proofs.Common.{find as row_of, None_not_Some, Prefix, prefix_cmp, NextHop, machine_of, offered_hops, Topology, LinkEnd, most_routers, reported_at}
+use Rattle.network_model.specs.{declared.network.Offer.TheVariants.Equal, NextHops.hops_at}
 use Rattle.many_ways.specs.{Network.Among, Quiet.EqualEdge}
-use Rattle.many_ways.proofs.{AtQuiet.adds, Offered.offers_ways, Offered.equal_at, Offered.offered_now, Feasible.Way, Feasible.way_of}
+use Rattle.many_ways.proofs.{AtQuiet.adds, Offered.offers_ways, Offered.equal_at, Offered.OneAlone, Offered.offered_now, Feasible.Way, Feasible.way_of}
 use Rattle.daemon_laws.specs.{Processes.Processes, Happenings.HoldsAlways, Moments.fds_reached}
 use Rattle.daemon_laws.specs.Rest.{IsUpIn, cost_from, way_cost, IsWayHome, AreAtRest}
 use Rattle.daemon_laws.proofs.{Invariant.Invariant, Quiet.still, Always.Keeps, Always.always}
 use Rattle.daemon_laws.proofs.Resting as resting
 use Rattle.many_daemon_ways.specs.Rest.{Publishes, IsHopChainAtDaemons, OfferEqual, EqualHopsAreLeastAtDaemons, HopsComeNearerAtDaemons, HopsAreInForce}
-use Rattle.many_daemon_ways.proofs.{Alone.OneAlone, Alone.one_alone, Kept.hop_shown, Kept.HopsShown, Kept.hops_always}
+use Rattle.many_daemon_ways.proofs.{Alone.one_alone, Kept.hop_shown, Kept.HopsShown, Kept.hops_always}
 
 module _ (t : Topology) (p : Prefix) (fds : ℕ → ℕ) (w : Processes) (A : Keeps t p fds w) (S : HopsShown t p fds w) (E : (i : ℕ) → OneAlone (w.routers i)) (n : ℕ) (R : AreAtRest t n w) where
   abbrev I : Invariant t p fds w
@@ -28,15 +27,7 @@ module _ (t : Topology) (p : Prefix) (fds : ℕ → ℕ) (w : Processes) (A : Ke
 
   -- it published what it offers
   in_force : (i : ℕ) → i < n → hops_at p ((w.routers i).hops).published ≡ hops_at p (offered_hops (w.routers i))
-  in_force i l = by_offer ((w.routers i).hops).offer refl
-    where
-      many : ((w.routers i).hops).offer ≢ One → hops_at p ((w.routers i).hops).published ≡ hops_at p (offered_hops (w.routers i))
-      many more = offered_now p (w.routers i) more (unheard i) (still p (w.routers i) (I.keeps i) (R.quiet i l)).done.offers
-
-      by_offer : (o : Offer) → ((w.routers i).hops).offer ≡ o → hops_at p ((w.routers i).hops).published ≡ hops_at p (offered_hops (w.routers i))
-      by_offer One is = ap (hops_at p) (E i is) ∙ sym (ap (λ (o : Offer). hops_at p (hops_by_prefix o (session_at (w.routers i).ports) (w.routers i).machines)) is)
-      by_offer (Equal most) is = many (λ one. equal_not_one most (sym is ∙ one))
-      by_offer (Feasible most) is = many (λ one. feasible_not_one most (sym is ∙ one))
+  in_force i l = offered_now p (w.routers i) (E i) (unheard i) (still p (w.routers i) (I.keeps i) (R.quiet i l)).done.offers
 
   module _ (few : n ≤ most_routers) where
     module _ (e : LinkEnd) (session : ℕ) (l : e.router < n) (sends : Publishes w p e session) where

@@ -1,22 +1,23 @@
--- In a quiet world each router published the next hops that it offers. If these are of equal cost they lead along least walks.
+-- In a quiet world each router published the next hops that it offers. They lead nearer, and those of equal cost lead along least walks.
 use Rattle.std.proofs.Common.{refl, sym, ap, subst, arith, ◌∙◌, ◌≡◌, ℕ, true, false, List, [], ◌∷◌, Some, None, slice_get, option_map, unwrap_or}
 use Rattle.no_packet_loops.proofs.Common.{Prefix, prefix_cmp, Machine, Reaction, reaction, opening_machine, Event, Item, End, Port, Router, Link, World, Network, other, side, machine_of, opening, opening_router_of, Place, session_at, reactions, next, router_noticing, router_meeting, router_accepting, router_at_home, router_publishing, router_releasing, changed_link, with_cost, with_front_taken, with_message, with_delivered, with_noticed, with_released, front_at, notice_at, release_at, event_at_home, changed_at, changed_keeps, Runs, history, option_map_or-ind, routers-changed_link, listed_within, is_active, is_quiet, NextHop, IsNetwork, offered_hops, find-map, State, view, Step, SetCost, Deliver, Publish, Release, least}
 use Rattle.network_model.specs.{declared.network.Offer.Offer, declared.network.Offer.TheVariants.One, declared.network.Offer.TheVariants.Equal, declared.network.Offer.TheVariants.Feasible, Machine.ways, NextHops.hops_at, NextHops.hops_of, NextHops.hops_by_prefix}
-use Rattle.network_model.proofs.HopLaws.{equal_not_one}
 use Rattle.no_packet_loops.proofs.{Wiring.wired, Runs.Reached, Runs.reached, View.on_router-there}
 use Rattle.quiet_routes.proofs.Worlds.{Each, NoRow, no_row-from_map, no_row-from_put, good}
 use Rattle.quiet_routes.proofs.Still.{still}
+use Rattle.quiet_routes.proofs.Routes.{quiet_routes}
 use Rattle.many_ways.specs.{Network.Among, QuietWorlds.SendsEqually, QuietWorlds.IsEqualChain}
-use Rattle.many_ways.specs.HopsAtQuiet.{SendsOver, IsHopChain, EqualHopsAreLeast, EqualHopsAreInForce}
-use Rattle.many_ways.proofs.Offered.{offers_ways, EqualAt, equal_at, offered_now}
-use Rattle.many_ways.proofs.QuietWorlds.{equal_chains_are_least}
+use Rattle.many_ways.specs.HopsAtQuiet.{SendsOver, IsHopChain, ComesNearer, EqualHopsAreLeast, HopsComeNearer, HopsAreInForce}
+use Rattle.many_ways.proofs.{Feasible.way_of, Offered.offers_ways, Offered.EqualAt, Offered.equal_at, Offered.OneAlone, Offered.offered_now}
+use Rattle.many_ways.proofs.QuietWorlds.{attachments_count, comes_nearer, equal_chains_are_least}
 
 -- ---- what routers keep
 
--- a router offers these next hops, and has published none of a prefix that is unheard
+-- a router offers these next hops, and has published none of a prefix that is unheard, and none at all if it offers none
 pub record KeepsHops (o : Offer) (p : Prefix) (r : Router) : Type 0 where
   pub offer : (r.hops).offer ≡ o
   pub unheard : NoRow p r.machines → hops_at p (r.hops).published ≡ []
+  pub alone : OneAlone r
 
 -- none are offered of a prefix that is unheard
 unheard_offers : (p : Prefix) (o : Offer) (session : ℕ → ℕ) (ms : List (Prefix × Machine)) → NoRow p ms → hops_at p (hops_by_prefix o session ms) ≡ []
@@ -26,10 +27,10 @@ unheard_offers p (Feasible most) session ms none = ap (λ y. unwrap_or y []) (fi
 
 module _ (o : Offer) (p : Prefix) where
   noticed : (e : Event) (ports : List Port) (r : Router) → KeepsHops o p r → KeepsHops o p (router_noticing e ports r)
-  noticed e ports r K = record { offer = K.offer; unheard = λ none. K.unheard (no_row-from_map p (λ (m : Machine). reaction m e) r.machines (no_row-from_map p (λ (x : Reaction). x.machine) (reactions e r.machines) none)) }
+  noticed e ports r K = record { offer = K.offer; alone = K.alone; unheard = λ none. K.unheard (no_row-from_map p (λ (m : Machine). reaction m e) r.machines (no_row-from_map p (λ (x : Reaction). x.machine) (reactions e r.machines) none)) }
 
   met : (k : Prefix) (e : Event) (r : Router) → KeepsHops o p r → KeepsHops o p (router_meeting k e r)
-  met k e r K = record { offer = K.offer; unheard = λ none. K.unheard (no_row-from_put p k (reaction (machine_of r k) e).machine r.machines none) }
+  met k e r K = record { offer = K.offer; alone = K.alone; unheard = λ none. K.unheard (no_row-from_put p k (reaction (machine_of r k) e).machine r.machines none) }
 
   accepted : (q : ℕ) (item : Item) (r : Router) → KeepsHops o p r → KeepsHops o p (router_accepting q item r)
   accepted q (Item.Up session cost) r K = noticed (Event.Up q cost) (changed_at q (λ x. record { up = true; session = session; cost = cost }) r.ports) r K
@@ -38,7 +39,7 @@ module _ (o : Offer) (p : Prefix) where
   accepted q (Item.Message m) r K = met m.prefix (Event.Message q m.kind m.value) r K
 
   published : (r : Router) → KeepsHops o p r → KeepsHops o p (router_publishing r)
-  published r K = record { offer = K.offer; unheard = unheard_offers p (r.hops).offer (session_at r.ports) r.machines }
+  published r K = record { offer = K.offer; alone = ap (λ (o : Offer). hops_by_prefix o (session_at r.ports) r.machines); unheard = unheard_offers p (r.hops).offer (session_at r.ports) r.machines }
 
   abbrev Kept : World → Type 0
   Kept w = Each (KeepsHops o p) w.routers
@@ -54,7 +55,7 @@ module _ (o : Offer) (p : Prefix) where
       (λ item _. changed_keeps (KeepsHops o p) i (router_accepting q item) (changed_link i q with_front_taken w).routers (accepted q item) (linked w i q with_front_taken K))
   kept_step w (Publish i) K = changed_keeps (KeepsHops o p) i router_publishing w.routers published K
   kept_step w (Release i) K = option_map_or-ind Kept (with_released i w) (release_at w i) w K
-      (λ h _. changed_keeps (KeepsHops o p) i router_releasing (changed_link i h.port (with_message h) w).routers (λ r k. record { offer = k.offer; unheard = k.unheard }) (linked w i h.port (with_message h) K))
+      (λ h _. changed_keeps (KeepsHops o p) i router_releasing (changed_link i h.port (with_message h) w).routers (λ r k. record { offer = k.offer; alone = k.alone; unheard = k.unheard }) (linked w i h.port (with_message h) K))
   kept_step w _ K = K
 
   kept_run : (w : World) (ss : List Step) (v : World) → Runs w ss v → Kept w → Kept v
@@ -66,14 +67,14 @@ pub hops_kept : (n : Network) (p : Prefix) (ss : List Step) (w : World) → Runs
 hops_kept n p ss w r = kept_run n.offer p (opening n) ss w r first
   where
     first_of : (i : ℕ) → KeepsHops n.offer p (opening_router_of n i)
-    first_of i = (let r = opening_router_of n i in record { offer = refl; unheard = unheard_offers p n.offer (session_at r.ports) r.machines })
+    first_of i = (let r = opening_router_of n i in record { offer = refl; alone = ap (λ (o : Offer). hops_by_prefix o (session_at r.ports) r.machines); unheard = unheard_offers p n.offer (session_at r.ports) r.machines })
 
     first : Each (KeepsHops n.offer p) (opening n).routers
     first i x at = let e = listed_within (opening_router_of n) n.routers i x at in subst (KeepsHops n.offer p) e.1 (first_of i)
 
 -- ---- a world
 
-module _ (n : Network) (ss : List Step) (w : World) (most : ℕ) (V : IsNetwork n) (runs : Runs (opening n) ss w) (equal : n.offer ≡ Equal most) (quiet : is_quiet w ≡ true) (p : Prefix) where
+module _ (n : Network) (ss : List Step) (w : World) (V : IsNetwork n) (runs : Runs (opening n) ss w) (quiet : is_quiet w ≡ true) (p : Prefix) where
   abbrev rs : List Router
   rs = (history n ss).published
 
@@ -83,18 +84,23 @@ module _ (n : Network) (ss : List Step) (w : World) (most : ℕ) (V : IsNetwork 
   abbrev s : State
   s = view n p w R.published_fd
 
-  keeps : (i : ℕ) (r : Router) → slice_get w.routers i ≡ Some r → KeepsHops (Equal most) p r
-  keeps i r at = subst (λ (o : Offer). KeepsHops o p r) equal (hops_kept n p ss w runs i r at)
+  keeps : (i : ℕ) (r : Router) → slice_get w.routers i ≡ Some r → KeepsHops n.offer p r
+  keeps i r at = hops_kept n p ss w runs i r at
 
   in_force : (i : ℕ) (r : Router) → slice_get w.routers i ≡ Some r → hops_at p (r.hops).published ≡ hops_at p (offered_hops r)
-  in_force i r at = offered_now p r (λ one. equal_not_one most (sym (keeps i r at).offer ∙ one)) (keeps i r at).unheard ((still n (wired n V) p w rs R (good p n ss w V runs) quiet i r at).done).offers
+  in_force i r at = offered_now p r (keeps i r at).alone (keeps i r at).unheard ((still n (wired n V) p w rs R (good p n ss w V runs) quiet i r at).done).offers
+
+  -- a next hop that is published leads nearer
+  nearer : (i : ℕ) (r : Router) (h : NextHop) → slice_get w.routers i ≡ Some r → Among h (hops_at p (r.hops).published) → ComesNearer w p i h
+  nearer i r h at a =
+      comes_nearer n V p w rs R (good p n ss w V runs) quiet (attachments_count n ss w runs) i r at h (way_of p r h (offers_ways p r h (subst (Among h) (in_force i r at) a))) (λ k lt. quiet_routes n ss w V runs quiet p k lt)
 
   abbrev hop_of : (i : ℕ) (x : Place) → SendsOver w p i x → NextHop
   hop_of i x S = record { port = S.port; session = (S.link).session }
 
-  -- a next hop that is published is a way of equal cost
-  equal_way : (i : ℕ) (x : Place) (S : SendsOver w p i x) → SendsEqually w p i x
-  equal_way i x S = record {
+  -- where those of equal cost are offered, one that is published is such a way
+  equal_way : (most : ℕ) → n.offer ≡ Equal most → (i : ℕ) (x : Place) (S : SendsOver w p i x) → SendsEqually w p i x
+  equal_way most equal i x S = record {
     port = S.port;
     link = S.link;
     router = S.router;
@@ -113,7 +119,7 @@ module _ (n : Network) (ss : List Step) (w : World) (most : ℕ) (V : IsNetwork 
       among = subst (Among (hop_of i x S)) (in_force i S.router S.is_router) S.published
 
       E : EqualAt p S.router (hop_of i x S)
-      E = equal_at most p S.router (hop_of i x S) (keeps i S.router S.is_router).offer among
+      E = equal_at most p S.router (hop_of i x S) ((keeps i S.router S.is_router).offer ∙ equal) among
 
       shown : s.machine i ≡ machine_of S.router p
       shown = on_router-there (λ y. machine_of y p) (opening_machine None []) w.routers i S.router S.is_router
@@ -121,14 +127,17 @@ module _ (n : Network) (ss : List Step) (w : World) (most : ℕ) (V : IsNetwork 
       at_least : (machine_of S.router p).rd ≡ least (ways (machine_of S.router p))
       at_least = subst (λ (m : Machine). m.rd ≡ least (ways m)) shown (((R.inv).sound i).passive_least (ap is_active shown ∙ (still n (wired n V) p w rs R (good p n ss w V runs) quiet i S.router S.is_router).passive))
 
-  equal_chain : (i : ℕ) (xs : List Place) (o : ℕ) → IsHopChain w p i xs o → IsEqualChain w p i xs o
+  equal_chain : (most : ℕ) → n.offer ≡ Equal most → (i : ℕ) (xs : List Place) (o : ℕ) → IsHopChain w p i xs o → IsEqualChain w p i xs o
   unfolding equal_way
-  equal_chain i [] o c = c
-  equal_chain i (x ∷ xs) o c = (equal_way i x c.0, equal_chain (side (other x.end) (c.0).link).router xs o c.1)
+  equal_chain most equal i [] o c = c
+  equal_chain most equal i (x ∷ xs) o c = (equal_way most equal i x c.0, equal_chain most equal (side (other x.end) (c.0).link).router xs o c.1)
 
 -- in every quiet world
 pub equal_hops_are_least : EqualHopsAreLeast
-equal_hops_are_least n ss w most V r equal quiet p i xs o lt c = equal_chains_are_least n ss w V r quiet p i xs o lt (equal_chain n ss w most V r equal quiet p i xs o c)
+equal_hops_are_least n ss w most V r equal quiet p i xs o lt c = equal_chains_are_least n ss w V r quiet p i xs o lt (equal_chain n ss w V r quiet p most equal i xs o c)
 
-pub equal_hops_are_in_force : EqualHopsAreInForce
-equal_hops_are_in_force n ss w most V r equal quiet p i x at = in_force n ss w most V r equal quiet p i x at
+pub hops_come_nearer : HopsComeNearer
+hops_come_nearer n ss w V r quiet p i x h at a = nearer n ss w V r quiet p i x h at a
+
+pub hops_are_in_force : HopsAreInForce
+hops_are_in_force n ss w V r quiet p i x at = in_force n ss w V r quiet p i x at

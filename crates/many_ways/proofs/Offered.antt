@@ -1,7 +1,7 @@
 -- Each next hop that a machine offers is a way: a port that is up, whose neighbour reported less than the feasible distance.
-use Rattle.std.proofs.Common.{refl, sym, ap, subst, ◌∙◌, arith, inl, inr, ◌≡◌, ◌⊎◌, ℕ, zero, suc, ◌<◌, Bool, true, false, not, cond, ◌&&◌, ◌==◌, nat_lt, if◌then◌else◌, List, [], ◌∷◌, ◌++◌, map, filter, take, Option, Some, None, slice_get, unwrap_or, option_map, eqb-true, ltb-true}
+use Rattle.std.proofs.Common.{refl, sym, ap, subst, ◌∙◌, arith, inl, inr, ◌≡◌, ◌≢◌, ◌⊎◌, ℕ, zero, suc, ◌<◌, Bool, true, false, not, cond, ◌&&◌, ◌==◌, nat_lt, if◌then◌else◌, List, [], ◌∷◌, ◌++◌, map, filter, take, Option, Some, None, slice_get, unwrap_or, option_map, eqb-true, ltb-true}
 use Rattle.no_packet_loops.proofs.Common.{find as row_of, and_parts, false≢true, find-map, infinity, least, is_port, Machine, Prefix, prefix_cmp, Router, machine_of, opening_machine, neighbours, session_at, NextHop, Neighbour, offered_hops, changed_hops, list_all, is_empty}
-use Rattle.network_model.proofs.{Common.distance, Common.ways, HopLaws.hops_there, HopLaws.offered_rows}
+use Rattle.network_model.proofs.{Common.distance, Common.ways, HopLaws.hops_there, HopLaws.offered_rows, HopLaws.equal_not_one, HopLaws.feasible_not_one}
 use Rattle.network_model.specs.{declared.network.Offer.Offer, declared.network.Offer.TheVariants.One, declared.network.Offer.TheVariants.Equal, declared.network.Offer.TheVariants.Feasible, Step.has_hops}
 use Rattle.network_model.specs.NextHops.{may_forward, is_offered, most_offered, passing_from, with_nearer, nearest_first, own_first, is_local, offered_ports, hops_of, hops_by_prefix, hops_at}
 use Rattle.no_packet_loops.proofs.Quiet.{nothing_filtered, row_passes}
@@ -146,10 +146,13 @@ equal_at most p r h equal a =
       reached = ltb-true (distance x) infinity (and_parts (x.up && nat_lt x.reported m.fd) (nat_lt (distance x) infinity) tests.0).1;
     }
 
--- what a router published of a prefix is what it offers, where nothing differs, a row may have more than one next hop, and it published none of a
--- prefix that is unheard
-pub offered_now : (p : Prefix) (r : Router) → ((r.hops).offer ≡ One → ⊥) → (row_of prefix_cmp p r.machines ≡ None → hops_at p (r.hops).published ≡ []) → is_empty (changed_hops r) ≡ true → hops_at p (r.hops).published ≡ hops_at p (offered_hops r)
-offered_now p r many unheard quiet = by_machine (row_of prefix_cmp p r.machines) refl
+-- a router that offers no next hops beside its rows has published none
+abbrev pub OneAlone : Router → Type 0
+OneAlone r = (r.hops).offer ≡ One → (r.hops).published ≡ []
+
+-- what a router published of a prefix is what it offers, where nothing differs, and it published none of a prefix that is unheard
+pub offered_now : (p : Prefix) (r : Router) → OneAlone r → (row_of prefix_cmp p r.machines ≡ None → hops_at p (r.hops).published ≡ []) → is_empty (changed_hops r) ≡ true → hops_at p (r.hops).published ≡ hops_at p (offered_hops r)
+offered_now p r alone unheard quiet = by_offer (r.hops).offer refl
   where
     hops_of_it : Machine → List NextHop
     hops_of_it m = hops_of (r.hops).offer (session_at r.ports) m
@@ -157,12 +160,17 @@ offered_now p r many unheard quiet = by_machine (row_of prefix_cmp p r.machines)
     all : list_all (has_hops (r.hops).published) (offered_hops r) ≡ true
     all = nothing_filtered (has_hops (r.hops).published) (offered_hops r) quiet
 
-    row : row_of prefix_cmp p (offered_hops r) ≡ option_map hops_of_it (row_of prefix_cmp p r.machines)
-    row = ap (row_of prefix_cmp p) (offered_rows (r.hops).offer many (session_at r.ports) r.machines) ∙ find-map prefix_cmp hops_of_it p r.machines
+    row : ((r.hops).offer ≢ One) → row_of prefix_cmp p (offered_hops r) ≡ option_map hops_of_it (row_of prefix_cmp p r.machines)
+    row many = ap (row_of prefix_cmp p) (offered_rows (r.hops).offer many (session_at r.ports) r.machines) ∙ find-map prefix_cmp hops_of_it p r.machines
 
-    by_machine : (o : Option Machine) → row_of prefix_cmp p r.machines ≡ o → hops_at p (r.hops).published ≡ hops_at p (offered_hops r)
-    by_machine None is = unheard is ∙ sym (ap (λ y. unwrap_or y []) (row ∙ ap (option_map hops_of_it) is))
-    by_machine (Some m) is =
-        let there : row_of prefix_cmp p (offered_hops r) ≡ Some (hops_of_it m) = row ∙ ap (option_map hops_of_it) is in
+    by_machine : ((r.hops).offer ≢ One) → (o : Option Machine) → row_of prefix_cmp p r.machines ≡ o → hops_at p (r.hops).published ≡ hops_at p (offered_hops r)
+    by_machine many None is = unheard is ∙ sym (ap (λ y. unwrap_or y []) (row many ∙ ap (option_map hops_of_it) is))
+    by_machine many (Some m) is =
+        let there : row_of prefix_cmp p (offered_hops r) ≡ Some (hops_of_it m) = row many ∙ ap (option_map hops_of_it) is in
         ap (λ y. unwrap_or y []) (hops_there p (r.hops).published (hops_of_it m) (row_passes p (has_hops (r.hops).published) (offered_hops r) all (hops_of_it m) there))
         ∙ sym (ap (λ y. unwrap_or y []) there)
+
+    by_offer : (o : Offer) → (r.hops).offer ≡ o → hops_at p (r.hops).published ≡ hops_at p (offered_hops r)
+    by_offer One is = ap (hops_at p) (alone is) ∙ sym (ap (λ (o : Offer). hops_at p (hops_by_prefix o (session_at r.ports) r.machines)) is)
+    by_offer (Equal most) is = by_machine (λ one. equal_not_one most (sym is ∙ one)) (row_of prefix_cmp p r.machines) refl
+    by_offer (Feasible most) is = by_machine (λ one. feasible_not_one most (sym is ∙ one)) (row_of prefix_cmp p r.machines) refl

@@ -1,12 +1,24 @@
 -- In a quiet world every chain of ways of equal cost is a least walk.
-use Rattle.std.proofs.Common.{refl, sym, ap, subst, ◌∙◌, arith, ◌≡◌, ℕ, ◌+◌, ◌<◌, true, false, ◌&&◌, ◌==◌, if◌then◌else◌, List, [], ◌∷◌, length, Option, Some, None, is_some, slice_get, option_map, option_and_then, eq-eqb}
-use Rattle.no_packet_loops.proofs.Common.{range_with_len, length-map, option_map_or, and_from, Prefix, Machine, opening_machine, Link, Side, Router, World, Network, other, side, attachment_at, machine_of, opening, opening_router_of, costs_of, Place, session_at, entry_leads, Entry, Via, IsWalk, walk_cost, is_quiet, Topology, IsNetwork, history, State, at_port, view, lay, is_up_at, IsWalkHome, reported_at}
+use Rattle.std.proofs.Common.{refl, sym, ap, subst, ◌∙◌, arith, ◌≡◌, ℕ, ◌+◌, ◌<◌, true, false, ◌&&◌, ◌==◌, if◌then◌else◌, List, [], ◌∷◌, map, length, Option, Some, None, is_some, slice_get, option_map, option_and_then, eq-eqb}
+use Rattle.no_packet_loops.proofs.Common.{range_with_len, length-map, option_map_or, and_from, false≢true, NextHop, LinkEnd, Step, Runs, A, place_of, Prefix, Machine, opening_machine, Link, Side, Router, World, Network, other, side, attachment_at, machine_of, opening, opening_router_of, costs_of, Place, place_at, session_at, entry_leads, Entry, Via, IsWalk, walk_cost, is_quiet, Topology, IsNetwork, history, State, at_port, view, lay, is_up_at, IsWalkHome, reported_at}
 use Rattle.no_packet_loops.proofs.{Wiring.IsWired, Wiring.wired, Wiring.few_routers, Places.topology, Places.laid, Places.spot_on, View.on_link-there, View.on_router-there, Kept.specified, Opened.first_fd, Opened.opening_view, Runs.Reached, Runs.reached, Runs.place_is, Walks.Leads, Walks.leads, WorldLaws.SameShape, WorldLaws.Runs-shape}
-use Rattle.least_cost.proofs.Runs.{kept_run}
-use Rattle.quiet_routes.specs.Routes.{machine_at}
-use Rattle.quiet_routes.proofs.{Worlds.Good, Worlds.good, Homes.home_cost, Still.quiet_now, Routes.placed, Routes.costs_fit, Routes.quiet_routes}
-use Rattle.many_ways.specs.{Quiet.EqualEdge, QuietWorlds.SendsEqually, QuietWorlds.IsEqualChain, QuietWorlds.EqualChainsAreLeast}
-use Rattle.many_ways.proofs.{Feasible.Way, Feasible.way_of, AtQuiet.adds}
+use Rattle.least_cost.specs.Quiet.{IsRouted, Follows, walk_end}
+use Rattle.least_cost.proofs.{Runs.kept_run, Replay.replay, Kept.Kept, Kept.pending, Kept.line, Kept.port_at}
+use Rattle.loop_freedom.proofs.Walks.{walk_map}
+use Rattle.quiet_routes.specs.Routes.{machine_at, HasBestRow}
+use Rattle.quiet_routes.proofs.{Worlds.Good, Worlds.good, Homes.home_is, Homes.home_cost, Ways.IsUp, Ways.place_for, Ways.from_walk, Still.quiet_now, Routes.placed, Routes.costs_fit, Routes.quiet_routes}
+use Rattle.many_ways.specs.{Network.FeasibleEdge, HopsAtQuiet.ComesNearer, Quiet.WaysAreGood, Quiet.EqualEdge, QuietWorlds.SendsEqually, QuietWorlds.IsEqualChain, QuietWorlds.EqualChainsAreLeast}
+use Rattle.many_ways.proofs.{Feasible.Way, Feasible.way_of, AtQuiet.adds, AtQuiet.many_ways_at_quiet}
+
+-- an entry leads across the link at its port, if that is up in the session of the entry
+pub leads_over : (w : World) (i q : ℕ) (x : Place) (j : Link) → place_at w i q ≡ Some x → slice_get w.links x.link ≡ Some j → j.up ≡ true → entry_leads w i (Via q j.session) ≡ Some (side (other x.end) j).router
+leads_over w i q x j is_place is_link up =
+    ap (λ (o : Option Place). if option_map_or (λ (k : Link). k.up && (k.session == j.session)) (option_and_then (λ (y : Place). slice_get w.links y.link) o) false then option_map (λ (y : Side). y.router) (option_and_then (λ (y : Place). option_map (side (other y.end)) (slice_get w.links y.link)) o) else None) is_place
+    ∙ ap (λ b. if b then option_map (λ (y : Side). y.router) (option_map (side (other x.end)) (slice_get w.links x.link)) else None) live
+    ∙ ap (λ o. option_map (λ (y : Side). y.router) (option_map (side (other x.end)) o)) is_link
+  where
+    live : option_map_or (λ (k : Link). k.up && (k.session == j.session)) (slice_get w.links x.link) false ≡ true
+    live = ap (λ o. option_map_or (λ (k : Link). k.up && (k.session == j.session)) o false) is_link ∙ and_from j.up (j.session == j.session) up (eq-eqb j.session j.session refl)
 
 module _ (n : Network) (V : IsNetwork n) (p : Prefix) (w : World) (rs : List Router) (R : Reached n (wired n V) p w rs) (G : Good p w) (quiet : is_quiet w ≡ true) (count : length w.attachments ≡ length w.routers) where
   abbrev N : IsWired n
@@ -17,6 +29,78 @@ module _ (n : Network) (V : IsNetwork n) (p : Prefix) (w : World) (rs : List Rou
 
   abbrev s : State
   s = view n p w R.published_fd
+
+  -- what the view keeps
+  kept : Kept t s
+  kept = kept_run t (view n p (opening n) (first_fd n N p)) s (opening_view n N p) R.run
+
+  -- the ways of each router are good
+  good_ways : (i : ℕ) → i < n.routers → WaysAreGood t n.routers s i
+  good_ways = many_ways_at_quiet t (view n p (opening n) (first_fd n N p)) s (opening_view n N p) R.run n.routers (few_routers n V) (placed n V p w rs R G quiet count) (λ e v. costs_fit n V p w rs R G quiet count (lay n e))
+      (λ j c lt is. (home_cost n N p w rs R G quiet count j c is).small) (quiet_now n N p w rs R G quiet)
+
+  -- a way that was published at a port that is up leads to a router that is nearer, and routed
+  module _ (i : ℕ) (r : Router) (at : slice_get w.routers i ≡ Some r) (h : NextHop) (W : Way p r h) where
+    abbrev e : LinkEnd
+    e = at_port i h.port
+
+    abbrev far_router : ℕ
+    far_router = (t.far e).router
+
+    machine_is : s.machine i ≡ machine_of r p
+    machine_is = on_router-there (λ y. machine_of y p) (opening_machine None []) w.routers i r at
+
+    port_up : is_up_at (s.machine i) h.port ≡ true
+    port_up = ap (λ (m : Machine). is_up_at m h.port) machine_is ∙ W.up
+
+    there : t.valid e ≡ true
+    there = kept.up_valid e port_up
+
+    -- nothing comes, so the router saw what its link is
+    seen : pending (line s e) ≡ port_at s e
+    seen = ap (λ x. replay x (port_at s e)) ((quiet_now n N p w rs R G quiet).inbox_empty e there)
+
+    edge : FeasibleEdge s e
+    edge = record {
+      linked = sym ((kept.lines e there).end_up) ∙ ap (λ x. x.up) seen ∙ port_up;
+      port_up = port_up;
+      present = sym (ap (λ x. x.session) seen) ∙ (kept.lines e there).end_session;
+      below = (let a = ap (λ (m : Machine). reported_at m h.port) machine_is in let b = ap (λ (m : Machine). m.fd) machine_is in let c = W.low in omega (arith, a, b, c));
+    }
+
+    -- the link is there, and leads to that router
+    link : IsWalk w i (place_for n N p w rs R e ∷ []) far_router
+    link = from_walk n N p w rs R i (e ∷ []) (refl, there, edge.linked, tt)
+
+    laid_is : lay n e ≡ Some (place_for n N p w rs R e)
+    laid_is = by_place (lay n e) there
+      where
+        by_place : (x : Option Place) → is_some x ≡ true → x ≡ Some (option_map_or (λ y. y) x (place_of 0 A))
+        by_place None g = absurd (false≢true g)
+        by_place (Some x) g = refl
+
+    leads_on : entry_leads w i (Via h.port h.session) ≡ Some far_router
+    leads_on =
+        let session : h.session ≡ (link.0).session = W.session_is ∙ sym (on_router-there (λ y. session_at y.ports h.port) 0 w.routers i r at) ∙ edge.present ∙ on_link-there (λ en y. y.session) 0 w.links (lay n e) (place_for n N p w rs R e) link.0 laid_is link.1 in
+        ap (λ (m : ℕ). entry_leads w i (Via h.port m)) session
+        ∙ leads_over w i h.port (place_for n N p w rs R e) link.0 (place_is n p w R.kept i h.port ∙ laid_is) link.1 link.2
+        ∙ ap (λ (k : ℕ). Some k) link.4
+
+    pub comes_nearer : ((k : ℕ) → k < n.routers → HasBestRow w p k) → ComesNearer w p i h
+    comes_nearer best =
+        let G' = (good_ways i (placed n V p w rs R G quiet count e there)).no_dead_end e refl there edge in
+        let Q : IsRouted t n.routers s far_router = G'.1 in
+        record {
+          to = far_router;
+          leads = leads_on;
+          nearer = G'.0;
+          routed = (best far_router (placed n V p w rs R G quiet count (t.far e) (t.far_valid e there))).connected (map (place_for n N p w rs R) Q.chain) (walk_end t far_router Q.chain) (walk_cost w (map (place_for n N p w rs R) Q.chain) + Q.cost) (record {
+            walk = from_walk n N p w rs R far_router Q.chain (walk_map t (Follows s) (IsUp n N p w rs R) (λ d f. f.sends.linked) far_router Q.chain Q.follows);
+            attachment = Q.cost;
+            attached = sym (home_is n N p w rs R G quiet count (walk_end t far_router Q.chain)) ∙ Q.reaches.attached;
+            cost_is = refl;
+          });
+        }
 
   -- what one way of equal cost adds
   record Adds (i : ℕ) (x : Place) (link : Link) : Type 0 where
@@ -35,17 +119,8 @@ module _ (n : Network) (V : IsNetwork n) (p : Prefix) (w : World) (rs : List Rou
           let K = specified n p w R.kept x.link S.link S.is_link in
           K.router_is x.end ∙ sym (ap (λ e. e.router) (sym L.spot_is ∙ ap (λ o. option_map_or (spot_on n x) o (at_port 0 0)) K.is_link))
 
-      live : option_map_or (λ (k : Link). k.up && (k.session == (S.link).session)) (slice_get w.links x.link) false ≡ true
-      live = ap (λ o. option_map_or (λ (k : Link). k.up && (k.session == (S.link).session)) o false) S.is_link ∙ and_from (S.link).up ((S.link).session == (S.link).session) S.is_up (eq-eqb (S.link).session (S.link).session refl)
-
-      leads_is : entry_leads w i (Via S.port (S.link).session) ≡ Some (side (other x.end) S.link).router
-      leads_is =
-          ap (λ (o : Option Place). if option_map_or (λ (k : Link). k.up && (k.session == (S.link).session)) (option_and_then (λ (y : Place). slice_get w.links y.link) o) false then option_map (λ (y : Side). y.router) (option_and_then (λ (y : Place). option_map (side (other y.end)) (slice_get w.links y.link)) o) else None) S.is_place
-          ∙ ap (λ b. if b then option_map (λ (y : Side). y.router) (option_map (side (other x.end)) (slice_get w.links x.link)) else None) live
-          ∙ ap (λ o. option_map (λ (y : Side). y.router) (option_map (side (other x.end)) o)) S.is_link
-
       L : Leads n N p w rs R i (Via S.port (S.link).session) (side (other x.end) S.link).router
-      L = leads n N p w rs R i (Via S.port (S.link).session) (side (other x.end) S.link).router leads_is
+      L = leads n N p w rs R i (Via S.port (S.link).session) (side (other x.end) S.link).router (leads_over w i S.port x S.link S.is_place S.is_link S.is_up)
 
       port_is : (a b c d : ℕ) → ◌≡◌ {A = Entry} (Via a b) (Via c d) → c ≡ a
       port_is a b c d e = cc
@@ -87,8 +162,7 @@ module _ (n : Network) (V : IsNetwork n) (p : Prefix) (w : World) (rs : List Rou
 
       sums : (machine_at w i p).rd ≡ (side x.end S.link).cost + (machine_at w (side (other x.end) S.link).router p).rd
       sums =
-          let k = kept_run t (view n p (opening n) (first_fd n N p)) s (opening_view n N p) R.run in
-          let a = adds t n.routers s k (quiet_now n N p w rs R G quiet) (few_routers n V) (placed n V p w rs R G quiet count) (λ e v. costs_fit n V p w rs R G quiet count (lay n e))
+          let a = adds t n.routers s kept (quiet_now n N p w rs R G quiet) (few_routers n V) (placed n V p w rs R G quiet count) (λ e v. costs_fit n V p w rs R G quiet count (lay n e))
           (λ j c lt is. (home_cost n N p w rs R G quiet count j c is).small) (at_port i S.port) valid E in
           let c : s.cost (at_port i S.port) ≡ (side x.end S.link).cost = on_link-there (λ en y. (side en y).cost) 0 w.links (lay n (at_port i S.port)) x S.link laid_is S.is_link in
           let f = ap (λ (j : ℕ). (s.machine j).rd) far in
@@ -116,14 +190,15 @@ module _ (n : Network) (V : IsNetwork n) (p : Prefix) (w : World) (rs : List Rou
       last j [] e d = d.1
       last j (y ∷ ys) e d = last (side (other y.end) (d.0).link).router ys e d.1
 
--- in every quiet world such a chain is a least walk
-pub equal_chains_are_least : EqualChainsAreLeast
-equal_chains_are_least n ss w V r quiet p i xs o lt c =
-    let H = home n V p w (history n ss).published (reached n (wired n V) p ss w r) (good p n ss w V r) quiet count i xs o c in
-    record { walk = H; least = (((quiet_routes n ss w V r quiet p i lt).connected xs o (machine_at w i p).rd H).least).least }
+-- a world of a run has an attachment of each router
+pub attachments_count : (n : Network) (ss : List Step) (w : World) → Runs (opening n) ss w → length w.attachments ≡ length w.routers
+attachments_count n ss w r = shape.attachments ∙ length-map (range_with_len 0 n.routers) (λ j. record { costs = costs_of n j; notices = [] }) ∙ sym (length-map (range_with_len 0 n.routers) (opening_router_of n)) ∙ sym shape.routers
   where
     shape : SameShape (opening n) w
     shape = Runs-shape (opening n) ss w r
 
-    count : length w.attachments ≡ length w.routers
-    count = shape.attachments ∙ length-map (range_with_len 0 n.routers) (λ j. record { costs = costs_of n j; notices = [] }) ∙ sym (length-map (range_with_len 0 n.routers) (opening_router_of n)) ∙ sym shape.routers
+-- in every quiet world such a chain is a least walk
+pub equal_chains_are_least : EqualChainsAreLeast
+equal_chains_are_least n ss w V r quiet p i xs o lt c =
+    let H = home n V p w (history n ss).published (reached n (wired n V) p ss w r) (good p n ss w V r) quiet (attachments_count n ss w r) i xs o c in
+    record { walk = H; least = (((quiet_routes n ss w V r quiet p i lt).connected xs o (machine_at w i p).rd H).least).least }

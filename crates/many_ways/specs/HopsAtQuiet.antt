@@ -1,9 +1,9 @@
--- What holds of the next hops that the routers of a quiet world published, if they offer those of equal cost: they lead along least walks.
+-- What holds of the next hops that the routers of a quiet world published: they lead nearer, and those of equal cost lead along least walks.
 use Rattle.std.specs.Prelude.{◌≡◌, ℕ, ◌<◌, true, List, [], ◌∷◌, Some, slice_get}
 use Rattle.ipv4_prefix.specs.Prefix.{Prefix}
-use Rattle.network_model.specs.{declared.network.Offer.TheVariants.Equal, declared.network.Place.Place, declared.step.Step.Step, NextHops.hops_at, Step.offered_hops, Network.IsNetwork, Run.Runs, Forwarding.IsLeastWalk, Forwarding.is_quiet}
+use Rattle.network_model.specs.{declared.network.Offer.TheVariants.Equal, declared.route.Entry.TheVariants.Via, declared.route.NextHop.NextHop, declared.network.Place.Place, declared.step.Step.Step, NextHops.hops_at, Step.offered_hops, Network.IsNetwork, Run.Runs, Forwarding.IsLeastWalk, Forwarding.is_quiet, Forwarding.entry_leads}
 use Rattle.network_model.specs.World.{Link, Router, World, Network, other, side, place_at, attachment_at, opening}
-use Rattle.quiet_routes.specs.Routes.{machine_at}
+use Rattle.quiet_routes.specs.Routes.{machine_at, HasRoute}
 use Rattle.many_ways.specs.Network.{Among}
 
 -- router i published a next hop out of this place, over a link that is up in the session of the hop
@@ -28,7 +28,19 @@ abbrev pub EqualHopsAreLeast : Type 0
 EqualHopsAreLeast = (n : Network) (ss : List Step) (w : World) (most : ℕ) → IsNetwork n → Runs (opening n) ss w → n.offer ≡ Equal most → is_quiet w ≡ true
     → (p : Prefix) (i : ℕ) (xs : List Place) (o : ℕ) → i < n.routers → IsHopChain w p i xs o → IsLeastWalk w p i xs o (machine_at w i p).rd
 
+-- a next hop of router i leads to a router that is nearer, and routed
+pub record ComesNearer (w : World) (p : Prefix) (i : ℕ) (h : NextHop) : Type 0 where
+  pub to : ℕ
+  pub leads : entry_leads w i (Via h.port h.session) ≡ Some to
+  pub nearer : (machine_at w to p).rd < (machine_at w i p).rd
+  pub routed : HasRoute w p to
+
+-- so does each that a router of a quiet world published, whatever the network offers
+abbrev pub HopsComeNearer : Type 0
+HopsComeNearer = (n : Network) (ss : List Step) (w : World) → IsNetwork n → Runs (opening n) ss w → is_quiet w ≡ true
+    → (p : Prefix) (i : ℕ) (r : Router) (h : NextHop) → slice_get w.routers i ≡ Some r → Among h (hops_at p (r.hops).published) → ComesNearer w p i h
+
 -- and each router published what it offers
-abbrev pub EqualHopsAreInForce : Type 0
-EqualHopsAreInForce = (n : Network) (ss : List Step) (w : World) (most : ℕ) → IsNetwork n → Runs (opening n) ss w → n.offer ≡ Equal most → is_quiet w ≡ true
+abbrev pub HopsAreInForce : Type 0
+HopsAreInForce = (n : Network) (ss : List Step) (w : World) → IsNetwork n → Runs (opening n) ss w → is_quiet w ≡ true
     → (p : Prefix) (i : ℕ) (r : Router) → slice_get w.routers i ≡ Some r → hops_at p (r.hops).published ≡ hops_at p (offered_hops r)

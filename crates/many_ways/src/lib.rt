@@ -33,7 +33,7 @@
 ghost use Rattle.many_ways.specs.Network.{ManyWaysLoopFree};
 ghost use Rattle.many_ways.specs.Packets.{HoldsInEveryHistory, NoManyWayCircles, NoMovingManyWayCircles, ManyWaysEnd};
 ghost use Rattle.many_ways.specs.InForce.{NoHopCircles, HopWaysEnd, SomeRouterHasAChoice, SomeHopOutlivesItsRow};
-ghost use Rattle.many_ways.specs.HopsAtQuiet.{EqualHopsAreLeast, EqualHopsAreInForce};
+ghost use Rattle.many_ways.specs.HopsAtQuiet.{EqualHopsAreLeast, HopsComeNearer, HopsAreInForce};
 ghost use Rattle.no_packet_loops.specs.Packets.{HoldsInEveryWorld};
 ghost use Rattle.many_ways.specs.Journeys.{NoManyWayJourneyCircles};
 ghost use Rattle.many_ways.specs.Quiet.{ManyWaysAtQuiet};
@@ -88,9 +88,11 @@ pub fn no_hop_circles()
     ensures end { HoldsInEveryWorld HopWaysEnd }
 {}
 
-/// In every quiet world of every run of a network that offers next hops of equal cost, each router published
-/// what it offers, and every chain of published next hops is a least walk to an attached router.
+/// In every quiet world of every run each router published the next hops that it offers, and each of these
+/// leads to a router that is nearer and has a route. If the network offers next hops of equal cost, every
+/// chain of them that ends at an attached router, at the distance of its attachment, is a least walk.
 pub fn equal_hops_at_quiet()
     ensures least { EqualHopsAreLeast }
-    ensures in_force { EqualHopsAreInForce }
+    ensures nearer { HopsComeNearer }
+    ensures in_force { HopsAreInForce }
 {}
