@@ -14,8 +14,8 @@
 //!
 //! The law ([`no_daemon_hop_circles`]): no packet meets a router twice, whichever of these each router takes
 //! for it, whatever has happened, and whichever prefixes match. That holds whether packets tell the session
-//! of their row or not, as in `daemon_laws`. [`hops_at_rest`]: at rest chains of next hops of equal cost are
-//! least ways, and no next hop is a dead end.
+//! of their row or not, as in `daemon_laws`. [`hops_at_rest`]: at rest chains of next hops of equal cost
+//! that end at an attachment are least ways, and no next hop is a dead end.
 //!
 //! Why it is true: whichever next hop a router shows in place of its row, all that `daemon_laws` keeps of
 //! processes is kept (`proofs/Shown.antt`, `proofs/Kept.antt`). A next hop that is feasible when it is
@@ -43,9 +43,9 @@ pub fn no_daemon_hop_circles()
     ensures unmarked { HoldsAlways NoUnmarkedHopCircles }
 {}
 
-/// Where all is at rest, as in `daemon_laws`: every chain of published next hops of equal cost is a least way to an
-/// attached router, and costs the reported distance; each published next hop, of equal cost or not, leads over a link
-/// that is up to a router that is nearer; and each router published what it offers.
+/// Where all is at rest, as in `daemon_laws`, each router published what it offers. Each published next hop leads over
+/// a link that is up to a router that is nearer. If all offer next hops of equal cost, every chain of published ones
+/// that ends at an attached router, at the distance of its attachment, is a least way. It costs the reported distance.
 pub fn hops_at_rest()
     ensures least { HoldsAlways EqualHopsAreLeastAtDaemons }
     ensures nearer { HoldsAlways HopsComeNearerAtDaemons }

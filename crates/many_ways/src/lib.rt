@@ -8,8 +8,8 @@
 //! The law ([`no_hop_circles`]): no, in every world of every run, whichever prefixes match the packet, and
 //! also if some routers go by what they would publish now (`NoHopCircles` in `specs/InForce.antt`). Each way
 //! only has to be *feasible* when it is published: its port is up, and the neighbour there has reported less
-//! than the feasible distance. At rest, if routers offer ways of equal cost, each chain of them is a least
-//! walk ([`equal_hops_at_quiet`]).
+//! than the feasible distance. At rest, if routers offer ways of equal cost, each chain of them that
+//! ends at an attached router, at the distance of its attachment, is a least walk ([`equal_hops_at_quiet`]).
 //!
 //! ```text
 //!    0 -- 1 -- 3     links cost 1, and router 3 is attached to the prefix at cost 1
@@ -54,8 +54,9 @@ pub fn no_many_way_circles()
     ensures end { HoldsInEveryHistory ManyWaysEnd }
 {}
 
-/// In a quiet network every walk along ways of equal cost, whichever each router takes, is a least one;
-/// the row is among them; and no feasible way is a dead end, of equal cost or not.
+/// In a quiet network every walk along feasible next hops of equal cost that ends at an attached router, at its
+/// attachment, is a least one. The row is among these next hops. No feasible one is a dead end, of equal cost
+/// or not.
 pub fn many_ways_at_quiet()
     ensures { ManyWaysAtQuiet }
 {}
@@ -75,8 +76,9 @@ pub fn no_many_way_journey_circles()
     ensures { HoldsInEveryHistory NoManyWayJourneyCircles }
 {}
 
-/// In every quiet world of every run, every chain of ways of equal cost, whichever each router takes, is a
-/// least walk to an attached router, and costs the reported distance.
+/// In every quiet world of every run, every chain of feasible next hops of equal cost that ends at an attached
+/// router, at the distance of its attachment, is a least walk, and costs the reported distance. That holds
+/// whichever of them each router takes.
 pub fn equal_chains_are_least()
     ensures { EqualChainsAreLeast }
 {}
