@@ -6,3 +6,4 @@ pub mod Ways
 pub mod Alone
 pub mod Resting
 pub mod Example
+pub mod RestExample

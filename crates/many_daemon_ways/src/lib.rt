@@ -30,7 +30,7 @@
 
 ghost use Rattle.daemon_laws.specs.Happenings.{HoldsAlways};
 ghost use Rattle.many_daemon_ways.specs.Packets.{NoHopCirclesAtDaemons, NoUnmarkedHopCircles};
-ghost use Rattle.many_daemon_ways.specs.Reached.{SomeHopOutlives};
+ghost use Rattle.many_daemon_ways.specs.Reached.{SomeHopOutlives, SomeHopsRest};
 ghost use Rattle.many_daemon_ways.specs.Rest.{EqualHopsAreLeastAtDaemons, HopsAreInForce, HopsComeNearerAtDaemons};
 
 /// Whatever happens, and in which order, no packet meets a router twice, where each router sends it by the row that
@@ -52,7 +52,9 @@ pub fn hops_at_rest()
     ensures in_force { HoldsAlways HopsAreInForce }
 {}
 
-/// Some published next hop leads on where the row beside it, which is of a port, leads nowhere any more.
+/// Some published next hop leads on where the row beside it, which is of a port, leads nowhere any more. And some
+/// routers that offer next hops of equal cost come to rest, where a chain of these leads to an attached router.
 pub fn some_hop_outlives()
-    ensures { SomeHopOutlives }
+    ensures outlives { SomeHopOutlives }
+    ensures rests { SomeHopsRest }
 {}
