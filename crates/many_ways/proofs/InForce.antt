@@ -127,7 +127,7 @@ module _ (n : Network) (ss : List Step) (v : World) (valid : IsNetwork n) (runs 
 
   way_is : (addr : ℕ) (way : List ℕ) → IsHopWay h.world addr way → IsMovingManyWay h addr way
   way_is addr way g = way_by (λ i k. (b : Bool) × MayGoOver h.world b addr i k) (λ i k. (b : Bool) × MayGoByWays h b addr i k)
-      (by_others (λ b j p. option_map_or (hops_by b p) (slice_get (h.world).routers j) []) (λ b. ways_by b h) h.world among_ways addr) way g
+      (λ i k (b, M). (b, by_others (λ j p. option_map_or (hops_by b p) (slice_get (h.world).routers j) []) (ways_by b h) h.world (among_ways b) b addr i k M)) way g
 
   no_circles : NoHopCircles h.world
   no_circles addr way g = always_no_moving_circles n ss v valid runs addr way (way_is addr way g)

@@ -8,7 +8,7 @@ use Rattle.all_packets.specs.Packets.{IsWayBy}
 use Rattle.all_packets.proofs.Ways as ways
 use Rattle.all_packets.proofs.Improving.{Improves, LeadsBy, Matched, matched_once, matched_few, way_by}
 use Rattle.many_ways.specs.Network.{Wide, Among, WayEdge, FeasibleEdge}
-use Rattle.many_ways.specs.Packets.{feasible_ways, ways_by, MayGoBy, MayGoByWays, NoMovingManyWayCircles, NoManyWayCircles, ManyWaysEnd, HoldsInEveryHistory}
+use Rattle.many_ways.specs.Packets.{feasible_ways, ways_by, MayGoBy, MayGoByWays, NoMovingManyWayCircles, ManyWaysEnd, HoldsInEveryHistory}
 use Rattle.many_ways.proofs.{Walks.way_falls, Walks.feasible_falls, Runs.wide_view, Runs.WideReached, Runs.wide_reached, Feasible.Way, Feasible.way_of}
 
 module _ (n : Network) (ss : List Step) (v : World) (valid : IsNetwork n) (runs : Runs (opening n) ss v) where
@@ -21,10 +21,6 @@ module _ (n : Network) (ss : List Step) (v : World) (valid : IsNetwork n) (runs 
   abbrev w : World
   w = h.world
 
-  -- the ways that routers had when they published last, or those that are feasible now
-  abbrev ways_now : Bool → ℕ → Prefix → List NextHop
-  ways_now b i p = ways_by b h i p
-
   -- the feasible distance that goes with what a router chose, or with what it published
   abbrev fd_by : Bool → Prefix → ℕ → ℕ
   fd_by b p i = fd_in (if b then w.routers else h.published) p i
@@ -35,7 +31,7 @@ module _ (n : Network) (ss : List Step) (v : World) (valid : IsNetwork n) (runs 
 
   -- a row of router i may lead to router k: by its entry, or by one of its ways
   abbrev MayLead : Bool → Prefix → ℕ → ℕ → Type 0
-  MayLead b p i k = LeadsBy rows (entry_leads w) b p i k ⊎ ((o : NextHop) × Among o (ways_now b i p) × (entry_leads w i (Via o.port o.session) ≡ Some k))
+  MayLead b p i k = LeadsBy rows (entry_leads w) b p i k ⊎ ((o : NextHop) × Among o (ways_by b h i p) × (entry_leads w i (Via o.port o.session) ≡ Some k))
 
   module _ (p : Prefix) where
     X : WideReached n N p w h.published
@@ -90,10 +86,10 @@ module _ (n : Network) (ss : List Step) (v : World) (valid : IsNetwork n) (runs 
     bounded false i = (let le = R.inv.pfd_bounded i in let is = published_fd i in omega (arith, le, is))
 
     -- along a way that was published both feasible distances of the far router are less
-    published_lower : (i k : ℕ) (o : NextHop) → Among o (ways_now false i p) → entry_leads w i (Via o.port o.session) ≡ Some k → (fd_by true p k < fd_by false p i) × (fd_by false p k < fd_by false p i)
+    published_lower : (i k : ℕ) (o : NextHop) → Among o (ways_by false h i p) → entry_leads w i (Via o.port o.session) ≡ Some k → (fd_by true p k < fd_by false p i) × (fd_by false p k < fd_by false p i)
     published_lower i k o a lead =
         let A : At i o.port o.session k = way_at i o.port o.session k lead in
-        let E : WayEdge W (at_port i o.port) = record { linked = A.up; offered = subst (λ (x : ℕ). Among (record { port = o.port; session = x }) (ways_now false i p)) (sym A.present) a } in
+        let E : WayEdge W (at_port i o.port) = record { linked = A.up; offered = subst (λ (x : ℕ). Among (record { port = o.port; session = x }) (ways_by false h i p)) (sym A.present) a } in
         let f = way_falls t W X.wide (at_port i o.port) A.there E in
         let f0 : (s.machine k).fd < s.published_fd i = subst (λ (x : ℕ). (s.machine x).fd < s.published_fd i) A.far_router f.0 in
         let f1 : s.published_fd k < s.published_fd i = subst (λ (x : ℕ). s.published_fd x < s.published_fd i) A.far_router f.1 in
@@ -103,7 +99,7 @@ module _ (n : Network) (ss : List Step) (v : World) (valid : IsNetwork n) (runs 
         (omega (arith, f0, a, c), omega (arith, f1, b, c))
 
     -- and along one that is feasible now
-    present_lower : (i k : ℕ) (o : NextHop) → Among o (ways_now true i p) → entry_leads w i (Via o.port o.session) ≡ Some k → (fd_by true p k < fd_by true p i) × (fd_by false p k < fd_by true p i)
+    present_lower : (i k : ℕ) (o : NextHop) → Among o (ways_by true h i p) → entry_leads w i (Via o.port o.session) ≡ Some k → (fd_by true p k < fd_by true p i) × (fd_by false p k < fd_by true p i)
     present_lower i k o a lead = by_router (slice_get w.routers i) refl a
       where
         by_router : (x : Option Router) → slice_get w.routers i ≡ x → Among o (option_map_or (feasible_ways p) x []) → (fd_by true p k < fd_by true p i) × (fd_by false p k < fd_by true p i)
@@ -131,7 +127,7 @@ module _ (n : Network) (ss : List Step) (v : World) (valid : IsNetwork n) (runs 
             (omega (arith, f0, a, c), omega (arith, f1, b, c))
 
   -- along a way both feasible distances of the far router are less
-  way_lower : (b c : Bool) (p : Prefix) (i k : ℕ) (o : NextHop) → Among o (ways_now b i p) → entry_leads w i (Via o.port o.session) ≡ Some k → fd_by c p k < fd_by b p i
+  way_lower : (b c : Bool) (p : Prefix) (i k : ℕ) (o : NextHop) → Among o (ways_by b h i p) → entry_leads w i (Via o.port o.session) ≡ Some k → fd_by c p k < fd_by b p i
   way_lower true true p i k o a lead = (present_lower p i k o a lead).0
   way_lower true false p i k o a lead = (present_lower p i k o a lead).1
   way_lower false true p i k o a lead = (published_lower p i k o a lead).0
@@ -156,7 +152,7 @@ module _ (n : Network) (ss : List Step) (v : World) (valid : IsNetwork n) (runs 
 
   module _ (addr : ℕ) where
     -- where a packet goes on it is matched by a row that may lead there
-    matches : (b : Bool) (i k : ℕ) → MayGoBy ways_now w b addr i k → Matched rows MayLead fd_by improves addr b i k
+    matches : (b : Bool) (i k : ℕ) → MayGoByWays h b addr i k → Matched rows MayLead fd_by improves addr b i k
     matches b i k M = record {
       prefix = M.prefix;
       entry = M.entry;
@@ -164,38 +160,31 @@ module _ (n : Network) (ss : List Step) (v : World) (valid : IsNetwork n) (runs 
       leads_to = elim M.leads [ inl l ↦ inl (M.entry, match_is_row addr M.prefix M.entry (rows b i) (by_entries.in_order b i) M.matched, l) | inr o ↦ inr o ];
     }
 
-    matched_way : (way : List ℕ) → IsWayBy (λ i k. (b : Bool) × MayGoBy ways_now w b addr i k) way → IsWayBy (λ i k. (b : Bool) × Matched rows MayLead fd_by improves addr b i k) way
-    matched_way = way_by (λ i k. (b : Bool) × MayGoBy ways_now w b addr i k) (λ i k. (b : Bool) × Matched rows MayLead fd_by improves addr b i k) (λ i k m. (m.0, matches m.0 i k m.1))
+    matched_way : (way : List ℕ) → IsWayBy (λ i k. (b : Bool) × MayGoByWays h b addr i k) way → IsWayBy (λ i k. (b : Bool) × Matched rows MayLead fd_by improves addr b i k) way
+    matched_way = way_by (λ i k. (b : Bool) × MayGoByWays h b addr i k) (λ i k. (b : Bool) × Matched rows MayLead fd_by improves addr b i k) (λ i k m. (m.0, matches m.0 i k m.1))
 
     -- no packet circles
-    none_circles : (way : List ℕ) → IsWayBy (λ i k. (b : Bool) × MayGoBy ways_now w b addr i k) way → meets_twice way ≡ false
+    none_circles : (way : List ℕ) → IsWayBy (λ i k. (b : Bool) × MayGoByWays h b addr i k) way → meets_twice way ≡ false
     none_circles way g = matched_once rows MayLead fd_by improves addr way (matched_way way g)
 
     -- no way has more routers than there are
-    all_end : (i : ℕ) (ks : List ℕ) → i < length w.routers → IsWayBy (λ i k. (b : Bool) × MayGoBy ways_now w b addr i k) (i ∷ ks) → length (i ∷ ks) ≤ length w.routers
+    all_end : (i : ℕ) (ks : List ℕ) → i < length w.routers → IsWayBy (λ i k. (b : Bool) × MayGoByWays h b addr i k) (i ∷ ks) → length (i ∷ ks) ≤ length w.routers
     all_end i ks lt g = matched_few rows MayLead fd_by improves addr (length w.routers) (ways.is_there n ss v valid runs) i ks lt (matched_way (i ∷ ks) g)
 
 -- in every history
 pub always_no_moving_circles : HoldsInEveryHistory NoMovingManyWayCircles
 always_no_moving_circles n ss v valid r addr way g = none_circles n ss v valid r addr way g
 
--- nor by what is published
-pub always_no_circles : HoldsInEveryHistory NoManyWayCircles
-always_no_circles n ss v valid r addr way g = none_circles n ss v valid r addr way (way_by (MayGoByWays (history n ss) false addr) (λ i k. (b : Bool) × MayGoByWays (history n ss) b addr i k) (λ i k m. (false, m)) way g)
-
 -- ways end, in every history
 pub always_ways_end : HoldsInEveryHistory ManyWaysEnd
 always_ways_end n ss v valid r addr = all_end n ss v valid r addr
 
--- where some ways are among others, a packet that may go by the ones may go by the others
-pub by_others : (ways ways' : Bool → ℕ → Prefix → List NextHop) (w : World) → ((b : Bool) (i : ℕ) (p : Prefix) (o : NextHop) → Among o (ways b i p) → Among o (ways' b i p)) → (addr i k : ℕ)
-    → ((b : Bool) × MayGoBy ways w b addr i k) → (b : Bool) × MayGoBy ways' w b addr i k
-by_others ways ways' w among addr i k (b, M) = (
-  b,
-  record {
-    prefix = M.prefix;
-    entry = M.entry;
-    matched = M.matched;
-    leads = elim M.leads [ inl l ↦ inl l | inr (o, a, l) ↦ inr (o, among b i M.prefix o a, l) ];
-  },
-)
+-- where some next hops are among others, a packet that may go by the ones may go by the others
+pub by_others : (hops hops' : ℕ → Prefix → List NextHop) (w : World) → ((i : ℕ) (p : Prefix) (o : NextHop) → Among o (hops i p) → Among o (hops' i p)) → (b : Bool) (addr i k : ℕ)
+    → MayGoBy hops w b addr i k → MayGoBy hops' w b addr i k
+by_others hops hops' w among b addr i k M = record {
+  prefix = M.prefix;
+  entry = M.entry;
+  matched = M.matched;
+  leads = elim M.leads [ inl l ↦ inl l | inr (o, a, l) ↦ inr (o, among i M.prefix o a, l) ];
+}

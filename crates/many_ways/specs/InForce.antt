@@ -13,7 +13,7 @@ hops_by is_present p r = hops_at p (if is_present then offered_hops r else (r.ho
 
 -- a packet for the address may go from router i to router k, by what the router published or by what it would publish now
 abbrev pub MayGoOver : World → Bool → ℕ → ℕ → ℕ → Type 0
-MayGoOver w is_present addr i k = MayGoBy (λ b j p. option_map_or (hops_by b p) (slice_get w.routers j) []) w is_present addr i k
+MayGoOver w is_present addr i k = MayGoBy (λ j p. option_map_or (hops_by is_present p) (slice_get w.routers j) []) w is_present addr i k
 
 -- a way of a packet that goes at each router by any of what that published, or of what it publishes meanwhile
 abbrev pub IsHopWay : World → ℕ → List ℕ → Type 0

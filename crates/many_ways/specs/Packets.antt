@@ -33,26 +33,18 @@ ways_by is_present h i p = option_map_or (feasible_ways p) (slice_get (routers_b
 
 -- ---- packets
 
--- where these are the ways of routers for prefixes, those that go with what they published and those that go with what they have chosen since: a
--- packet for the address may go from router i to router k. Its longest match is a row of the prefix, and that row leads to k, or one of
--- the router's ways for that prefix does
-pub record MayGoBy (ways : Bool → ℕ → Prefix → List NextHop) (w : World) (is_present : Bool) (addr i k : ℕ) : Type 0 where
+-- where routers have these next hops for prefixes, beside the rows that they published or those that they have chosen since, a packet for
+-- the address may go from router i to router k: its longest match is a row of the prefix, and that row leads to k, or one of the router's
+-- next hops for the prefix does
+pub record MayGoBy (ways : ℕ → Prefix → List NextHop) (w : World) (is_present : Bool) (addr i k : ℕ) : Type 0 where
   pub prefix : Prefix
   pub entry : Entry
   pub matched : longest_match addr (mixture_rows (λ j. is_present) w i) ≡ Some (prefix, entry)
-  pub leads : (entry_leads w i entry ≡ Some k) ⊎ ((o : NextHop) × Among o (ways is_present i prefix) × (entry_leads w i (Via o.port o.session) ≡ Some k))
+  pub leads : (entry_leads w i entry ≡ Some k) ⊎ ((o : NextHop) × Among o (ways i prefix) × (entry_leads w i (Via o.port o.session) ≡ Some k))
 
 -- by all that were feasible when the router published last, or that are now
 abbrev pub MayGoByWays : History → Bool → ℕ → ℕ → ℕ → Type 0
-MayGoByWays h is_present addr i k = MayGoBy (λ b. ways_by b h) h.world is_present addr i k
-
--- a way of a packet that goes at each router by what that published, any of it, whichever prefix matches
-abbrev pub IsManyWay : History → ℕ → List ℕ → Type 0
-IsManyWay h addr way = IsWayBy (MayGoByWays h false addr) way
-
--- no packet meets a router twice
-abbrev pub NoManyWayCircles : History → Type 0
-NoManyWayCircles h = (addr : ℕ) (way : List ℕ) → IsManyWay h addr way → meets_twice way ≡ false
+MayGoByWays h is_present addr i k = MayGoBy (ways_by is_present h) h.world is_present addr i k
 
 -- a way of a packet that at each router goes by what that published, or by what it has chosen and publishes meanwhile
 abbrev pub IsMovingManyWay : History → ℕ → List ℕ → Type 0

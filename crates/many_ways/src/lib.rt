@@ -31,7 +31,7 @@
 #![tactic(auto)]
 
 ghost use Rattle.many_ways.specs.Network.{ManyWaysLoopFree};
-ghost use Rattle.many_ways.specs.Packets.{HoldsInEveryHistory, NoManyWayCircles, NoMovingManyWayCircles, ManyWaysEnd};
+ghost use Rattle.many_ways.specs.Packets.{HoldsInEveryHistory, NoMovingManyWayCircles, ManyWaysEnd};
 ghost use Rattle.many_ways.specs.InForce.{NoHopCircles, HopWaysEnd, SomeRouterHasAChoice, SomeHopOutlivesItsRow};
 ghost use Rattle.many_ways.specs.HopsAtQuiet.{EqualHopsAreLeast, HopsComeNearer, HopsAreInForce};
 ghost use Rattle.no_packet_loops.specs.Packets.{HoldsInEveryWorld};
@@ -45,11 +45,10 @@ pub fn many_ways()
     ensures { ManyWaysLoopFree }
 {}
 
-/// In every world of every run no packet meets a router twice, whichever prefixes match its address on its
-/// way, where each router may send it by its row or over any way that was feasible when it published last;
-/// nor does one that moves while routers publish. No such way has more routers than there are.
+/// In every world of every run no packet meets a router twice, whichever prefixes match its address on its way.
+/// Each router may send it by the row that it published, or by any next hop that was feasible then; or by the
+/// row that it has chosen since, or by any that is feasible now. No such way has more routers than there are.
 pub fn no_many_way_circles()
-    ensures published { HoldsInEveryHistory NoManyWayCircles }
     ensures moving { HoldsInEveryHistory NoMovingManyWayCircles }
     ensures end { HoldsInEveryHistory ManyWaysEnd }
 {}
