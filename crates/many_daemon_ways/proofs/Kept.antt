@@ -9,7 +9,7 @@ use Rattle.router_core.specs.Alone.{rows_due, router_publishing_some, may_forget
 use Rattle.single_router.specs.{declared.input.Input.Input, Inputs.told_fault, Openings.made_router}
 use Rattle.single_router.specs.declared.input.Input.TheVariants as input
 use Rattle.many_ways.specs.Network.{Among}
-use Rattle.many_ways.proofs.{Feasible.stands, Feasible.way_of, Offered.hops_of_machine, Offered.offers_ways}
+use Rattle.many_ways.proofs.{Feasible.stands, Feasible.feasible_hop, Offered.hops_of_machine, Offered.offers_feasible}
 use Rattle.daemon_laws.specs.{Processes.Carried, Processes.Processes, Facts.fd_then, Facts.fds_next, Moments.fds_reached}
 use Rattle.daemon_laws.specs.Happenings.{Happening, Tells, Takes, Loses, Publishes, PublishesSome, Forgets, Releases, Offers, BeginsAnew, IsLocalInput, CanHappen, AreReached, Begun, Happened, Rewired, with_process, with_coming, with_last, with_heard, told_router, forgotten, having_taken, sent_from, having_released, last_anew, heard_anew, lost_anew, after_happening}
 use Rattle.daemon_laws.proofs.{Cases.after_message, Cases.by_take, Cases.by_release, Routers.RouterKept, Invariant.Invariant, InForce.PutsInForce, InForce.puts_nothing, SomeRows.hops_in_force, SomeRows.row_forgotten, SomeRows.row_beside, Orderly.told_more, Steps.router_here, Steps.router_away, Steps.puts_at, Order.puts_orderly}
@@ -150,7 +150,7 @@ module _ (p : Prefix) (i : ℕ) (h : NextHop) where
 fresh : (p : Prefix) (r : Router) (h : NextHop) → Among h (hops_at p (offered_hops r)) → MayShow p r (machine_of r p).fd h
 fresh p r h a =
     let (m, is, s) = hops_of_machine (r.hops).offer (session_at r.ports) r.machines p h (stands h (hops_at p (offered_hops r)) a.0 a.1) in
-    let W = way_of p r h (offers_ways p r h a) in
+    let W = feasible_hop p r h (offers_feasible p r h a) in
     record { machine = m; heard = is; up = W.up; session_is = W.session_is; low = W.low }
 
 module _ (t : Topology) (p : Prefix) (fds : ℕ → ℕ) (w : Processes) (i : ℕ) (h : NextHop) where

@@ -3,12 +3,12 @@ use Rattle.std.proofs.Common.{refl, sym, ap, subst, ◌∙◌, arith, ◌≡◌,
 use Rattle.no_packet_loops.proofs.Common.{find as row_of, None_not_Some, Prefix, prefix_cmp, NextHop, machine_of, offered_hops, Topology, LinkEnd, most_routers, reported_at}
 use Rattle.network_model.specs.{declared.network.Offer.TheVariants.Equal, NextHops.hops_at}
 use Rattle.many_ways.specs.{Network.Among, Quiet.EqualEdge}
-use Rattle.many_ways.proofs.{AtQuiet.adds, Offered.offers_ways, Offered.equal_at, Offered.OneAlone, Offered.offered_now, Feasible.Way, Feasible.way_of}
+use Rattle.many_ways.proofs.{AtQuiet.adds, Offered.offers_feasible, Offered.equal_at, Offered.OneAlone, Offered.offered_now, Feasible.FeasibleHop, Feasible.feasible_hop}
 use Rattle.daemon_laws.specs.{Processes.Processes, Happenings.HoldsAlways, Moments.fds_reached}
 use Rattle.daemon_laws.specs.Rest.{IsUpIn, cost_from, way_cost, IsWayHome, AreAtRest}
 use Rattle.daemon_laws.proofs.{Invariant.Invariant, Quiet.still, Always.Keeps, Always.always}
 use Rattle.daemon_laws.proofs.Resting as resting
-use Rattle.many_daemon_ways.specs.Rest.{Publishes, IsHopChainAtDaemons, OfferEqual, EqualHopsAreLeastAtDaemons, HopsComeNearerAtDaemons, HopsAreInForce}
+use Rattle.many_daemon_ways.specs.Rest.{HasPublished, IsHopChainAtDaemons, OfferEqual, EqualHopsAreLeastAtDaemons, HopsComeNearerAtDaemons, HopsAreInForceAtDaemons}
 use Rattle.many_daemon_ways.proofs.{Alone.one_alone, Kept.hop_shown, Kept.HopsShown, Kept.hops_always}
 
 module _ (t : Topology) (p : Prefix) (fds : ℕ → ℕ) (w : Processes) (A : Keeps t p fds w) (S : HopsShown t p fds w) (E : (i : ℕ) → OneAlone (w.routers i)) (n : ℕ) (R : AreAtRest t n w) where
@@ -30,7 +30,7 @@ module _ (t : Topology) (p : Prefix) (fds : ℕ → ℕ) (w : Processes) (A : Ke
   in_force i l = offered_now p (w.routers i) (E i) (unheard i) (still p (w.routers i) (I.keeps i) (R.quiet i l)).done.offers
 
   module _ (few : n ≤ most_routers) where
-    module _ (e : LinkEnd) (session : ℕ) (l : e.router < n) (sends : Publishes w p e session) where
+    module _ (e : LinkEnd) (session : ℕ) (l : e.router < n) (sends : HasPublished w p e session) where
       -- the next hop
       abbrev hop : NextHop
       hop = record { port = e.port; session = session }
@@ -38,8 +38,8 @@ module _ (t : Topology) (p : Prefix) (fds : ℕ → ℕ) (w : Processes) (A : Ke
       offered : Among hop (hops_at p (offered_hops (w.routers e.router)))
       offered = subst (Among hop) (in_force e.router l) sends
 
-      W : Way p (w.routers e.router) hop
-      W = way_of p (w.routers e.router) hop (offers_ways p (w.routers e.router) hop offered)
+      W : FeasibleHop p (w.routers e.router) hop
+      W = feasible_hop p (w.routers e.router) hop (offers_feasible p (w.routers e.router) hop offered)
 
       -- its link is up in its session
       up_in : IsUpIn t w e session
@@ -105,5 +105,5 @@ hops_come_nearer t w M n few R p e session l sends = (
   nearer t p (fds_reached t w M p) w (always p t w M).kept (hops_always p t w M) (one_alone t w M) n R few e session l sends,
 )
 
-pub hops_are_in_force : HoldsAlways HopsAreInForce
+pub hops_are_in_force : HoldsAlways HopsAreInForceAtDaemons
 hops_are_in_force t w M n R p i l = in_force t p (fds_reached t w M p) w (always p t w M).kept (hops_always p t w M) (one_alone t w M) n R i l

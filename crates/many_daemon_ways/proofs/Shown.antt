@@ -43,7 +43,7 @@ keeps_hop p h r R heard = record {
   faces_are = R.faces_are;
 }
 
--- a router may show this next hop, where its published feasible distance is that: it has heard of the prefix, the port is up, in the session
+-- a router may show this next hop, where its published feasible distance is that. It has heard of the prefix, the port is up, in the session
 -- that it saw last, and the neighbour there reported less
 pub record MayShow (p : Prefix) (r : Router) (fd : ℕ) (h : NextHop) : Type 0 where
   pub machine : Machine

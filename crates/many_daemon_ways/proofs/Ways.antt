@@ -5,8 +5,8 @@ use Rattle.network_model.specs.NextHops.{hops_at}
 use Rattle.no_packet_loops.proofs.Walks.{match_is_row}
 use Rattle.all_packets.specs.Packets.{IsWayBy}
 use Rattle.all_packets.proofs.Improving.{Improves, LeadsBy, Goes}
-use Rattle.many_ways.specs.{Network.Among, Packets.feasible_ways}
-use Rattle.many_ways.proofs.{Shown.below_both, Feasible.Way, Feasible.way_of}
+use Rattle.many_ways.specs.{Network.Among, Packets.feasible_hops}
+use Rattle.many_ways.proofs.{Shown.below_both, Feasible.FeasibleHop, Feasible.feasible_hop}
 use Rattle.daemon_laws.specs.{Processes.Processes, Happenings.HoldsAlways, Moments.fds_reached}
 use Rattle.daemon_laws.specs.Packets.{is_in_session, session_leads, lets_in, unmarked_leads, IsShut}
 use Rattle.daemon_laws.proofs.{Seen.is_port_in, Moving.in_session, Orderly.Orderly, Shown.AllShown, Always.Always, Always.always}
@@ -52,13 +52,13 @@ module _ (t : Topology) (w : Processes) (fds : Prefix → ℕ → ℕ) (A : (p :
 
   -- ---- a neighbour that is feasible now
 
-  module _ (p : Prefix) (i : ℕ) (h : NextHop) (a : Among h (feasible_ways p (w.routers i))) where
+  module _ (p : Prefix) (i : ℕ) (h : NextHop) (a : Among h (feasible_hops p (w.routers i))) where
     -- the end of its link
     abbrev e : LinkEnd
     e = at_port i h.port
 
-    W : Way p (w.routers i) h
-    W = way_of p (w.routers i) h a
+    W : FeasibleHop p (w.routers i) h
+    W = feasible_hop p (w.routers i) h a
 
     -- the router is in the session
     here : is_port_in p (w.routers i) h.port h.session ≡ true
@@ -113,7 +113,7 @@ module _ (t : Topology) (w : Processes) (fds : Prefix → ℕ → ℕ) (A : (p :
 
   -- a next hop that goes with chosen rows, or with published ones
   abbrev IsHopBy : Bool → Prefix → ℕ → NextHop → Type 0
-  IsHopBy b p i h = Among h (if b then feasible_ways p (w.routers i) else hops_at p ((w.routers i).hops).published)
+  IsHopBy b p i h = Among h (if b then feasible_hops p (w.routers i) else hops_at p ((w.routers i).hops).published)
 
   -- along it the feasible distances fall
   hop_falls : (b c : Bool) (p : Prefix) (i k : ℕ) (h : NextHop) → IsHopBy b p i h → session_leads t w i (Via h.port h.session) ≡ Some k → fd_by c p k < fd_by b p i

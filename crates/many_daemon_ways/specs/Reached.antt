@@ -27,8 +27,8 @@ pub record SomeHopOutlives : Type 0 where
   pub beside : Among hop (hops_at prefix (((after_happenings topology first happenings).routers router).hops).published)
   pub leads : session_leads topology (after_happenings topology first happenings) router (Via hop.port hop.session) ≡ Some to
 
--- something may happen after which the first n routers are at rest and offer next hops of equal cost, and a published one leads over the
--- end of a link, perhaps with others behind it, to a router that is attached
+-- something may happen after which the first n routers are at rest and offer next hops of equal cost. One that a router published leads over
+-- the end of a link, perhaps with others behind it, to a router that is attached
 pub record SomeHopsRest : Type 0 where
   pub topology : Topology
   pub first : Processes

@@ -7,15 +7,15 @@ use Rattle.single_router.specs.Inputs.{attachment_of}
 use Rattle.many_ways.specs.Network.{Among}
 use Rattle.daemon_laws.specs.{Processes.Processes, Rest.IsUpIn, Rest.IsLeastWay, Rest.AreAtRest}
 
--- the router at this end of a link published it as a next hop, in this session
-abbrev pub Publishes : Processes → Prefix → LinkEnd → ℕ → Type 0
-Publishes w p e session = Among (record { port = e.port; session = session }) (hops_at p ((w.routers e.router).hops).published)
+-- the router at this end of a link has published it as a next hop, in this session
+abbrev pub HasPublished : Processes → Prefix → LinkEnd → ℕ → Type 0
+HasPublished w p e session = Among (record { port = e.port; session = session }) (hops_at p ((w.routers e.router).hops).published)
 
 -- published next hops, whichever each router takes, lead along these ends, over links that are up in their sessions, from router i to
 -- router o, which is attached, and at the distance of its attachment
 abbrev pub IsHopChainAtDaemons : Topology → Processes → Prefix → ℕ → List LinkEnd → ℕ → Type 0
 IsHopChainAtDaemons t w p i [] o = (i ≡ o) × (attachment_of (w.routers o) p ≡ Some (machine_of (w.routers o) p).rd)
-IsHopChainAtDaemons t w p i (e ∷ es) o = (session : ℕ) × (e.router ≡ i) × IsUpIn t w e session × Publishes w p e session × IsHopChainAtDaemons t w p (t.far e).router es o
+IsHopChainAtDaemons t w p i (e ∷ es) o = (session : ℕ) × (e.router ≡ i) × IsUpIn t w e session × HasPublished w p e session × IsHopChainAtDaemons t w p (t.far e).router es o
 
 -- each of the first n routers offers next hops of equal cost
 abbrev pub OfferEqual : ℕ → Processes → Type 0
@@ -30,8 +30,8 @@ EqualHopsAreLeastAtDaemons t w = (n : ℕ) → n ≤ most_routers → AreAtRest 
 -- where routers are at rest each published next hop, of equal cost or not, leads over a link that is up to a router that is nearer
 abbrev pub HopsComeNearerAtDaemons : Topology → Processes → Type 0
 HopsComeNearerAtDaemons t w = (n : ℕ) → n ≤ most_routers → AreAtRest t n w → (p : Prefix) (e : LinkEnd) (session : ℕ) → e.router < n
-    → Publishes w p e session → IsUpIn t w e session × ((machine_of (w.routers (t.far e).router) p).rd < (machine_of (w.routers e.router) p).rd)
+    → HasPublished w p e session → IsUpIn t w e session × ((machine_of (w.routers (t.far e).router) p).rd < (machine_of (w.routers e.router) p).rd)
 
 -- and each router published what it offers
-abbrev pub HopsAreInForce : Topology → Processes → Type 0
-HopsAreInForce t w = (n : ℕ) → AreAtRest t n w → (p : Prefix) (i : ℕ) → i < n → hops_at p ((w.routers i).hops).published ≡ hops_at p (offered_hops (w.routers i))
+abbrev pub HopsAreInForceAtDaemons : Topology → Processes → Type 0
+HopsAreInForceAtDaemons t w = (n : ℕ) → AreAtRest t n w → (p : Prefix) (i : ℕ) → i < n → hops_at p ((w.routers i).hops).published ≡ hops_at p (offered_hops (w.routers i))

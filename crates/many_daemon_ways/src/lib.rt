@@ -4,8 +4,8 @@
 //! The problem is that of `many_ways`, where more may happen (`daemon_laws`): ends of links leave their
 //! sessions by themselves, messages are lost, processes begin anew, ports get other neighbours, and tables
 //! are half written. A router may send each packet by the row that matches it longest, by any next hop that
-//! it published beside that row, or by any neighbour that is feasible now, which is to say that it reported
-//! less than the feasible distance.
+//! it published beside that row, or by any that is feasible now. A next hop is feasible if the neighbour there
+//! reported less than the feasible distance.
 //!
 //! ```text
 //!    router i    row via port 0      its neighbour has left the session: the row leads nowhere
@@ -31,12 +31,12 @@
 ghost use Rattle.daemon_laws.specs.Happenings.{HoldsAlways};
 ghost use Rattle.many_daemon_ways.specs.Packets.{NoHopCirclesAtDaemons, NoUnmarkedHopCircles};
 ghost use Rattle.many_daemon_ways.specs.Reached.{SomeHopOutlives, SomeHopsRest};
-ghost use Rattle.many_daemon_ways.specs.Rest.{EqualHopsAreLeastAtDaemons, HopsAreInForce, HopsComeNearerAtDaemons};
+ghost use Rattle.many_daemon_ways.specs.Rest.{EqualHopsAreLeastAtDaemons, HopsAreInForceAtDaemons, HopsComeNearerAtDaemons};
 
-/// Whatever happens, and in which order, no packet meets a router twice, where each router sends it by the row that
-/// matches it longest, by any next hop that it published beside that, or by any that is feasible now: while rows and
-/// next hops are written into tables one by one, and while those of a process before are taken out. That holds if
-/// packets carry the session of the row or the next hop by which they are sent. It also holds if they carry none, and
+/// Whatever happens, and in which order, no packet meets a router twice. Each router sends it by the row that matches
+/// it longest, by any next hop that it published beside that, or by any that is feasible now. Meanwhile rows and next
+/// hops may be written into tables one by one, and those of a process before may be taken out. That holds if packets
+/// carry the session of the row or the next hop by which they are sent. It also holds if they carry none, as long as
 /// a router forwards what comes in by a port only while it is in the session of the message that it took there last.
 pub fn no_daemon_hop_circles()
     ensures marked { HoldsAlways NoHopCirclesAtDaemons }
@@ -49,7 +49,7 @@ pub fn no_daemon_hop_circles()
 pub fn hops_at_rest()
     ensures least { HoldsAlways EqualHopsAreLeastAtDaemons }
     ensures nearer { HoldsAlways HopsComeNearerAtDaemons }
-    ensures in_force { HoldsAlways HopsAreInForce }
+    ensures in_force { HoldsAlways HopsAreInForceAtDaemons }
 {}
 
 /// Some published next hop leads on where the row beside it, which is of a port, leads nowhere any more. And some

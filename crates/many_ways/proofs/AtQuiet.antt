@@ -1,4 +1,4 @@
--- In a quiet network walks along ways of equal cost are least, and feasible ways come nearer.
+-- In a quiet network walks along next hops of equal cost are least, and feasible ones come nearer.
 use Rattle.std.proofs.Common.{◌≡◌, ◌⊎◌, ℕ, ◌+◌, ◌<◌, ◌≤◌, true, List, [], ◌∷◌, Option, Some, None, refl, sym, subst, inl, inr, arith, ◌∙◌, slice_get}
 use Rattle.network_model.proofs.Common.{false≢true, Some_injective, Machine, distance, port_count, LinkEnd, State, infinity, most_routers}
 use Rattle.network_model.specs.declared.machine.Neighbour.{Neighbour}
@@ -9,7 +9,7 @@ use Rattle.least_cost.specs.Quiet.{LeadsHome, Follows, IsQuiet, IsHome, IsRouted
 use Rattle.machine_laws.proofs.{Distances.distance_cases, Lists.append_within}
 use Rattle.least_cost.proofs.{Replay.cost_of, Kept.Kept, Runs.kept_run}
 use Rattle.least_cost.proofs.AtQuiet.{cost_now, reported_now, routed_below, successor_below, optimal_here}
-use Rattle.many_ways.specs.{Network.FeasibleEdge, Quiet.EqualEdge, Quiet.WaysAreGood, Quiet.ManyWaysAtQuiet}
+use Rattle.many_ways.specs.{Network.FeasibleEdge, Quiet.EqualEdge, Quiet.HopsAreGood, Quiet.ManyHopsAtQuiet}
 
 -- the neighbour at a port that is up
 neighbour_at : (m : Machine) (p : ℕ) → is_up_at m p ≡ true → (x : Neighbour) × (slice_get m.ports p ≡ Some x)
@@ -23,7 +23,7 @@ module _ (t : Topology) (n : ℕ) (s : State) (k : Kept t s) (q : IsQuiet t n s)
   optimal : (i : ℕ) → i < n → IsOptimal t n s i
   optimal i l = optimal_here t n s k q few placed cheap cheap_home i l
 
-  -- a way of equal cost makes up the distance
+  -- a next hop of equal cost makes up the distance
   pub adds : (e : LinkEnd) → t.valid e ≡ true → EqualEdge s e → (s.machine e.router).rd ≡ s.cost e + (s.machine (t.far e).router).rd
   adds e v E = go (distance_cases E.neighbour)
     where
@@ -57,7 +57,7 @@ module _ (t : Topology) (n : ℕ) (s : State) (k : Kept t s) (q : IsQuiet t n s)
           let there : e.port < port_count (s.machine i) = subst (λ (j : ℕ). e.port < port_count (s.machine j)) f.0 (k.there e f.1) in
           absurd (omega (arith, port, there))
 
-  -- a walk along ways of equal cost makes up the distance
+  -- a walk along next hops of equal cost makes up the distance
   makes_up : (i : ℕ) (es : List LinkEnd) → i < n → IsEdgeWalk t (EqualEdge s) i es → (s.machine i).rd ≡ edges_cost s es + (s.machine (walk_end t i es)).rd
   makes_up i [] l f = omega arith
   makes_up i (e ∷ es) l f =
@@ -83,7 +83,7 @@ module _ (t : Topology) (n : ℕ) (s : State) (k : Kept t s) (q : IsQuiet t n s)
       let S = (optimal i l).connected es leads in
       (omega (arith, at, up), λ others w. (let le = S.least_cost others w in omega (arith, at, up, le)))
 
-  -- a feasible way leads to a router that is nearer, and routed
+  -- a feasible next hop leads to a router that is nearer, and routed
   no_dead_end : (i : ℕ) → i < n → (e : LinkEnd) → e.router ≡ i → t.valid e ≡ true → FeasibleEdge s e → ((s.machine (t.far e).router).rd < (s.machine i).rd) × IsRouted t n s (t.far e).router
   no_dead_end i l e r v E =
       let a = reported_now t n s k q few placed cheap cheap_home e v E.linked in
@@ -95,7 +95,7 @@ module _ (t : Topology) (n : ℕ) (s : State) (k : Kept t s) (q : IsQuiet t n s)
         routed_below t n s k q few placed cheap cheap_home (t.far e).router (placed (t.far e) (t.far_valid e v)) (omega (arith, a, b, c, d)),
       )
 
-  -- the row is a way of equal cost
+  -- the row is a next hop of equal cost
   row_is_equal : (i : ℕ) → i < n → (e : LinkEnd) → e.router ≡ i → t.valid e ≡ true → Follows s e → EqualEdge s e
   row_is_equal i l e r v F =
       let m = s.machine e.router in
@@ -114,9 +114,9 @@ module _ (t : Topology) (n : ℕ) (s : State) (k : Kept t s) (q : IsQuiet t n s)
         reached = successor_below t n s k q few placed cheap cheap_home e.router e.port le C.chosen;
       }
 
-  ways_are_good : (i : ℕ) → i < n → WaysAreGood t n s i
-  ways_are_good i l = record { equal_is_least = equal_is_least i l; row_is_equal = row_is_equal i l; no_dead_end = no_dead_end i l }
+  hops_are_good : (i : ℕ) → i < n → HopsAreGood t n s i
+  hops_are_good i l = record { equal_is_least = equal_is_least i l; row_is_equal = row_is_equal i l; no_dead_end = no_dead_end i l }
 
 -- after every run
-pub many_ways_at_quiet : ManyWaysAtQuiet
-many_ways_at_quiet t first last o run n few placed cheap cheap_home q i l = ways_are_good t n last (kept_run t first last o run) q few placed cheap cheap_home i l
+pub many_ways_at_quiet : ManyHopsAtQuiet
+many_ways_at_quiet t first last o run n few placed cheap cheap_home q i l = hops_are_good t n last (kept_run t first last o run) q few placed cheap cheap_home i l

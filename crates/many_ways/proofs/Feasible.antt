@@ -1,9 +1,9 @@
--- What a way of a router is: a port that is up, whose neighbour reported less than the feasible distance.
+-- What a feasible next hop of a router is: over a port that is up, whose neighbour reported less than the feasible distance.
 use Rattle.std.proofs.Common.{refl, sym, ap, subst, ◌∙◌, arith, inl, inr, ◌≡◌, ◌⊎◌, ℕ, zero, suc, ◌+◌, ◌<◌, Bool, true, false, nat_lt, if◌then◌else◌, List, [], ◌∷◌, map, Some, slice_get, ltb-true}
 use Rattle.no_packet_loops.proofs.Common.{and_parts, none-some, Some_injective, Prefix, Router, NextHop, machine_of, session_at, is_up_at, reported_at, Neighbour}
 use Rattle.network_model.proofs.Common.{distance}
 use Rattle.network_model.specs.NextHops.{passing_from}
-use Rattle.many_ways.specs.{Network.Among, Packets.is_low, Packets.way_over, Packets.feasible_ways}
+use Rattle.many_ways.specs.{Network.Among, Packets.is_low, Packets.hop_over, Packets.feasible_hops}
 
 -- ---- lists
 
@@ -75,16 +75,16 @@ none_passing test q (n ∷ ns) fail = ap (λ b. if b then (distance n, q) ∷ pa
 
 -- ---- a router
 
--- a way among those of a router is over a port that is up, in the session that the router saw last, to a neighbour that reported less
-pub record Way (p : Prefix) (r : Router) (h : NextHop) : Type 0 where
+-- one among those of a router is over a port that is up, in the session that the router saw last, to a neighbour that reported less
+pub record FeasibleHop (p : Prefix) (r : Router) (h : NextHop) : Type 0 where
   pub up : is_up_at (machine_of r p) h.port ≡ true
   pub session_is : h.session ≡ session_at r.ports h.port
   pub low : reported_at (machine_of r p) h.port < (machine_of r p).fd
 
-pub way_of : (p : Prefix) (r : Router) (h : NextHop) → Among h (feasible_ways p r) → Way p r h
-way_of p r h a =
+pub feasible_hop : (p : Prefix) (r : Router) (h : NextHop) → Among h (feasible_hops p r) → FeasibleHop p r h
+feasible_hop p r h a =
     let m = machine_of r p in
-    let (x, s, is) = in_map (way_over r) h (passing_from (is_low m.fd) 0 m.ports) (stands h (feasible_ways p r) a.0 a.1) in
+    let (x, s, is) = in_map (hop_over r) h (passing_from (is_low m.fd) 0 m.ports) (stands h (feasible_hops p r) a.0 a.1) in
     let P = in_passing (is_low m.fd) 0 m.ports x s in
     let n = P.neighbour in
     let both = and_parts n.up (nat_lt n.reported m.fd) P.passes in

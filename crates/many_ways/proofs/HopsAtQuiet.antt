@@ -8,7 +8,7 @@ use Rattle.quiet_routes.proofs.Still.{still}
 use Rattle.quiet_routes.proofs.Routes.{quiet_routes}
 use Rattle.many_ways.specs.{Network.Among, QuietWorlds.SendsEqually, QuietWorlds.IsEqualChain}
 use Rattle.many_ways.specs.HopsAtQuiet.{SendsOver, IsHopChain, ComesNearer, EqualHopsAreLeast, HopsComeNearer, HopsAreInForce}
-use Rattle.many_ways.proofs.{Feasible.way_of, Offered.offers_ways, Offered.EqualAt, Offered.equal_at, Offered.OneAlone, Offered.offered_now}
+use Rattle.many_ways.proofs.{Feasible.feasible_hop, Offered.offers_feasible, Offered.EqualAt, Offered.equal_at, Offered.OneAlone, Offered.offered_now}
 use Rattle.many_ways.proofs.QuietWorlds.{attachments_count, comes_nearer, equal_chains_are_least}
 
 -- ---- what routers keep
@@ -93,14 +93,14 @@ module _ (n : Network) (ss : List Step) (w : World) (V : IsNetwork n) (runs : Ru
   -- a next hop that is published leads nearer
   nearer : (i : ℕ) (r : Router) (h : NextHop) → slice_get w.routers i ≡ Some r → Among h (hops_at p (r.hops).published) → ComesNearer w p i h
   nearer i r h at a =
-      comes_nearer n V p w rs R (good p n ss w V runs) quiet (attachments_count n ss w runs) i r at h (way_of p r h (offers_ways p r h (subst (Among h) (in_force i r at) a))) (λ k lt. quiet_routes n ss w V runs quiet p k lt)
+      comes_nearer n V p w rs R (good p n ss w V runs) quiet (attachments_count n ss w runs) i r at h (feasible_hop p r h (offers_feasible p r h (subst (Among h) (in_force i r at) a))) (λ k lt. quiet_routes n ss w V runs quiet p k lt)
 
   abbrev hop_of : (i : ℕ) (x : Place) → SendsOver w p i x → NextHop
   hop_of i x S = record { port = S.port; session = (S.link).session }
 
-  -- where those of equal cost are offered, one that is published is such a way
-  equal_way : (most : ℕ) → n.offer ≡ Equal most → (i : ℕ) (x : Place) (S : SendsOver w p i x) → SendsEqually w p i x
-  equal_way most equal i x S = record {
+  -- where those of equal cost are offered, one that is published is so
+  equal_hop : (most : ℕ) → n.offer ≡ Equal most → (i : ℕ) (x : Place) (S : SendsOver w p i x) → SendsEqually w p i x
+  equal_hop most equal i x S = record {
     port = S.port;
     link = S.link;
     router = S.router;
@@ -109,7 +109,7 @@ module _ (n : Network) (ss : List Step) (w : World) (V : IsNetwork n) (runs : Ru
     is_link = S.is_link;
     is_up = S.is_up;
     is_router = S.is_router;
-    offered = offers_ways p S.router (hop_of i x S) among;
+    feasible = offers_feasible p S.router (hop_of i x S) among;
     at = E.at;
     equal = E.equal ∙ sym at_least;
     reached = (let a = E.equal in let b = E.reached in let c = at_least in omega (arith, a, b, c));
@@ -128,9 +128,9 @@ module _ (n : Network) (ss : List Step) (w : World) (V : IsNetwork n) (runs : Ru
       at_least = subst (λ (m : Machine). m.rd ≡ least (ways m)) shown (((R.inv).sound i).passive_least (ap is_active shown ∙ (still n (wired n V) p w rs R (good p n ss w V runs) quiet i S.router S.is_router).passive))
 
   equal_chain : (most : ℕ) → n.offer ≡ Equal most → (i : ℕ) (xs : List Place) (o : ℕ) → IsHopChain w p i xs o → IsEqualChain w p i xs o
-  unfolding equal_way
+  unfolding equal_hop
   equal_chain most equal i [] o c = c
-  equal_chain most equal i (x ∷ xs) o c = (equal_way most equal i x c.0, equal_chain most equal (side (other x.end) (c.0).link).router xs o c.1)
+  equal_chain most equal i (x ∷ xs) o c = (equal_hop most equal i x c.0, equal_chain most equal (side (other x.end) (c.0).link).router xs o c.1)
 
 -- in every quiet world
 pub equal_hops_are_least : EqualHopsAreLeast

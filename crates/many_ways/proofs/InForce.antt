@@ -1,4 +1,4 @@
--- In every world of every run the next hops that a router published are ways that were feasible then: so no packet meets a router
+-- In every world of every run the next hops that a router published were feasible then: so no packet meets a router
 -- twice, whichever of them each router takes.
 use Rattle.std.proofs.Common.{refl, sym, ap, subst, ◌∙◌, arith, inl, inr, ◌≡◌, ℕ, Bool, true, false, List, [], ◌∷◌, map, length, Option, Some, None, slice_get, slice_set, option_map}
 use Rattle.no_packet_loops.proofs.Common.{option_map_or, cases_eq, slice_get_within, slice_get-map, map-changed_at, slice_get-changed_at, Prefix, Item, End, Link, Router, World, Network, opening, opening_router_of, Lawful, next, changed_router, changed_link, with_cost, with_front_taken, with_message, with_delivered, with_noticed, with_notice_taken, with_released, front_at, notice_at, release_at, changed_attachments, router_accepting, router_at_home, router_publishing, router_releasing, Runs, History, history, history_from, published_after, with_step, with_steps, offered_hops, option_map_or-ind, None_not_Some, Some_injective, routers-changed_link, NextHop, IsNetwork, listed_within, Step, LinkUp, LinkDown, SetCost, Deliver, Publish, Release, Attach, Detach, slice_get-changed_at_other}
@@ -8,9 +8,9 @@ use Rattle.no_packet_loops.proofs.WorldLaws.{next-shape}
 use Rattle.no_packet_loops.proofs.Runs.{published_count, set_beside, set_here, history_world}
 use Rattle.many_ways.specs.Network.{Among}
 use Rattle.all_packets.proofs.Improving.{way_by}
-use Rattle.many_ways.specs.Packets.{feasible_ways, ways_by, MayGoByWays, IsMovingManyWay}
+use Rattle.many_ways.specs.Packets.{feasible_hops, feasible_by, MayGoByFeasible, IsFeasibleHopWay}
 use Rattle.many_ways.specs.InForce.{hops_by, MayGoOver, IsHopWay, NoHopCircles, HopWaysEnd}
-use Rattle.many_ways.proofs.{Offered.offers_ways, Packets.by_others, Packets.always_no_moving_circles, Packets.always_ways_end}
+use Rattle.many_ways.proofs.{Offered.offers_feasible, Packets.by_others, Packets.always_no_feasible_circles, Packets.always_feasible_end}
 
 -- ---- a step that is no publication
 
@@ -42,33 +42,33 @@ hops_stay w _ _ = refl
 
 -- ---- what is in force
 
--- each next hop that a router published was one of its ways when it published last
+-- each next hop that a router published was feasible when it published last
 pub record InForce (w : World) (rs : List Router) : Type 0 where
   pub count : length rs ≡ length w.routers
-  pub were_ways : (i : ℕ) (x : NextHops) → slice_get (all_hops w) i ≡ Some x → (p : Prefix) (h : NextHop) → Among h (hops_at p x.published) → Among h (option_map_or (feasible_ways p) (slice_get rs i) [])
+  pub were_feasible : (i : ℕ) (x : NextHops) → slice_get (all_hops w) i ≡ Some x → (p : Prefix) (h : NextHop) → Among h (hops_at p x.published) → Among h (option_map_or (feasible_hops p) (slice_get rs i) [])
 
 -- at the opening each router published what it offers
 opened : (n : Network) → InForce (opening n) (opening n).routers
-opened n = record { count = refl; were_ways = λ i x at. ways i (slice_get (opening n).routers i) refl x (sym (slice_get-map (λ (r : Router). r.hops) (opening n).routers i) ∙ at) }
+opened n = record { count = refl; were_feasible = λ i x at. each i (slice_get (opening n).routers i) refl x (sym (slice_get-map (λ (r : Router). r.hops) (opening n).routers i) ∙ at) }
   where
-    ways : (i : ℕ) (o : Option Router) → slice_get (opening n).routers i ≡ o → (x : NextHops) → option_map (λ (r : Router). r.hops) o ≡ Some x → (p : Prefix) (h : NextHop) → Among h (hops_at p x.published) → Among h (option_map_or (feasible_ways p) o [])
-    ways i None at x is p h a = absurd (None_not_Some is)
-    ways i (Some r) at x is p h a =
+    each : (i : ℕ) (o : Option Router) → slice_get (opening n).routers i ≡ o → (x : NextHops) → option_map (λ (r : Router). r.hops) o ≡ Some x → (p : Prefix) (h : NextHop) → Among h (hops_at p x.published) → Among h (option_map_or (feasible_hops p) o [])
+    each i None at x is p h a = absurd (None_not_Some is)
+    each i (Some r) at x is p h a =
         let e = listed_within (opening_router_of n) n.routers i r at in
         let hops : x.published ≡ offered_hops r = ap (λ (y : NextHops). y.published) (sym (Some_injective is)) ∙ ap (λ (y : Router). (y.hops).published) (sym e.1) ∙ ap offered_hops e.1 in
-        offers_ways p r h (subst (λ rows. Among h (hops_at p rows)) hops a)
+        offers_feasible p r h (subst (λ rows. Among h (hops_at p rows)) hops a)
 
 -- a publication puts in force what its router offers
 published : (w : World) (rs : List Router) (i : ℕ) (r : Router) → slice_get w.routers i ≡ Some r → InForce w rs → InForce (next w (Publish i)) (published_after w rs (Publish i))
 published w rs i r at F = record {
   count = published_count w rs (Publish i) ∙ F.count ∙ sym (next-shape w (Publish i)).routers;
-  were_ways = each;
+  were_feasible = each;
 }
   where
     is_set : published_after w rs (Publish i) ≡ slice_set rs i r
     is_set = ap (λ o. option_map_or (λ (y : Router). slice_set rs i y) o rs) at
 
-    each : (j : ℕ) (x : NextHops) → slice_get (all_hops (next w (Publish i))) j ≡ Some x → (p : Prefix) (h : NextHop) → Among h (hops_at p x.published) → Among h (option_map_or (feasible_ways p) (slice_get (published_after w rs (Publish i)) j) [])
+    each : (j : ℕ) (x : NextHops) → slice_get (all_hops (next w (Publish i))) j ≡ Some x → (p : Prefix) (h : NextHop) → Among h (hops_at p x.published) → Among h (option_map_or (feasible_hops p) (slice_get (published_after w rs (Publish i)) j) [])
     each j x there p h a =
         let hop_is = sym (slice_get-map (λ (y : Router). y.hops) (next w (Publish i)).routers j) ∙ there in
         elim (cases_eq j i) [
@@ -78,18 +78,18 @@ published w rs i r at F = record {
               let lt = slice_get_within w.routers i r at in
               let c = F.count in
               let set : slice_get (published_after w rs (Publish i)) j ≡ Some r = ap (slice_get (published_after w rs (Publish i))) e ∙ ap (λ xs. slice_get xs i) is_set ∙ set_here rs i r (omega (arith, lt, c)) in
-              subst (Among h) (sym (ap (λ (o : Option Router). option_map_or (feasible_ways p) o []) set)) (offers_ways p r h (subst (λ (y : NextHops). Among h (hops_at p y.published)) (sym is) a))
+              subst (Among h) (sym (ap (λ (o : Option Router). option_map_or (feasible_hops p) o []) set)) (offers_feasible p r h (subst (λ (y : NextHops). Among h (hops_at p y.published)) (sym is) a))
           | inr d ↦
               let was : slice_get (all_hops w) j ≡ Some x = slice_get-map (λ (y : Router). y.hops) w.routers j ∙ sym (ap (option_map (λ (y : Router). y.hops)) (slice_get-changed_at_other router_publishing i j w.routers d)) ∙ hop_is in
               let beside : slice_get (published_after w rs (Publish i)) j ≡ slice_get rs j = ap (λ xs. slice_get xs j) is_set ∙ set_beside rs i j r d in
-              subst (Among h) (sym (ap (λ (o : Option Router). option_map_or (feasible_ways p) o []) beside)) (F.were_ways j x was p h a)
+              subst (Among h) (sym (ap (λ (o : Option Router). option_map_or (feasible_hops p) o []) beside)) (F.were_feasible j x was p h a)
         ]
 
 -- another step leaves it
 stays : (w : World) (rs : List Router) (s : Step) → ((i : ℕ) → s ≡ Publish i → ⊥) → published_after w rs s ≡ rs → InForce w rs → InForce (next w s) (published_after w rs s)
 stays w rs s other same F = subst (InForce (next w s)) (sym same) (record {
   count = F.count ∙ sym (next-shape w s).routers;
-  were_ways = λ i x at. F.were_ways i x (sym (ap (λ xs. slice_get xs i) (hops_stay w s other)) ∙ at);
+  were_feasible = λ i x at. F.were_feasible i x (sym (ap (λ xs. slice_get xs i) (hops_stay w s other)) ∙ at);
 })
 
 goes_on : (w : World) (rs : List Router) (s : Step) → Lawful w s → InForce w rs → InForce (next w s) (published_after w rs s)
@@ -116,24 +116,24 @@ module _ (n : Network) (ss : List Step) (v : World) (valid : IsNetwork n) (runs 
   abbrev h : History
   h = history n ss
 
-  -- each next hop of a router is one of its ways
-  among_ways : (b : Bool) (i : ℕ) (p : Prefix) (o : NextHop) → Among o (option_map_or (hops_by b p) (slice_get (h.world).routers i) []) → Among o (ways_by b h i p)
-  among_ways b i p o a = by_router (slice_get (h.world).routers i) refl b a
+  -- each next hop that a router offers is feasible, and each that it published was
+  among_feasible : (b : Bool) (i : ℕ) (p : Prefix) (o : NextHop) → Among o (option_map_or (hops_by b p) (slice_get (h.world).routers i) []) → Among o (feasible_by b h i p)
+  among_feasible b i p o a = by_router (slice_get (h.world).routers i) refl b a
     where
-      by_router : (x : Option Router) → slice_get (h.world).routers i ≡ x → (b : Bool) → Among o (option_map_or (hops_by b p) x []) → Among o (ways_by b h i p)
+      by_router : (x : Option Router) → slice_get (h.world).routers i ≡ x → (b : Bool) → Among o (option_map_or (hops_by b p) x []) → Among o (feasible_by b h i p)
       by_router None at b a = absurd (None_not_Some a.1)
-      by_router (Some r) at true a = subst (Among o) (sym (ap (λ (x : Option Router). option_map_or (feasible_ways p) x []) at)) (offers_ways p r o a)
-      by_router (Some r) at false a = (in_force n ss v runs).were_ways i r.hops (slice_get-map (λ (y : Router). y.hops) (h.world).routers i ∙ ap (option_map (λ (y : Router). y.hops)) at) p o a
+      by_router (Some r) at true a = subst (Among o) (sym (ap (λ (x : Option Router). option_map_or (feasible_hops p) x []) at)) (offers_feasible p r o a)
+      by_router (Some r) at false a = (in_force n ss v runs).were_feasible i r.hops (slice_get-map (λ (y : Router). y.hops) (h.world).routers i ∙ ap (option_map (λ (y : Router). y.hops)) at) p o a
 
-  way_is : (addr : ℕ) (way : List ℕ) → IsHopWay h.world addr way → IsMovingManyWay h addr way
-  way_is addr way g = way_by (λ i k. (b : Bool) × MayGoOver h.world b addr i k) (λ i k. (b : Bool) × MayGoByWays h b addr i k)
-      (λ i k (b, M). (b, by_others (λ j p. option_map_or (hops_by b p) (slice_get (h.world).routers j) []) (ways_by b h) h.world (among_ways b) b addr i k M)) way g
+  way_is : (addr : ℕ) (way : List ℕ) → IsHopWay h.world addr way → IsFeasibleHopWay h addr way
+  way_is addr way g = way_by (λ i k. (b : Bool) × MayGoOver h.world b addr i k) (λ i k. (b : Bool) × MayGoByFeasible h b addr i k)
+      (λ i k (b, M). (b, by_others (λ j p. option_map_or (hops_by b p) (slice_get (h.world).routers j) []) (feasible_by b h) h.world (among_feasible b) b addr i k M)) way g
 
   no_circles : NoHopCircles h.world
-  no_circles addr way g = always_no_moving_circles n ss v valid runs addr way (way_is addr way g)
+  no_circles addr way g = always_no_feasible_circles n ss v valid runs addr way (way_is addr way g)
 
   end : HopWaysEnd h.world
-  end addr i ks lt g = always_ways_end n ss v valid runs addr i ks lt (way_is addr (i ∷ ks) g)
+  end addr i ks lt g = always_feasible_end n ss v valid runs addr i ks lt (way_is addr (i ∷ ks) g)
 
 -- no packet meets a router twice in any world of any run
 pub always_no_hop_circles : HoldsInEveryWorld NoHopCircles

@@ -1,4 +1,4 @@
--- Every step keeps that, whichever way each router shows as its next hop, what every state keeps is kept.
+-- Every step keeps that, whichever next hop each router shows, what every state keeps is kept.
 use Rattle.std.proofs.Common.{refl, sym, ◌∙◌, ap, subst, arith, inl, inr, ◌≡◌, ◌⊎◌, ℕ, ◌≤◌, List, [], ◌∷◌, ◌++◌, Option, Some, length, slice_get, append-nil, length-append}
 use Rattle.network_model.proofs.Common.{cases_eq, none-some, LinkEnd}
 use Rattle.network_model.specs.declared.route.NextHop.{NextHop}
@@ -9,26 +9,26 @@ use Rattle.many_ways.specs.Network.{Wide, Among, IsFeasible, StaysInForce, WideS
 use Rattle.many_ways.proofs.Shown.{with_hops, MayShow, shown_keeps}
 use Rattle.many_ways.proofs.Moved as moved
 
--- a next hop that router i may show: that of its row, or one of its ways
+-- a next hop that router i may show: that of its row, or one that is in force beside it
 abbrev pub Pick : Wide → ℕ → Option NextHop → Type 0
-Pick w i o = (o ≡ (w.state).published i) ⊎ ((h : NextHop) × (o ≡ Some h) × Among h (w.ways i))
+Pick w i o = (o ≡ (w.state).published i) ⊎ ((h : NextHop) × (o ≡ Some h) × Among h (w.hops i))
 
 -- whichever of them each router shows, what every state keeps is kept
 abbrev pub WideInvariant : Topology → Wide → Type 0
 WideInvariant t w = (c : ℕ → Option NextHop) → ((i : ℕ) → Pick w i (c i)) → Invariant t (with_hops c w.state)
 
--- what router i shows after a step: its row, a way that is feasible now, or one that it offered before and that stays in force
+-- what router i shows after a step: its row, a next hop that is feasible now, or one that was in force before and stays so
 data Shows (old new : Wide) (o : Option NextHop) (i : ℕ) : Type 0 where
   Row : o ≡ (new.state).published i → Shows old new o i
   Fresh : (h : NextHop) → o ≡ Some h → IsFeasible new.state i h → Shows old new o i
-  Old : (h : NextHop) → o ≡ Some h → Among h (old.ways i) → StaysInForce old.state new.state i → Shows old new o i
+  Old : (h : NextHop) → o ≡ Some h → Among h (old.hops i) → StaysInForce old.state new.state i → Shows old new o i
 
 -- what it may have shown before the step
 abbrev before : (old new : Wide) (o : Option NextHop) (i : ℕ) → Shows old new o i → Option NextHop
 before old new o i (Old h e a f) = Some h
 before old new o i _ = (old.state).published i
 
--- what it shows if the step adds no way
+-- what it shows if the step adds no next hop
 abbrev after : (old new : Wide) (o : Option NextHop) (i : ℕ) → Shows old new o i → Option NextHop
 after old new o i (Old h e a f) = Some h
 after old new o i _ = (new.state).published i
@@ -53,10 +53,10 @@ module _ (t : Topology) (old new : Wide) (J : WideInvariant t old) (S : WideStep
   shows : (i : ℕ) → Shows old new (c i) i
   shows i = elim (K i) [
     | inl e ↦ Row e
-    | inr k ↦ elim (S.ways i k.0 k.2) [ inl f ↦ Fresh k.0 k.1 f | inr o ↦ Old k.0 k.1 o.0 o.1 ]
+    | inr k ↦ elim (S.hops i k.0 k.2) [ inl f ↦ Fresh k.0 k.1 f | inr o ↦ Old k.0 k.1 o.0 o.1 ]
   ]
 
-  -- what they may have shown before the step, and what they show if it adds no way
+  -- what they may have shown before the step, and what they show if it adds no next hop
   abbrev then' : ℕ → Option NextHop
   then' i = before old new (c i) i (shows i)
 
@@ -70,7 +70,7 @@ module _ (t : Topology) (old new : Wide) (J : WideInvariant t old) (S : WideStep
     elsewhere : (i : ℕ) → (i ≡ P.j → ⊥) → now' i ≡ then' i
     elsewhere i d = stays old new (c i) i (shows i) (P.published_elsewhere i d)
 
-    -- a publication that ripens nothing for the prefix, and leaves the published feasible distance, is no step for those who look at a way alone
+    -- a publication that ripens nothing for the prefix, and leaves the published feasible distance, is no step for those who look at a next hop alone
     nothing : StaysInForce old.state new.state P.j → now' P.j ≡ then' P.j → Skip t (with_hops then' old.state) (with_hops now' new.state)
     nothing F here = record {
       machines = moved.machines t old.state new.state then' now' P.machines;
@@ -121,7 +121,7 @@ module _ (t : Topology) (old new : Wide) (J : WideInvariant t old) (S : WideStep
   kept_now : Invariant t (with_hops now' new.state)
   kept_now = steps_keep machine_laws t (with_hops then' old.state) (with_hops now' new.state) (J then' (λ i. picked old new (c i) i (shows i))) (goes S.step)
 
-  -- and with the ways that the step adds
+  -- and with the next hops that the step adds
   may_show : (i : ℕ) → MayShow (with_hops now' new.state) i (c i)
   may_show i = by_kind (shows i) refl
     where
@@ -140,7 +140,7 @@ wide_opening_keeps t w O c K = shown_keeps t w.state c (opening_keeps t w.state 
     may : (i : ℕ) → MayShow w.state i (c i)
     may i = elim (K i) [
       | inl e ↦ inl e
-      | inr k ↦ absurd (let a : Some k.0 ≡ slice_get [] (k.2).0 = sym (rw (O.no_ways i) at (k.2).1) in none-some k.0 (sym a))
+      | inr k ↦ absurd (let a : Some k.0 ≡ slice_get [] (k.2).0 = sym (rw (O.no_hops i) at (k.2).1) in none-some k.0 (sym a))
     ]
 
 -- after every run it is

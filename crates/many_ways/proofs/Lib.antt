@@ -1,4 +1,4 @@
--- The lemmas of the laws about routers that may forward by many ways.
+-- The lemmas of the laws about routers that may forward by many next hops.
 pub mod Shown
 pub mod Moved
 pub mod Kept

@@ -1,11 +1,11 @@
--- Each next hop that a machine offers is a way: a port that is up, whose neighbour reported less than the feasible distance.
+-- Each next hop that a machine offers is feasible: over a port that is up, whose neighbour reported less than the feasible distance.
 use Rattle.std.proofs.Common.{refl, sym, ap, subst, ◌∙◌, arith, inl, inr, ◌≡◌, ◌≢◌, ◌⊎◌, ℕ, zero, suc, ◌<◌, Bool, true, false, not, cond, ◌&&◌, ◌==◌, nat_lt, if◌then◌else◌, List, [], ◌∷◌, ◌++◌, map, filter, take, Option, Some, None, slice_get, unwrap_or, option_map, eqb-true, ltb-true}
 use Rattle.no_packet_loops.proofs.Common.{find as row_of, and_parts, false≢true, find-map, infinity, least, is_port, Machine, Prefix, prefix_cmp, Router, machine_of, opening_machine, neighbours, session_at, NextHop, Neighbour, offered_hops, changed_hops, list_all, is_empty}
 use Rattle.network_model.proofs.{Common.distance, Common.ways, HopLaws.hops_there, HopLaws.offered_rows, HopLaws.equal_not_one, HopLaws.feasible_not_one}
 use Rattle.network_model.specs.{declared.network.Offer.Offer, declared.network.Offer.TheVariants.One, declared.network.Offer.TheVariants.Equal, declared.network.Offer.TheVariants.Feasible, Step.has_hops}
 use Rattle.network_model.specs.NextHops.{may_forward, is_offered, most_offered, passing_from, with_nearer, nearest_first, own_first, is_local, offered_ports, hops_of, hops_by_prefix, hops_at}
 use Rattle.no_packet_loops.proofs.Quiet.{nothing_filtered, row_passes}
-use Rattle.many_ways.specs.{Network.Among, Packets.is_low, Packets.way_over, Packets.feasible_ways}
+use Rattle.many_ways.specs.{Network.Among, Packets.is_low, Packets.hop_over, Packets.feasible_hops}
 use Rattle.many_ways.proofs.Feasible.{Stands, stands, among, in_map, map_in, Passing, in_passing, passing_in}
 
 -- ---- lists
@@ -117,14 +117,14 @@ offered_at p r h a =
       session_is = seen;
     }
 
--- so each is one of its ways
-pub offers_ways : (p : Prefix) (r : Router) (h : NextHop) → Among h (hops_at p (offered_hops r)) → Among h (feasible_ways p r)
-offers_ways p r h a =
+-- so each is feasible
+pub offers_feasible : (p : Prefix) (r : Router) (h : NextHop) → Among h (hops_at p (offered_hops r)) → Among h (feasible_hops p r)
+offers_feasible p r h a =
     let P = offered_at p r h a in
     let m = machine_of r p in
     let low = and_parts (is_low m.fd P.neighbour) (nat_lt (distance P.neighbour) infinity) (passing_forwards (r.hops).offer m P.neighbour P.passes) in
-    let s = map_in (way_over r) (distance P.neighbour, h.port) (passing_from (is_low m.fd) 0 m.ports) (passing_in (is_low m.fd) 0 m.ports h.port P.neighbour h.port P.at low.0 (omega arith)) in
-    among h (feasible_ways p r) (subst (λ (y : NextHop). Stands y (feasible_ways p r)) (λ i. record { port = h.port; session = sym P.session_is i }) s)
+    let s = map_in (hop_over r) (distance P.neighbour, h.port) (passing_from (is_low m.fd) 0 m.ports) (passing_in (is_low m.fd) 0 m.ports h.port P.neighbour h.port P.at low.0 (omega arith)) in
+    among h (feasible_hops p r) (subst (λ (y : NextHop). Stands y (feasible_hops p r)) (λ i. record { port = h.port; session = sym P.session_is i }) s)
 
 -- one of equal cost is at the least distance, and within reach
 pub record EqualAt (p : Prefix) (r : Router) (h : NextHop) : Type 0 where

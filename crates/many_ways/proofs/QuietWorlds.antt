@@ -1,4 +1,4 @@
--- In a quiet world every chain of ways of equal cost is a least walk.
+-- In a quiet world every chain of next hops of equal cost is a least walk, and each feasible next hop leads nearer.
 use Rattle.std.proofs.Common.{refl, sym, ap, subst, ◌∙◌, arith, ◌≡◌, ℕ, ◌+◌, ◌<◌, true, false, ◌&&◌, ◌==◌, if◌then◌else◌, List, [], ◌∷◌, map, length, Option, Some, None, is_some, slice_get, option_map, option_and_then, eq-eqb}
 use Rattle.no_packet_loops.proofs.Common.{range_with_len, length-map, option_map_or, and_from, false≢true, NextHop, LinkEnd, Step, Runs, A, place_of, Prefix, Machine, opening_machine, Link, Side, Router, World, Network, other, side, attachment_at, machine_of, opening, opening_router_of, costs_of, Place, place_at, session_at, entry_leads, Entry, Via, IsWalk, walk_cost, is_quiet, Topology, IsNetwork, history, State, at_port, view, lay, is_up_at, IsWalkHome, reported_at}
 use Rattle.no_packet_loops.proofs.{Wiring.IsWired, Wiring.wired, Wiring.few_routers, Places.topology, Places.laid, Places.spot_on, View.on_link-there, View.on_router-there, Kept.specified, Opened.first_fd, Opened.opening_view, Runs.Reached, Runs.reached, Runs.place_is, Walks.Leads, Walks.leads, WorldLaws.SameShape, WorldLaws.Runs-shape}
@@ -7,8 +7,8 @@ use Rattle.least_cost.proofs.{Runs.kept_run, Replay.replay, Kept.Kept, Kept.pend
 use Rattle.loop_freedom.proofs.Walks.{walk_map}
 use Rattle.quiet_routes.specs.Routes.{machine_at, HasBestRow}
 use Rattle.quiet_routes.proofs.{Worlds.Good, Worlds.good, Homes.home_is, Homes.home_cost, Ways.IsUp, Ways.place_for, Ways.from_walk, Still.quiet_now, Routes.placed, Routes.costs_fit, Routes.quiet_routes}
-use Rattle.many_ways.specs.{Network.FeasibleEdge, HopsAtQuiet.ComesNearer, Quiet.WaysAreGood, Quiet.EqualEdge, QuietWorlds.SendsEqually, QuietWorlds.IsEqualChain, QuietWorlds.EqualChainsAreLeast}
-use Rattle.many_ways.proofs.{Feasible.Way, Feasible.way_of, AtQuiet.adds, AtQuiet.many_ways_at_quiet}
+use Rattle.many_ways.specs.{Network.FeasibleEdge, HopsAtQuiet.ComesNearer, Quiet.HopsAreGood, Quiet.EqualEdge, QuietWorlds.SendsEqually, QuietWorlds.IsEqualChain, QuietWorlds.EqualChainsAreLeast}
+use Rattle.many_ways.proofs.{Feasible.FeasibleHop, Feasible.feasible_hop, AtQuiet.adds, AtQuiet.many_ways_at_quiet}
 
 -- an entry leads across the link at its port, if that is up in the session of the entry
 pub leads_over : (w : World) (i q : ℕ) (x : Place) (j : Link) → place_at w i q ≡ Some x → slice_get w.links x.link ≡ Some j → j.up ≡ true → entry_leads w i (Via q j.session) ≡ Some (side (other x.end) j).router
@@ -34,13 +34,13 @@ module _ (n : Network) (V : IsNetwork n) (p : Prefix) (w : World) (rs : List Rou
   kept : Kept t s
   kept = kept_run t (view n p (opening n) (first_fd n N p)) s (opening_view n N p) R.run
 
-  -- the ways of each router are good
-  good_ways : (i : ℕ) → i < n.routers → WaysAreGood t n.routers s i
-  good_ways = many_ways_at_quiet t (view n p (opening n) (first_fd n N p)) s (opening_view n N p) R.run n.routers (few_routers n V) (placed n V p w rs R G quiet count) (λ e v. costs_fit n V p w rs R G quiet count (lay n e))
+  -- the feasible next hops of each router are good
+  good_hops : (i : ℕ) → i < n.routers → HopsAreGood t n.routers s i
+  good_hops = many_ways_at_quiet t (view n p (opening n) (first_fd n N p)) s (opening_view n N p) R.run n.routers (few_routers n V) (placed n V p w rs R G quiet count) (λ e v. costs_fit n V p w rs R G quiet count (lay n e))
       (λ j c lt is. (home_cost n N p w rs R G quiet count j c is).small) (quiet_now n N p w rs R G quiet)
 
-  -- a way that was published at a port that is up leads to a router that is nearer, and routed
-  module _ (i : ℕ) (r : Router) (at : slice_get w.routers i ≡ Some r) (h : NextHop) (W : Way p r h) where
+  -- a feasible next hop leads to a router that is nearer, and routed
+  module _ (i : ℕ) (r : Router) (at : slice_get w.routers i ≡ Some r) (h : NextHop) (W : FeasibleHop p r h) where
     abbrev e : LinkEnd
     e = at_port i h.port
 
@@ -88,7 +88,7 @@ module _ (n : Network) (V : IsNetwork n) (p : Prefix) (w : World) (rs : List Rou
 
     pub comes_nearer : ((k : ℕ) → k < n.routers → HasBestRow w p k) → ComesNearer w p i h
     comes_nearer best =
-        let G' = (good_ways i (placed n V p w rs R G quiet count e there)).no_dead_end e refl there edge in
+        let G' = (good_hops i (placed n V p w rs R G quiet count e there)).no_dead_end e refl there edge in
         let Q : IsRouted t n.routers s far_router = G'.1 in
         record {
           to = far_router;
@@ -102,13 +102,13 @@ module _ (n : Network) (V : IsNetwork n) (p : Prefix) (w : World) (rs : List Rou
           });
         }
 
-  -- what one way of equal cost adds
+  -- what one next hop of equal cost adds
   record Adds (i : ℕ) (x : Place) (link : Link) : Type 0 where
     near : (side x.end link).router ≡ i
     rd : (machine_at w i p).rd ≡ (side x.end link).cost + (machine_at w (side (other x.end) link).router p).rd
 
-  way_adds : (i : ℕ) (x : Place) (S : SendsEqually w p i x) → Adds i x S.link
-  way_adds i x S = record { near = near; rd = sums }
+  hop_adds : (i : ℕ) (x : Place) (S : SendsEqually w p i x) → Adds i x S.link
+  hop_adds i x S = record { near = near; rd = sums }
     where
       laid_is : lay n (at_port i S.port) ≡ Some x
       laid_is = sym (place_is n p w R.kept i S.port) ∙ S.is_place
@@ -140,8 +140,8 @@ module _ (n : Network) (V : IsNetwork n) (p : Prefix) (w : World) (rs : List Rou
       machine : s.machine i ≡ machine_of S.router p
       machine = on_router-there (λ y. machine_of y p) (opening_machine None []) w.routers i S.router S.is_router
 
-      Y : Way p S.router (record { port = S.port; session = (S.link).session })
-      Y = way_of p S.router (record { port = S.port; session = (S.link).session }) S.offered
+      Y : FeasibleHop p S.router (record { port = S.port; session = (S.link).session })
+      Y = feasible_hop p S.router (record { port = S.port; session = (S.link).session }) S.feasible
 
       E : EqualEdge s (at_port i S.port)
       E = record {
@@ -168,17 +168,17 @@ module _ (n : Network) (V : IsNetwork n) (p : Prefix) (w : World) (rs : List Rou
           let f = ap (λ (j : ℕ). (s.machine j).rd) far in
           omega (arith, a, c, f)
 
-  -- a chain of such ways is a walk
+  -- a chain of such next hops is a walk
   walk : (i : ℕ) (xs : List Place) (o : ℕ) → IsEqualChain w p i xs o → IsWalk w i xs o
   walk i [] o c = c.0
-  walk i (x ∷ xs) o c = ((c.0).link, (c.0).is_link, (c.0).is_up, (way_adds i x c.0).near, walk (side (other x.end) (c.0).link).router xs o c.1)
+  walk i (x ∷ xs) o c = ((c.0).link, (c.0).is_link, (c.0).is_up, (hop_adds i x c.0).near, walk (side (other x.end) (c.0).link).router xs o c.1)
 
   -- whose costs add up to the distance
   cost : (i : ℕ) (xs : List Place) (o : ℕ) → IsEqualChain w p i xs o → walk_cost w xs + (machine_at w o p).rd ≡ (machine_at w i p).rd
   cost i [] o c = (let e = ap (λ (j : ℕ). (machine_at w j p).rd) c.0 in omega (arith, e))
   cost i (x ∷ xs) o c =
       let rest = cost (side (other x.end) (c.0).link).router xs o c.1 in
-      let one = (way_adds i x c.0).rd in
+      let one = (hop_adds i x c.0).rd in
       let at : option_map_or (λ (l : Link). (side x.end l).cost) (slice_get w.links x.link) 0 ≡ (side x.end (c.0).link).cost = ap (λ q. option_map_or (λ (l : Link). (side x.end l).cost) q 0) (c.0).is_link in
       omega (arith, rest, one, at)
 

@@ -56,12 +56,12 @@ reshows x y b d h g f = record {
 abbrev pub with_hops : (ℕ → Option NextHop) → State → State
 with_hops c s = record s { published = c }
 
--- router i shows its published successor as its next hop, or a way that is feasible
+-- router i shows its published successor as its next hop, or one that is feasible
 abbrev pub MayShow : State → ℕ → Option NextHop → Type 0
 MayShow s i o = (o ≡ s.published i) ⊎ ((h : NextHop) × (o ≡ Some h) × IsFeasible s i h)
 
 module _ (t : Topology) (s : State) (c : ℕ → Option NextHop) (I : Invariant t s) (C : (i : ℕ) → MayShow s i (c i)) where
-  -- a way that is shown at a port is of that port and session
+  -- one that is shown at a port is of that port and session
   is_at : (e : LinkEnd) (n : ℕ) (h : NextHop) → c e.router ≡ Some h → is_next_hop e.port n (c e.router) ≡ true → (h.port ≡ e.port) × (h.session ≡ n)
   is_at e n h is at =
       let both = and_parts (h.port == e.port) (h.session == n) (rw is at at) in

@@ -1,4 +1,4 @@
--- The definitions of the laws about routers that may forward by many ways.
+-- The definitions of the laws about routers that may forward by many next hops.
 pub mod Network
 pub mod Packets
 pub mod Quiet
