@@ -12,7 +12,7 @@ use Rattle.least_cost.proofs.AtQuiet.{cost_now, reported_now, routed_below, succ
 use Rattle.many_ways.specs.{Network.FeasibleEdge, Quiet.EqualEdge, Quiet.HopsAreGood, Quiet.ManyHopsAtQuiet}
 
 -- the neighbour at a port that is up
-neighbour_at : (m : Machine) (p : ℕ) → is_up_at m p ≡ true → (x : Neighbour) × (slice_get m.ports p ≡ Some x)
+pub neighbour_at : (m : Machine) (p : ℕ) → is_up_at m p ≡ true → (x : Neighbour) × (slice_get m.ports p ≡ Some x)
 neighbour_at m p u = go (slice_get m.ports p) refl
   where
     go : (o : Option Neighbour) → slice_get m.ports p ≡ o → (x : Neighbour) × (slice_get m.ports p ≡ Some x)

@@ -42,17 +42,19 @@ pub record Passing (test : Neighbour → Bool) (q : ℕ) (ns : List Neighbour) (
   pub passes : test neighbour ≡ true
   pub port_is : port ≡ q + place
 
-later : (test : Neighbour → Bool) (q : ℕ) (n : Neighbour) (ns : List Neighbour) (port : ℕ) → Passing test (suc q) ns port → Passing test q (n ∷ ns) port
-later test q n ns port P = record { place = suc P.place; neighbour = P.neighbour; at = P.at; passes = P.passes; port_is = let e = P.port_is in omega (arith, e) }
+-- what holds of each neighbour that passes, by its distance and its port, holds of all that are listed
+pub all_passing : (P : ℕ × ℕ → Type 0) (test : Neighbour → Bool) (q : ℕ) (ns : List Neighbour) → ((k : ℕ) (n : Neighbour) → slice_get ns k ≡ Some n → test n ≡ true → P (distance n, q + k))
+    → (x : ℕ × ℕ) → Stands x (passing_from test q ns) → P x
+all_passing P test q [] each x s = absurd s
+all_passing P test q (n ∷ ns) each x s = by_test (all_passing P test (suc q) ns (λ k m at passes. subst (λ (a : ℕ). P (distance m, a)) (omega arith) (each (suc k) m at passes)) x) (test n) refl s
+  where
+    by_test : (Stands x (passing_from test (suc q) ns) → P x) → (b : Bool) → test n ≡ b → Stands x (if b then (distance n, q) ∷ passing_from test (suc q) ns else passing_from test (suc q) ns) → P x
+    by_test rest true is (inl e) = let here : q + 0 ≡ q = omega arith in subst P (sym e) (subst (λ (a : ℕ). P (distance n, a)) here (each 0 n refl is))
+    by_test rest true is (inr t) = rest t
+    by_test rest false is t = rest t
 
 pub in_passing : (test : Neighbour → Bool) (q : ℕ) (ns : List Neighbour) (x : ℕ × ℕ) → Stands x (passing_from test q ns) → Passing test q ns x.1
-in_passing test q [] x s = absurd s
-in_passing test q (n ∷ ns) x s = by_test (λ t. in_passing test (suc q) ns x t) (test n) refl s
-  where
-    by_test : (Stands x (passing_from test (suc q) ns) → Passing test (suc q) ns x.1) → (b : Bool) → test n ≡ b → Stands x (if b then (distance n, q) ∷ passing_from test (suc q) ns else passing_from test (suc q) ns) → Passing test q (n ∷ ns) x.1
-    by_test rest true is (inl e) = record { place = 0; neighbour = n; at = refl; passes = is; port_is = let port : x.1 ≡ q = ap (λ (y : ℕ × ℕ). y.1) e in omega (arith, port) }
-    by_test rest true is (inr t) = later test q n ns x.1 (rest t)
-    by_test rest false is t = later test q n ns x.1 (rest t)
+in_passing test q ns x s = all_passing (λ (y : ℕ × ℕ). Passing test q ns y.1) test q ns (λ k n at passes. record { place = k; neighbour = n; at = at; passes = passes; port_is = refl }) x s
 
 -- and each neighbour that passes is among them
 pub passing_in : (test : Neighbour → Bool) (q : ℕ) (ns : List Neighbour) (k : ℕ) (n : Neighbour) (port : ℕ) → slice_get ns k ≡ Some n → test n ≡ true → port ≡ q + k → Stands (distance n, port) (passing_from test q ns)

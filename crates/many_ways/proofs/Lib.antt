@@ -12,5 +12,6 @@ pub mod Example
 pub mod Journeys
 pub mod QuietWorlds
 pub mod Offered
+pub mod First
 pub mod InForce
 pub mod HopsAtQuiet

@@ -43,11 +43,11 @@ in_nearer x y (z ∷ zs) s = by_test (λ t. in_nearer x y zs t) (nat_lt z.0 y.0)
     by_test rest false (inl e) = inl e
     by_test rest false (inr t) = inr t
 
-in_nearest : (x : ℕ × ℕ) (xs : List (ℕ × ℕ)) → Stands x (nearest_first xs) → Stands x xs
+pub in_nearest : (x : ℕ × ℕ) (xs : List (ℕ × ℕ)) → Stands x (nearest_first xs) → Stands x xs
 in_nearest x [] s = absurd s
 in_nearest x (y ∷ ys) s = elim (in_nearer x y (nearest_first ys) s) [ inl e ↦ inl e | inr t ↦ inr (in_nearest x ys t) ]
 
-in_own : (p : Option ℕ) (x : ℕ × ℕ) (xs : List (ℕ × ℕ)) → Stands x (own_first p xs) → Stands x xs
+pub in_own : (p : Option ℕ) (x : ℕ × ℕ) (xs : List (ℕ × ℕ)) → Stands x (own_first p xs) → Stands x xs
 in_own p x xs s = elim (in_append x (filter (λ y. is_port y.1 p) xs) (filter (λ y. not (is_port y.1 p)) xs) s) [
   | inl a ↦ in_filter (λ y. is_port y.1 p) x xs a
   | inr b ↦ in_filter (λ y. not (is_port y.1 p)) x xs b
@@ -150,6 +150,10 @@ equal_at most p r h equal a =
 abbrev pub OneAlone : Router → Type 0
 OneAlone r = (r.hops).offer ≡ One → (r.hops).published ≡ []
 
+-- what a router offers of a prefix is what its machine does, if a row may have more than one next hop
+pub offered_row : (p : Prefix) (r : Router) → (r.hops).offer ≢ One → row_of prefix_cmp p (offered_hops r) ≡ option_map (λ m. hops_of (r.hops).offer (session_at r.ports) m) (row_of prefix_cmp p r.machines)
+offered_row p r many = ap (row_of prefix_cmp p) (offered_rows (r.hops).offer many (session_at r.ports) r.machines) ∙ find-map prefix_cmp (λ m. hops_of (r.hops).offer (session_at r.ports) m) p r.machines
+
 -- what a router published of a prefix is what it offers, where nothing differs, and it published none of a prefix that is unheard
 pub offered_now : (p : Prefix) (r : Router) → OneAlone r → (row_of prefix_cmp p r.machines ≡ None → hops_at p (r.hops).published ≡ []) → is_empty (changed_hops r) ≡ true → hops_at p (r.hops).published ≡ hops_at p (offered_hops r)
 offered_now p r alone unheard quiet = by_offer (r.hops).offer refl
@@ -160,13 +164,10 @@ offered_now p r alone unheard quiet = by_offer (r.hops).offer refl
     all : list_all (has_hops (r.hops).published) (offered_hops r) ≡ true
     all = nothing_filtered (has_hops (r.hops).published) (offered_hops r) quiet
 
-    row : ((r.hops).offer ≢ One) → row_of prefix_cmp p (offered_hops r) ≡ option_map hops_of_it (row_of prefix_cmp p r.machines)
-    row many = ap (row_of prefix_cmp p) (offered_rows (r.hops).offer many (session_at r.ports) r.machines) ∙ find-map prefix_cmp hops_of_it p r.machines
-
     by_machine : ((r.hops).offer ≢ One) → (o : Option Machine) → row_of prefix_cmp p r.machines ≡ o → hops_at p (r.hops).published ≡ hops_at p (offered_hops r)
-    by_machine many None is = unheard is ∙ sym (ap (λ y. unwrap_or y []) (row many ∙ ap (option_map hops_of_it) is))
+    by_machine many None is = unheard is ∙ sym (ap (λ y. unwrap_or y []) (offered_row p r many ∙ ap (option_map hops_of_it) is))
     by_machine many (Some m) is =
-        let there : row_of prefix_cmp p (offered_hops r) ≡ Some (hops_of_it m) = row many ∙ ap (option_map hops_of_it) is in
+        let there : row_of prefix_cmp p (offered_hops r) ≡ Some (hops_of_it m) = offered_row p r many ∙ ap (option_map hops_of_it) is in
         ap (λ y. unwrap_or y []) (hops_there p (r.hops).published (hops_of_it m) (row_passes p (has_hops (r.hops).published) (offered_hops r) all (hops_of_it m) there))
         ∙ sym (ap (λ y. unwrap_or y []) there)
 

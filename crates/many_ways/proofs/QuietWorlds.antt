@@ -1,9 +1,9 @@
 -- In a quiet world every chain of next hops of equal cost is a least walk, and each feasible next hop leads nearer.
 use Rattle.std.proofs.Common.{refl, sym, ap, subst, ◌∙◌, arith, ◌≡◌, ℕ, ◌+◌, ◌<◌, true, false, ◌&&◌, ◌==◌, if◌then◌else◌, List, [], ◌∷◌, map, length, Option, Some, None, is_some, slice_get, option_map, option_and_then, eq-eqb}
-use Rattle.no_packet_loops.proofs.Common.{range_with_len, length-map, option_map_or, and_from, false≢true, NextHop, LinkEnd, Step, Runs, A, place_of, Prefix, Machine, opening_machine, Link, Side, Router, World, Network, other, side, attachment_at, machine_of, opening, opening_router_of, costs_of, Place, place_at, session_at, entry_leads, Entry, Via, IsWalk, walk_cost, is_quiet, Topology, IsNetwork, history, State, at_port, view, lay, is_up_at, IsWalkHome, reported_at}
+use Rattle.no_packet_loops.proofs.Common.{range_with_len, length-map, option_map_or, and_from, false≢true, infinity, NextHop, LinkEnd, Step, Runs, A, place_of, Prefix, Machine, opening_machine, Link, Side, Router, World, Network, other, side, attachment_at, machine_of, opening, opening_router_of, costs_of, Place, place_at, session_at, entry_leads, Entry, Via, IsWalk, walk_cost, is_quiet, Topology, IsNetwork, history, State, at_port, view, lay, is_up_at, IsWalkHome, reported_at}
 use Rattle.no_packet_loops.proofs.{Wiring.IsWired, Wiring.wired, Wiring.few_routers, Places.topology, Places.laid, Places.spot_on, View.on_link-there, View.on_router-there, Kept.specified, Opened.first_fd, Opened.opening_view, Runs.Reached, Runs.reached, Runs.place_is, Walks.Leads, Walks.leads, WorldLaws.SameShape, WorldLaws.Runs-shape}
 use Rattle.least_cost.specs.Quiet.{IsRouted, Follows, walk_end}
-use Rattle.least_cost.proofs.{Runs.kept_run, Replay.replay, Kept.Kept, Kept.pending, Kept.line, Kept.port_at}
+use Rattle.least_cost.proofs.{Runs.kept_run, AtQuiet.successor_below, Replay.replay, Kept.Kept, Kept.pending, Kept.line, Kept.port_at}
 use Rattle.loop_freedom.proofs.Walks.{walk_map}
 use Rattle.quiet_routes.specs.Routes.{machine_at, HasBestRow}
 use Rattle.quiet_routes.proofs.{Worlds.Good, Worlds.good, Homes.home_is, Homes.home_cost, Ways.IsUp, Ways.place_for, Ways.from_walk, Still.quiet_now, Routes.placed, Routes.costs_fit, Routes.quiet_routes}
@@ -38,6 +38,12 @@ module _ (n : Network) (V : IsNetwork n) (p : Prefix) (w : World) (rs : List Rou
   good_hops : (i : ℕ) → i < n.routers → HopsAreGood t n.routers s i
   good_hops = many_ways_at_quiet t (view n p (opening n) (first_fd n N p)) s (opening_view n N p) R.run n.routers (few_routers n V) (placed n V p w rs R G quiet count) (λ e v. costs_fit n V p w rs R G quiet count (lay n e))
       (λ j c lt is. (home_cost n N p w rs R G quiet count j c is).small) (quiet_now n N p w rs R G quiet)
+
+  -- a router whose successor is a port that is up is within reach
+  pub within_reach : (i q : ℕ) → is_up_at (s.machine i) q ≡ true → (s.machine i).successor ≡ Some q → (s.machine i).rd < infinity
+  within_reach i q up chosen =
+      successor_below t n.routers s kept (quiet_now n N p w rs R G quiet) (few_routers n V) (placed n V p w rs R G quiet count) (λ e v. costs_fit n V p w rs R G quiet count (lay n e))
+      (λ j c lt is. (home_cost n N p w rs R G quiet count j c is).small) i q (placed n V p w rs R G quiet count (at_port i q) (kept.up_valid (at_port i q) up)) chosen
 
   -- a feasible next hop leads to a router that is nearer, and routed
   module _ (i : ℕ) (r : Router) (at : slice_get w.routers i ≡ Some r) (h : NextHop) (W : FeasibleHop p r h) where

@@ -1,9 +1,10 @@
 -- What holds of the next hops that the routers of a quiet world published: they lead nearer, and those of equal cost lead along least walks.
 use Rattle.std.specs.Prelude.{◌≡◌, ℕ, ◌<◌, true, List, [], ◌∷◌, Some, slice_get}
 use Rattle.ipv4_prefix.specs.Prefix.{Prefix}
-use Rattle.network_model.specs.{declared.network.Offer.TheVariants.Equal, declared.route.Entry.TheVariants.Via, declared.route.NextHop.NextHop, declared.network.Place.Place, declared.step.Step.Step, NextHops.hops_at, Step.offered_hops, Network.IsNetwork, Run.Runs, Forwarding.IsLeastWalk, Forwarding.is_quiet, Forwarding.entry_leads}
+use Rattle.network_model.specs.{declared.network.Offer.TheVariants.Equal, declared.route.Entry.TheVariants.Via, declared.route.NextHop.NextHop, declared.network.Place.Place, declared.step.Step.Step, NextHops.hops_at, NextHops.most_offered, Step.offered_hops, Network.IsNetwork, Run.Runs, Forwarding.IsLeastWalk, Forwarding.is_quiet, Forwarding.entry_leads}
 use Rattle.network_model.specs.World.{Link, Router, World, Network, other, side, place_at, attachment_at, opening}
 use Rattle.quiet_routes.specs.Routes.{machine_at, HasRoute}
+use Rattle.no_packet_loops.specs.Packets.{published_entry}
 use Rattle.many_ways.specs.Network.{Among}
 
 -- router i published a next hop out of this place, over a link that is up in the session of the hop
@@ -39,6 +40,12 @@ pub record ComesNearer (w : World) (p : Prefix) (i : ℕ) (h : NextHop) : Type 0
 abbrev pub HopsComeNearer : Type 0
 HopsComeNearer = (n : Network) (ss : List Step) (w : World) → IsNetwork n → Runs (opening n) ss w → is_quiet w ≡ true
     → (p : Prefix) (i : ℕ) (r : Router) (h : NextHop) → slice_get w.routers i ≡ Some r → Among h (hops_at p (r.hops).published) → ComesNearer w p i h
+
+-- where the network offers any, the first that a router of a quiet world published beside a Via row is that of the row itself
+abbrev pub FirstIsTheRow : Type 0
+FirstIsTheRow = (n : Network) (ss : List Step) (w : World) → IsNetwork n → Runs (opening n) ss w → is_quiet w ≡ true → 0 < most_offered n.offer
+    → (p : Prefix) (i : ℕ) (r : Router) → slice_get w.routers i ≡ Some r → (q session : ℕ) → published_entry w i p ≡ Some (Via q session)
+    → slice_get (hops_at p (r.hops).published) 0 ≡ Some (record { port = q; session = session })
 
 -- and each router published what it offers
 abbrev pub HopsAreInForce : Type 0

@@ -32,7 +32,7 @@
 ghost use Rattle.many_ways.specs.Network.{ManyHopsLoopFree};
 ghost use Rattle.many_ways.specs.Packets.{HoldsInEveryHistory, NoFeasibleHopCircles, FeasibleHopWaysEnd};
 ghost use Rattle.many_ways.specs.InForce.{NoHopCircles, HopWaysEnd, SomeRouterHasAChoice, SomeHopOutlivesItsRow};
-ghost use Rattle.many_ways.specs.HopsAtQuiet.{EqualHopsAreLeast, HopsComeNearer, HopsAreInForce};
+ghost use Rattle.many_ways.specs.HopsAtQuiet.{EqualHopsAreLeast, HopsComeNearer, FirstIsTheRow, HopsAreInForce};
 ghost use Rattle.no_packet_loops.specs.Packets.{HoldsInEveryWorld};
 ghost use Rattle.many_ways.specs.Journeys.{NoHopJourneyCircles};
 ghost use Rattle.many_ways.specs.Quiet.{ManyHopsAtQuiet};
@@ -90,10 +90,12 @@ pub fn no_hop_circles()
 {}
 
 /// In every quiet world of every run each router published the next hops that it offers, and each of these
-/// leads to a router that is nearer and has a route. If the network offers next hops of equal cost, every
-/// chain of them that ends at an attached router, at the distance of its attachment, is a least walk.
+/// leads to a router that is nearer and has a route. If the network offers any, the first one beside a row over
+/// a link is that of the row itself. If it offers those of equal cost, every chain of them that ends at an
+/// attached router, at the distance of its attachment, is a least walk.
 pub fn equal_hops_at_quiet()
     ensures least { EqualHopsAreLeast }
     ensures nearer { HopsComeNearer }
+    ensures first { FirstIsTheRow }
     ensures in_force { HopsAreInForce }
 {}
