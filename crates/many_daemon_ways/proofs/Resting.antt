@@ -1,14 +1,16 @@
 -- Where routers in processes of their own are at rest, each published what it offers, and next hops of equal cost lead along least ways.
-use Rattle.std.proofs.Common.{refl, sym, ap, subst, ◌∙◌, arith, ◌≡◌, ℕ, ◌+◌, ◌<◌, ◌≤◌, List, [], ◌∷◌, None, slice_get}
-use Rattle.no_packet_loops.proofs.Common.{find as row_of, None_not_Some, Prefix, prefix_cmp, NextHop, machine_of, offered_hops, Topology, LinkEnd, most_routers, reported_at}
-use Rattle.network_model.specs.{declared.network.Offer.TheVariants.Equal, NextHops.hops_at}
+use Rattle.std.proofs.Common.{refl, sym, ap, subst, ◌∙◌, arith, ◌≡◌, ℕ, ◌+◌, ◌<◌, ◌≤◌, List, [], ◌∷◌, Some, None, slice_get}
+use Rattle.no_packet_loops.proofs.Common.{find as row_of, None_not_Some, Prefix, prefix_cmp, Via, NextHop, machine_of, offered_hops, Topology, LinkEnd, most_routers, reported_at}
+use Rattle.network_model.specs.{declared.network.Offer.TheVariants.Equal, NextHops.hops_at, NextHops.most_offered}
+use Rattle.no_packet_loops.proofs.{Publishing.control_row, Quiet.Still}
+use Rattle.least_cost.proofs.AtQuiet.{successor_below}
 use Rattle.many_ways.specs.{Network.Among, Quiet.EqualEdge}
-use Rattle.many_ways.proofs.{AtQuiet.adds, Offered.offers_feasible, Offered.equal_at, Offered.OneAlone, Offered.offered_now, Feasible.FeasibleHop, Feasible.feasible_hop}
+use Rattle.many_ways.proofs.{AtQuiet.adds, Offered.offers_feasible, Offered.equal_at, Offered.OneAlone, Offered.offered_now, First.first_published, Feasible.FeasibleHop, Feasible.feasible_hop}
 use Rattle.daemon_laws.specs.{Processes.Processes, Happenings.HoldsAlways, Moments.fds_reached}
-use Rattle.daemon_laws.specs.Rest.{IsUpIn, cost_from, way_cost, IsWayHome, AreAtRest}
+use Rattle.daemon_laws.specs.Rest.{entry_in_force, IsUpIn, cost_from, way_cost, IsWayHome, AreAtRest}
 use Rattle.daemon_laws.proofs.{Invariant.Invariant, Quiet.still, Always.Keeps, Always.always}
 use Rattle.daemon_laws.proofs.Resting as resting
-use Rattle.many_daemon_ways.specs.Rest.{HasPublished, IsHopChainAtDaemons, OfferEqual, EqualHopsAreLeastAtDaemons, HopsComeNearerAtDaemons, HopsAreInForceAtDaemons}
+use Rattle.many_daemon_ways.specs.Rest.{HasPublished, IsHopChainAtDaemons, OfferEqual, EqualHopsAreLeastAtDaemons, HopsComeNearerAtDaemons, FirstIsTheRowAtDaemons, HopsAreInForceAtDaemons}
 use Rattle.many_daemon_ways.proofs.{Alone.one_alone, Kept.hop_shown, Kept.HopsShown, Kept.hops_always}
 
 module _ (t : Topology) (p : Prefix) (fds : ℕ → ℕ) (w : Processes) (A : Keeps t p fds w) (S : HopsShown t p fds w) (E : (i : ℕ) → OneAlone (w.routers i)) (n : ℕ) (R : AreAtRest t n w) where
@@ -72,6 +74,15 @@ module _ (t : Topology) (p : Prefix) (fds : ℕ → ℕ) (w : Processes) (A : Ke
           let cost = resting.cost_now t p fds w I n few R e W.up in
           omega (arith, sum, cost)
 
+    -- the first beside a row over a link is that of the row
+    row_first : (i : ℕ) → i < n → 0 < most_offered ((w.routers i).hops).offer → (q session : ℕ) → entry_in_force w i p ≡ Some (Via q session)
+        → slice_get (hops_at p ((w.routers i).hops).published) 0 ≡ Some (record { port = q; session = session })
+    row_first i l some q session row =
+        let here : Still p (w.routers i) = still p (w.routers i) (I.keeps i) (R.quiet i l) in
+        first_published p (w.routers i) (in_force i l) (I.sound i) here.passive some q session (sym (here.row_is ∙ control_row p (w.routers i) (I.keeps i).control_is) ∙ row) (λ up chosen.
+        successor_below (resting.t' t p fds w I n few R) n (resting.s t p fds w I n few R) (resting.kept_state t p fds w I n few R) (resting.quiet_state t p fds w I n few R) few (resting.placed t p fds w I n few R)
+        (resting.cheap_now t p fds w I n few R) (λ j c lt is. (I.cheap j).at_home c is) i q l chosen)
+
     module _ (equal : OfferEqual n w) where
       -- such next hops lead along a way home at the reported distance
       home : (i : ℕ) (es : List LinkEnd) (o : ℕ) → i < n → IsHopChainAtDaemons t w p i es o → IsWayHome t w p i es o (machine_of (w.routers i) p).rd
@@ -104,6 +115,9 @@ hops_come_nearer t w M n few R p e session l sends = (
   up_in t p (fds_reached t w M p) w (always p t w M).kept (hops_always p t w M) (one_alone t w M) n R few e session l sends,
   nearer t p (fds_reached t w M p) w (always p t w M).kept (hops_always p t w M) (one_alone t w M) n R few e session l sends,
 )
+
+pub first_is_the_row : HoldsAlways FirstIsTheRowAtDaemons
+first_is_the_row t w M n few R p i l some q session row = row_first t p (fds_reached t w M p) w (always p t w M).kept (hops_always p t w M) (one_alone t w M) n R few i l some q session row
 
 pub hops_are_in_force : HoldsAlways HopsAreInForceAtDaemons
 hops_are_in_force t w M n R p i l = in_force t p (fds_reached t w M p) w (always p t w M).kept (hops_always p t w M) (one_alone t w M) n R i l

@@ -1,11 +1,11 @@
 -- Where the next hops of routers in processes of their own lead, once these are at rest.
-use Rattle.std.specs.Prelude.{◌≡◌, ℕ, ◌<◌, ◌≤◌, List, [], ◌∷◌, Some}
+use Rattle.std.specs.Prelude.{◌≡◌, ℕ, ◌<◌, ◌≤◌, List, [], ◌∷◌, Some, slice_get}
 use Rattle.ipv4_prefix.specs.Prefix.{Prefix}
-use Rattle.network_model.specs.{declared.network.Offer.TheVariants.Equal, NextHops.hops_at, Network.most_routers, Step.offered_hops, View.LinkEnd, World.machine_of}
+use Rattle.network_model.specs.{declared.network.Offer.TheVariants.Equal, declared.route.Entry.TheVariants.Via, NextHops.hops_at, NextHops.most_offered, Network.most_routers, Step.offered_hops, View.LinkEnd, World.machine_of}
 use Rattle.loop_freedom.specs.Network.{Topology}
 use Rattle.single_router.specs.Inputs.{attachment_of}
 use Rattle.many_ways.specs.Network.{Among}
-use Rattle.daemon_laws.specs.{Processes.Processes, Rest.IsUpIn, Rest.IsLeastWay, Rest.AreAtRest}
+use Rattle.daemon_laws.specs.{Processes.Processes, Rest.IsUpIn, Rest.IsLeastWay, Rest.AreAtRest, Rest.entry_in_force}
 
 -- the router at this end of a link has published it as a next hop, in this session
 abbrev pub HasPublished : Processes → Prefix → LinkEnd → ℕ → Type 0
@@ -31,6 +31,11 @@ EqualHopsAreLeastAtDaemons t w = (n : ℕ) → n ≤ most_routers → AreAtRest 
 abbrev pub HopsComeNearerAtDaemons : Topology → Processes → Type 0
 HopsComeNearerAtDaemons t w = (n : ℕ) → n ≤ most_routers → AreAtRest t n w → (p : Prefix) (e : LinkEnd) (session : ℕ) → e.router < n
     → HasPublished w p e session → IsUpIn t w e session × ((machine_of (w.routers (t.far e).router) p).rd < (machine_of (w.routers e.router) p).rd)
+
+-- the first that a router at rest published beside a Via row is that of the row itself, if the router offers any
+abbrev pub FirstIsTheRowAtDaemons : Topology → Processes → Type 0
+FirstIsTheRowAtDaemons t w = (n : ℕ) → n ≤ most_routers → AreAtRest t n w → (p : Prefix) (i : ℕ) → i < n → 0 < most_offered ((w.routers i).hops).offer
+    → (q session : ℕ) → entry_in_force w i p ≡ Some (Via q session) → slice_get (hops_at p ((w.routers i).hops).published) 0 ≡ Some (record { port = q; session = session })
 
 -- and each router published what it offers
 abbrev pub HopsAreInForceAtDaemons : Topology → Processes → Type 0

@@ -31,7 +31,7 @@
 ghost use Rattle.daemon_laws.specs.Happenings.{HoldsAlways};
 ghost use Rattle.many_daemon_ways.specs.Packets.{NoHopCirclesAtDaemons, NoUnmarkedHopCircles};
 ghost use Rattle.many_daemon_ways.specs.Reached.{SomeHopOutlives, SomeHopsRest};
-ghost use Rattle.many_daemon_ways.specs.Rest.{EqualHopsAreLeastAtDaemons, HopsAreInForceAtDaemons, HopsComeNearerAtDaemons};
+ghost use Rattle.many_daemon_ways.specs.Rest.{EqualHopsAreLeastAtDaemons, FirstIsTheRowAtDaemons, HopsAreInForceAtDaemons, HopsComeNearerAtDaemons};
 
 /// Whatever happens, and in which order, no packet meets a router twice. Each router sends it by the row that matches
 /// it longest, by any next hop that it published beside that, or by any that is feasible now. Meanwhile rows and next
@@ -44,11 +44,13 @@ pub fn no_daemon_hop_circles()
 {}
 
 /// Where all is at rest, as in `daemon_laws`, each router published what it offers. Each published next hop leads over
-/// a link that is up to a router that is nearer. If all offer next hops of equal cost, every chain of published ones
-/// that ends at an attached router, at the distance of its attachment, is a least way. It costs the reported distance.
+/// a link that is up to a router that is nearer. If a router offers any, the first one beside a row over a link is that
+/// of the row itself. If all offer next hops of equal cost, every chain of published ones that ends at an attached
+/// router, at the distance of its attachment, is a least way. It costs the reported distance.
 pub fn hops_at_rest()
     ensures least { HoldsAlways EqualHopsAreLeastAtDaemons }
     ensures nearer { HoldsAlways HopsComeNearerAtDaemons }
+    ensures first { HoldsAlways FirstIsTheRowAtDaemons }
     ensures in_force { HoldsAlways HopsAreInForceAtDaemons }
 {}
 

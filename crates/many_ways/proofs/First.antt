@@ -1,13 +1,13 @@
 -- The first next hop that a passive machine offers is that of its row: its neighbour is at the least distance, and comes before others at that.
-use Rattle.std.proofs.Common.{refl, sym, ap, subst, ◌∙◌, arith, inl, inr, ◌≡◌, ◌≢◌, ℕ, zero, suc, ◌+◌, ◌<◌, ◌≤◌, Bool, true, false, not, cond, ◌&&◌, ◌==◌, nat_lt, if◌then◌else◌, List, [], ◌∷◌, ◌++◌, map, filter, take, Option, Some, None, slice_get, option_map, eqb-true, eq-eqb, ne_eqb, lt-ltb}
+use Rattle.std.proofs.Common.{refl, sym, ap, subst, ◌∙◌, arith, inl, inr, ◌≡◌, ◌≢◌, ℕ, zero, suc, ◌+◌, ◌<◌, ◌≤◌, Bool, true, false, not, cond, ◌&&◌, ◌==◌, nat_lt, if◌then◌else◌, List, [], ◌∷◌, ◌++◌, map, filter, take, Option, Some, None, slice_get, option_map, unwrap_or, eqb-true, eq-eqb, ne_eqb, lt-ltb}
 use Rattle.std.proofs.lemmas.Bool.{le-ltb}
-use Rattle.no_packet_loops.proofs.Common.{option_map_or, and_from, Some_injective, slice_get_within, slice_get-map, infinity, least, is_port, Machine, port_count, Entry, Via, Local, Unreachable, Port, entry_of, session_at, NextHop, Neighbour}
+use Rattle.no_packet_loops.proofs.Common.{find as row_of, option_map_or, and_from, None_not_Some, Prefix, prefix_cmp, Router, machine_of, opening_machine, neighbours, offered_hops, Some_injective, slice_get_within, slice_get-map, infinity, least, is_port, Machine, port_count, Entry, Via, Local, Unreachable, Port, entry_of, session_at, NextHop, Neighbour}
 use Rattle.network_model.proofs.Common.{both_ways, cases_lt, distance, ways}
 use Rattle.network_model.specs.{declared.network.Offer.Offer, declared.network.Offer.TheVariants.One, declared.network.Offer.TheVariants.Equal, declared.network.Offer.TheVariants.Feasible}
-use Rattle.network_model.specs.NextHops.{may_forward, is_offered, most_offered, passing_from, with_nearer, nearest_first, own_first, is_local, offered_ports, hops_of}
+use Rattle.network_model.specs.NextHops.{hops_at, may_forward, is_offered, most_offered, passing_from, with_nearer, nearest_first, own_first, is_local, offered_ports, hops_of}
 use Rattle.machine_laws.specs.Laws.{IsSound, is_active, is_up_at, reported_at}
 use Rattle.machine_laws.proofs.{Distances.least_below, Lists.append_within}
-use Rattle.many_ways.proofs.{Feasible.Stands, Feasible.all_passing, Feasible.passing_in, AtQuiet.neighbour_at, Offered.in_nearest, Offered.in_own}
+use Rattle.many_ways.proofs.{Feasible.Stands, Feasible.all_passing, Feasible.passing_in, AtQuiet.neighbour_at, Offered.in_nearest, Offered.in_own, Offered.offered_row}
 
 -- where something in a list passes there is a first that does
 first_passing : {A : Type 0} (f : A → Bool) (x : A) (xs : List A) → Stands x xs → f x ≡ true → (z : A) × (zs : List A) × (filter f xs ≡ z ∷ zs) × (f z ≡ true) × Stands z xs
@@ -153,5 +153,22 @@ module _ (o : Offer) (ports : List Port) (m : Machine) (S : IsSound m) (passive 
   abbrev hop : ℕ → NextHop
   hop k = record { port = k; session = session_at ports k }
 
-  pub first_hop : slice_get (hops_of o (session_at ports) m) 0 ≡ Some (record { port = q; session = session })
+  first_hop : slice_get (hops_of o (session_at ports) m) 0 ≡ Some (record { port = q; session = session })
   first_hop = slice_get-map hop (offered_ports o m) 0 ∙ ap (option_map hop) first_port ∙ ap (λ (k : ℕ). Some (record { port = q; session = k })) over.session_is
+
+-- and so the first that a router published, if it published what it offers
+module _ (p : Prefix) (r : Router) (in_force : hops_at p (r.hops).published ≡ hops_at p (offered_hops r)) (S : IsSound (machine_of r p)) (passive : is_active (machine_of r p) ≡ false) (some : 0 < most_offered (r.hops).offer) where
+  pub first_published : (q session : ℕ) → option_map (λ m. entry_of r.ports m) (row_of prefix_cmp p r.machines) ≡ Some (Via q session)
+      → (is_up_at (machine_of r p) q ≡ true → (machine_of r p).successor ≡ Some q → (machine_of r p).rd < infinity) → slice_get (hops_at p (r.hops).published) 0 ≡ Some (record { port = q; session = session })
+  first_published q session row reach = by_machine (row_of prefix_cmp p r.machines) refl
+    where
+      many : (r.hops).offer ≢ One
+      many one = let none : most_offered (r.hops).offer ≡ 0 = ap most_offered one in omega (arith, none, some)
+
+      by_machine : (x : Option Machine) → row_of prefix_cmp p r.machines ≡ x → slice_get (hops_at p (r.hops).published) 0 ≡ Some (record { port = q; session = session })
+      by_machine None is = absurd (None_not_Some (sym (ap (option_map (λ m. entry_of r.ports m)) is) ∙ row))
+      by_machine (Some m) is =
+          let own : machine_of r p ≡ m = ap (λ y. unwrap_or y (opening_machine None (neighbours r.ports))) is in
+          let within : is_up_at m q ≡ true → m.successor ≡ Some q → m.rd < infinity = subst (λ (y : Machine). is_up_at y q ≡ true → y.successor ≡ Some q → y.rd < infinity) own reach in
+          ap (λ (hs : List NextHop). slice_get hs 0) (in_force ∙ ap (λ y. unwrap_or y []) (offered_row p r many ∙ ap (option_map (λ y. hops_of (r.hops).offer (session_at r.ports) y)) is))
+          ∙ first_hop (r.hops).offer r.ports m (subst IsSound own S) (ap is_active (sym own) ∙ passive) q session (Some_injective (sym (ap (option_map (λ y. entry_of r.ports y)) is) ∙ row)) within some

@@ -1,8 +1,8 @@
 -- In a quiet world each router published the next hops that it offers. They lead nearer, and those of equal cost lead along least walks.
-use Rattle.std.proofs.Common.{refl, sym, ap, subst, arith, ◌∙◌, ◌≡◌, ◌≢◌, ℕ, ◌<◌, true, false, List, [], ◌∷◌, Option, Some, None, slice_get, option_map, option_and_then, unwrap_or}
-use Rattle.no_packet_loops.proofs.Common.{Prefix, prefix_cmp, Machine, Reaction, reaction, opening_machine, Event, Item, End, Port, Router, Link, World, Network, other, side, machine_of, opening, opening_router_of, Place, session_at, reactions, next, router_noticing, router_meeting, router_accepting, router_at_home, router_publishing, router_releasing, changed_link, with_cost, with_front_taken, with_message, with_delivered, with_noticed, with_released, front_at, notice_at, release_at, event_at_home, changed_at, changed_keeps, Runs, history, option_map_or-ind, routers-changed_link, listed_within, is_active, is_quiet, NextHop, IsNetwork, offered_hops, find-map, State, view, Step, SetCost, Deliver, Publish, Release, least, infinity, neighbours, entry_of, Via, Some_injective, None_not_Some, find as row_of}
+use Rattle.std.proofs.Common.{refl, sym, ap, subst, arith, ◌∙◌, ◌≡◌, ℕ, ◌<◌, true, false, List, [], ◌∷◌, Some, None, slice_get, option_map, option_and_then, unwrap_or}
+use Rattle.no_packet_loops.proofs.Common.{Prefix, prefix_cmp, Machine, Reaction, reaction, opening_machine, Event, Item, End, Port, Router, Link, World, Network, other, side, machine_of, opening, opening_router_of, Place, session_at, reactions, next, router_noticing, router_meeting, router_accepting, router_at_home, router_publishing, router_releasing, changed_link, with_cost, with_front_taken, with_message, with_delivered, with_noticed, with_released, front_at, notice_at, release_at, event_at_home, changed_at, changed_keeps, Runs, history, option_map_or-ind, routers-changed_link, listed_within, is_active, is_quiet, NextHop, IsNetwork, offered_hops, find-map, State, view, Step, SetCost, Deliver, Publish, Release, least, infinity, entry_of, Via, find as row_of}
 use Rattle.network_model.specs.{declared.network.Offer.Offer, declared.network.Offer.TheVariants.One, declared.network.Offer.TheVariants.Equal, declared.network.Offer.TheVariants.Feasible, Machine.ways, NextHops.hops_at, NextHops.hops_of, NextHops.hops_by_prefix, NextHops.most_offered}
-use Rattle.no_packet_loops.proofs.{Wiring.wired, Runs.Reached, Runs.reached, View.on_router-there}
+use Rattle.no_packet_loops.proofs.{Quiet.Still, Wiring.wired, Runs.Reached, Runs.reached, View.on_router-there}
 use Rattle.quiet_routes.proofs.Worlds.{Each, NoRow, no_row-from_map, no_row-from_put, good}
 use Rattle.quiet_routes.proofs.Still.{still, row_now}
 use Rattle.no_packet_loops.specs.Packets.{published_entry}
@@ -10,7 +10,7 @@ use Rattle.machine_laws.specs.Laws.{IsSound, is_up_at}
 use Rattle.quiet_routes.proofs.Routes.{quiet_routes}
 use Rattle.many_ways.specs.{Network.Among, QuietWorlds.SendsEqually, QuietWorlds.IsEqualChain}
 use Rattle.many_ways.specs.HopsAtQuiet.{SendsOver, IsHopChain, ComesNearer, EqualHopsAreLeast, HopsComeNearer, FirstIsTheRow, HopsAreInForce}
-use Rattle.many_ways.proofs.{Feasible.feasible_hop, Offered.offers_feasible, Offered.EqualAt, Offered.equal_at, Offered.OneAlone, Offered.offered_row, Offered.offered_now, First.first_hop}
+use Rattle.many_ways.proofs.{Feasible.feasible_hop, Offered.offers_feasible, Offered.EqualAt, Offered.equal_at, Offered.OneAlone, Offered.offered_now, First.first_published}
 use Rattle.many_ways.proofs.QuietWorlds.{attachments_count, comes_nearer, within_reach, equal_chains_are_least}
 
 -- ---- what routers keep
@@ -100,27 +100,19 @@ module _ (n : Network) (ss : List Step) (w : World) (V : IsNetwork n) (runs : Ru
   -- the first is that of the row
   row_first : 0 < most_offered n.offer → (i : ℕ) (r : Router) → slice_get w.routers i ≡ Some r → (q session : ℕ) → published_entry w i p ≡ Some (Via q session)
       → slice_get (hops_at p (r.hops).published) 0 ≡ Some (record { port = q; session = session })
-  row_first some i r at q session row = by_machine (row_of prefix_cmp p r.machines) refl
+  row_first some i r at q session row = first_published p r (in_force i r at) (subst IsSound machine (R.inv.sound i)) (quiet_here.passive) (subst (λ (o : Offer). 0 < most_offered o) (sym (keeps i r at).offer) some) q session entry reach
     where
-      some' : 0 < most_offered (r.hops).offer
-      some' = subst (λ (o : Offer). 0 < most_offered o) (sym (keeps i r at).offer) some
+      quiet_here : Still p r
+      quiet_here = still n (wired n V) p w rs R (good p n ss w V runs) quiet i r at
 
-      many : (r.hops).offer ≢ One
-      many one = let none : most_offered (r.hops).offer ≡ 0 = ap most_offered one in omega (arith, none, some')
+      machine : s.machine i ≡ machine_of r p
+      machine = on_router-there (λ y. machine_of y p) (opening_machine None []) w.routers i r at
 
-      entry : (x : Option Machine) → row_of prefix_cmp p r.machines ≡ x → option_map (λ m. entry_of r.ports m) x ≡ Some (Via q session)
-      entry x is = sym (row_now n (wired n V) p w rs R (good p n ss w V runs) quiet i r at ∙ ap (option_map (λ m. entry_of r.ports m)) is) ∙ sym (ap (option_and_then (λ (y : Router). row_of prefix_cmp p (y.table).published)) at) ∙ row
+      entry : option_map (λ m. entry_of r.ports m) (row_of prefix_cmp p r.machines) ≡ Some (Via q session)
+      entry = sym (row_now n (wired n V) p w rs R (good p n ss w V runs) quiet i r at) ∙ sym (ap (option_and_then (λ (y : Router). row_of prefix_cmp p (y.table).published)) at) ∙ row
 
-      by_machine : (x : Option Machine) → row_of prefix_cmp p r.machines ≡ x → slice_get (hops_at p (r.hops).published) 0 ≡ Some (record { port = q; session = session })
-      by_machine None is = absurd (None_not_Some (entry None is))
-      by_machine (Some m) is =
-          let own : machine_of r p ≡ m = ap (λ y. unwrap_or y (opening_machine None (neighbours r.ports))) is in
-          let machine : s.machine i ≡ m = on_router-there (λ y. machine_of y p) (opening_machine None []) w.routers i r at ∙ own in
-          let passive : is_active m ≡ false = ap is_active (sym own) ∙ (still n (wired n V) p w rs R (good p n ss w V runs) quiet i r at).passive in
-          let reach : is_up_at m q ≡ true → m.successor ≡ Some q → m.rd < infinity = λ up chosen. subst (λ (y : Machine). y.rd < infinity) machine
-          (within_reach n V p w rs R (good p n ss w V runs) quiet (attachments_count n ss w runs) i q (ap (λ (y : Machine). is_up_at y q) machine ∙ up) (ap (λ (y : Machine). y.successor) machine ∙ chosen)) in
-          ap (λ (hs : List NextHop). slice_get hs 0) (in_force i r at ∙ ap (λ y. unwrap_or y []) (offered_row p r many ∙ ap (option_map (λ y. hops_of (r.hops).offer (session_at r.ports) y)) is))
-          ∙ first_hop (r.hops).offer r.ports m (subst IsSound machine (R.inv.sound i)) passive q session (Some_injective (entry (Some m) is)) reach some'
+      reach : is_up_at (machine_of r p) q ≡ true → (machine_of r p).successor ≡ Some q → (machine_of r p).rd < infinity
+      reach = subst (λ (y : Machine). is_up_at y q ≡ true → y.successor ≡ Some q → y.rd < infinity) machine (within_reach n V p w rs R (good p n ss w V runs) quiet (attachments_count n ss w runs) i q)
 
   abbrev hop_of : (i : ℕ) (x : Place) → SendsOver w p i x → NextHop
   hop_of i x S = record { port = S.port; session = (S.link).session }
