@@ -8,8 +8,8 @@ use Rattle.daemon_laws.specs.{Processes.Processes, Packets.session_leads, Rest.e
 use Rattle.many_daemon_ways.specs.Rest.{OfferEqual, IsHopChainAtDaemons}
 use Rattle.daemon_laws.specs.Happenings.{Happening, IsOpening, AllCanHappen, after_happenings}
 
--- something may happen after which the row that a router published is of a port and leads nowhere any more, but a next hop that it published
--- beside it leads on
+-- something may happen after which a Via row that a router published leads nowhere any more, but a next hop that it published beside it
+-- leads on
 pub record SomeHopOutlives : Type 0 where
   pub topology : Topology
   pub first : Processes

@@ -37,6 +37,6 @@ abbrev pub FirstIsTheRowAtDaemons : Topology → Processes → Type 0
 FirstIsTheRowAtDaemons t w = (n : ℕ) → n ≤ most_routers → AreAtRest t n w → (p : Prefix) (i : ℕ) → i < n → 0 < most_offered ((w.routers i).hops).offer
     → (q session : ℕ) → entry_in_force w i p ≡ Some (Via q session) → slice_get (hops_at p ((w.routers i).hops).published) 0 ≡ Some (record { port = q; session = session })
 
--- and each router published what it offers
+-- each router at rest published what it offers
 abbrev pub HopsAreInForceAtDaemons : Topology → Processes → Type 0
 HopsAreInForceAtDaemons t w = (n : ℕ) → AreAtRest t n w → (p : Prefix) (i : ℕ) → i < n → hops_at p ((w.routers i).hops).published ≡ hops_at p (offered_hops (w.routers i))

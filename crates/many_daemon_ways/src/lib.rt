@@ -54,7 +54,7 @@ pub fn hops_at_rest()
     ensures in_force { HoldsAlways HopsAreInForceAtDaemons }
 {}
 
-/// Some published next hop leads on where the row beside it, which is of a port, leads nowhere any more. And some
+/// Some published next hop leads on where a row over a link, beside which it stands, leads nowhere any more. Some
 /// routers that offer next hops of equal cost come to rest, where a chain of these leads to an attached router.
 pub fn some_hop_outlives()
     ensures outlives { SomeHopOutlives }

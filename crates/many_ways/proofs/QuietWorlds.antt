@@ -1,8 +1,8 @@
 -- In a quiet world every chain of next hops of equal cost is a least walk, and each feasible next hop leads nearer.
-use Rattle.std.proofs.Common.{refl, sym, ap, subst, ◌∙◌, arith, ◌≡◌, ℕ, ◌+◌, ◌<◌, true, false, ◌&&◌, ◌==◌, if◌then◌else◌, List, [], ◌∷◌, map, length, Option, Some, None, is_some, slice_get, option_map, option_and_then, eq-eqb}
+use Rattle.std.proofs.Common.{refl, sym, ap, subst, ◌∙◌, arith, ◌≡◌, ℕ, ◌+◌, ◌<◌, ◌≤◌, true, false, ◌&&◌, ◌==◌, if◌then◌else◌, List, [], ◌∷◌, map, length, Option, Some, None, is_some, slice_get, option_map, option_and_then, eq-eqb}
 use Rattle.no_packet_loops.proofs.Common.{range_with_len, length-map, option_map_or, and_from, false≢true, infinity, NextHop, LinkEnd, Step, Runs, A, place_of, Prefix, Machine, opening_machine, Link, Side, Router, World, Network, other, side, attachment_at, machine_of, opening, opening_router_of, costs_of, Place, place_at, session_at, entry_leads, Entry, Via, IsWalk, walk_cost, is_quiet, Topology, IsNetwork, history, State, at_port, view, lay, is_up_at, IsWalkHome, reported_at}
 use Rattle.no_packet_loops.proofs.{Wiring.IsWired, Wiring.wired, Wiring.few_routers, Places.topology, Places.laid, Places.spot_on, View.on_link-there, View.on_router-there, Kept.specified, Opened.first_fd, Opened.opening_view, Runs.Reached, Runs.reached, Runs.place_is, Walks.Leads, Walks.leads, WorldLaws.SameShape, WorldLaws.Runs-shape}
-use Rattle.least_cost.specs.Quiet.{IsRouted, Follows, walk_end}
+use Rattle.least_cost.specs.Quiet.{IsQuiet, IsRouted, Follows, walk_end}
 use Rattle.least_cost.proofs.{Runs.kept_run, AtQuiet.successor_below, Replay.replay, Kept.Kept, Kept.pending, Kept.line, Kept.port_at}
 use Rattle.loop_freedom.proofs.Walks.{walk_map}
 use Rattle.quiet_routes.specs.Routes.{machine_at, HasBestRow}
@@ -30,20 +30,29 @@ module _ (n : Network) (V : IsNetwork n) (p : Prefix) (w : World) (rs : List Rou
   abbrev s : State
   s = view n p w R.published_fd
 
-  -- what the view keeps
+  -- the view is kept and quiet, its ports are those of its routers, and its costs are costs
   kept : Kept t s
   kept = kept_run t (view n p (opening n) (first_fd n N p)) s (opening_view n N p) R.run
 
-  -- the feasible next hops of each router are good
+  rests : IsQuiet t n.routers s
+  rests = quiet_now n N p w rs R G quiet
+
+  known : (e : LinkEnd) → t.valid e ≡ true → e.router < n.routers
+  known = placed n V p w rs R G quiet count
+
+  cheap : (e : LinkEnd) → t.valid e ≡ true → s.cost e ≤ 65535
+  cheap e v = costs_fit n V p w rs R G quiet count (lay n e)
+
+  cheap_home : (i c : ℕ) → i < n.routers → (s.machine i).attachment ≡ Some c → c ≤ 65535
+  cheap_home i c lt is = (home_cost n N p w rs R G quiet count i c is).small
+
+  -- so the feasible next hops of each router are good
   good_hops : (i : ℕ) → i < n.routers → HopsAreGood t n.routers s i
-  good_hops = many_ways_at_quiet t (view n p (opening n) (first_fd n N p)) s (opening_view n N p) R.run n.routers (few_routers n V) (placed n V p w rs R G quiet count) (λ e v. costs_fit n V p w rs R G quiet count (lay n e))
-      (λ j c lt is. (home_cost n N p w rs R G quiet count j c is).small) (quiet_now n N p w rs R G quiet)
+  good_hops = many_ways_at_quiet t (view n p (opening n) (first_fd n N p)) s (opening_view n N p) R.run n.routers (few_routers n V) known cheap cheap_home rests
 
   -- a router whose successor is a port that is up is within reach
   pub within_reach : (i q : ℕ) → is_up_at (s.machine i) q ≡ true → (s.machine i).successor ≡ Some q → (s.machine i).rd < infinity
-  within_reach i q up chosen =
-      successor_below t n.routers s kept (quiet_now n N p w rs R G quiet) (few_routers n V) (placed n V p w rs R G quiet count) (λ e v. costs_fit n V p w rs R G quiet count (lay n e))
-      (λ j c lt is. (home_cost n N p w rs R G quiet count j c is).small) i q (placed n V p w rs R G quiet count (at_port i q) (kept.up_valid (at_port i q) up)) chosen
+  within_reach i q up chosen = successor_below t n.routers s kept rests (few_routers n V) known cheap cheap_home i q (known (at_port i q) (kept.up_valid (at_port i q) up)) chosen
 
   -- a feasible next hop leads to a router that is nearer, and routed
   module _ (i : ℕ) (r : Router) (at : slice_get w.routers i ≡ Some r) (h : NextHop) (W : FeasibleHop p r h) where
@@ -64,7 +73,7 @@ module _ (n : Network) (V : IsNetwork n) (p : Prefix) (w : World) (rs : List Rou
 
     -- nothing comes, so the router saw what its link is
     seen : pending (line s e) ≡ port_at s e
-    seen = ap (λ x. replay x (port_at s e)) ((quiet_now n N p w rs R G quiet).inbox_empty e there)
+    seen = ap (λ x. replay x (port_at s e)) (rests.inbox_empty e there)
 
     edge : FeasibleEdge s e
     edge = record {
@@ -94,13 +103,13 @@ module _ (n : Network) (V : IsNetwork n) (p : Prefix) (w : World) (rs : List Rou
 
     pub comes_nearer : ((k : ℕ) → k < n.routers → HasBestRow w p k) → ComesNearer w p i h
     comes_nearer best =
-        let G' = (good_hops i (placed n V p w rs R G quiet count e there)).no_dead_end e refl there edge in
+        let G' = (good_hops i (known e there)).no_dead_end e refl there edge in
         let Q : IsRouted t n.routers s far_router = G'.1 in
         record {
           to = far_router;
           leads = leads_on;
           nearer = G'.0;
-          routed = (best far_router (placed n V p w rs R G quiet count (t.far e) (t.far_valid e there))).connected (map (place_for n N p w rs R) Q.chain) (walk_end t far_router Q.chain) (walk_cost w (map (place_for n N p w rs R) Q.chain) + Q.cost) (record {
+          routed = (best far_router (known (t.far e) (t.far_valid e there))).connected (map (place_for n N p w rs R) Q.chain) (walk_end t far_router Q.chain) (walk_cost w (map (place_for n N p w rs R) Q.chain) + Q.cost) (record {
             walk = from_walk n N p w rs R far_router Q.chain (walk_map t (Follows s) (IsUp n N p w rs R) (λ d f. f.sends.linked) far_router Q.chain Q.follows);
             attachment = Q.cost;
             attached = sym (home_is n N p w rs R G quiet count (walk_end t far_router Q.chain)) ∙ Q.reaches.attached;
@@ -168,8 +177,7 @@ module _ (n : Network) (V : IsNetwork n) (p : Prefix) (w : World) (rs : List Rou
 
       sums : (machine_at w i p).rd ≡ (side x.end S.link).cost + (machine_at w (side (other x.end) S.link).router p).rd
       sums =
-          let a = adds t n.routers s kept (quiet_now n N p w rs R G quiet) (few_routers n V) (placed n V p w rs R G quiet count) (λ e v. costs_fit n V p w rs R G quiet count (lay n e))
-          (λ j c lt is. (home_cost n N p w rs R G quiet count j c is).small) (at_port i S.port) valid E in
+          let a = adds t n.routers s kept rests (few_routers n V) known cheap cheap_home (at_port i S.port) valid E in
           let c : s.cost (at_port i S.port) ≡ (side x.end S.link).cost = on_link-there (λ en y. (side en y).cost) 0 w.links (lay n (at_port i S.port)) x S.link laid_is S.is_link in
           let f = ap (λ (j : ℕ). (s.machine j).rd) far in
           omega (arith, a, c, f)

@@ -47,7 +47,7 @@ FirstIsTheRow = (n : Network) (ss : List Step) (w : World) → IsNetwork n → R
     → (p : Prefix) (i : ℕ) (r : Router) → slice_get w.routers i ≡ Some r → (q session : ℕ) → published_entry w i p ≡ Some (Via q session)
     → slice_get (hops_at p (r.hops).published) 0 ≡ Some (record { port = q; session = session })
 
--- and each router published what it offers
+-- each router of a quiet world published what it offers
 abbrev pub HopsAreInForce : Type 0
 HopsAreInForce = (n : Network) (ss : List Step) (w : World) → IsNetwork n → Runs (opening n) ss w → is_quiet w ≡ true
     → (p : Prefix) (i : ℕ) (r : Router) → slice_get w.routers i ≡ Some r → hops_at p (r.hops).published ≡ hops_at p (offered_hops r)

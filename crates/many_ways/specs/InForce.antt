@@ -34,8 +34,7 @@ abbrev pub SomeRouterHasAChoice : Type 0
 SomeRouterHasAChoice = (n : Network) × (ss : List Step) × (w : World) × (addr : ℕ) × (i : ℕ) × (j : ℕ) × (k : ℕ) × IsNetwork n × Runs (opening n) ss w
     × MayGoOver w false addr i j × MayGoOver w false addr i k × (j ≢ k)
 
--- and to one in which the row that matches a packet is of a port and leads nowhere any more, so that it is a next hop beside that
--- row which leads on
+-- and to one in which the Via row that matches a packet leads nowhere any more, so that the packet goes on by a next hop beside that row
 pub record SomeHopOutlivesItsRow : Type 0 where
   pub network : Network
   pub steps : List Step

@@ -61,8 +61,8 @@ pub fn many_ways_at_quiet()
 {}
 
 /// Some run leads to a world in which a router may send a packet to either of two others, by what it
-/// published. Some run leads to one in which its row for a packet names a port that leads nowhere any more,
-/// although a next hop that it published beside that row leads on.
+/// published. Some run leads to one in which a row over a link leads nowhere any more, although a next hop that
+/// its router published beside that row leads on.
 pub fn some_router_has_a_choice()
     ensures choice { SomeRouterHasAChoice }
     ensures outlives { SomeHopOutlivesItsRow }
@@ -82,8 +82,8 @@ pub fn equal_chains_are_least()
     ensures { EqualChainsAreLeast }
 {}
 
-/// In every world of every run no packet meets a router twice. Each router sends it by its row, or by any next
-/// hop that it published beside that, or would publish now. No such way has more routers than there are.
+/// In every world of every run no packet meets a router twice. Each router sends it by its row or by any next hop
+/// beside that, as it published them or would publish them now. No such way has more routers than there are.
 pub fn no_hop_circles()
     ensures circles { HoldsInEveryWorld NoHopCircles }
     ensures end { HoldsInEveryWorld HopWaysEnd }
