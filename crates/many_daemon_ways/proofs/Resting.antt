@@ -10,7 +10,7 @@ use Rattle.daemon_laws.specs.{Processes.Processes, Happenings.HoldsAlways, Momen
 use Rattle.daemon_laws.specs.Rest.{entry_in_force, IsUpIn, cost_from, way_cost, IsWayHome, AreAtRest}
 use Rattle.daemon_laws.proofs.{Invariant.Invariant, Quiet.still, Always.Keeps, Always.always}
 use Rattle.daemon_laws.proofs.Resting as resting
-use Rattle.many_daemon_ways.specs.Rest.{HasPublished, IsHopChainAtDaemons, OfferEqual, EqualHopsAreLeastAtDaemons, HopsComeNearerAtDaemons, FirstIsTheRowAtDaemons, HopsAreInForceAtDaemons}
+use Rattle.many_daemon_ways.specs.Rest.{IsHopInForce, IsHopChainAtDaemons, OfferEqual, EqualHopsAreLeastAtDaemons, HopsComeNearerAtDaemons, FirstIsTheRowAtDaemons, HopsAreInForceAtDaemons}
 use Rattle.many_daemon_ways.proofs.{Alone.one_alone, Kept.hop_shown, Kept.HopsShown, Kept.hops_always}
 
 module _ (t : Topology) (p : Prefix) (fds : ℕ → ℕ) (w : Processes) (A : Keeps t p fds w) (S : HopsShown t p fds w) (E : (i : ℕ) → OneAlone (w.routers i)) (n : ℕ) (R : AreAtRest t n w) where
@@ -32,7 +32,7 @@ module _ (t : Topology) (p : Prefix) (fds : ℕ → ℕ) (w : Processes) (A : Ke
   in_force i l = offered_now p (w.routers i) (E i) (unheard i) (still p (w.routers i) (I.keeps i) (R.quiet i l)).done.offers
 
   module _ (few : n ≤ most_routers) where
-    module _ (e : LinkEnd) (session : ℕ) (l : e.router < n) (sends : HasPublished w p e session) where
+    module _ (e : LinkEnd) (session : ℕ) (l : e.router < n) (sends : IsHopInForce w p e session) where
       -- the next hop
       abbrev hop : NextHop
       hop = record { port = e.port; session = session }

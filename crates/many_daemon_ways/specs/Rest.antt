@@ -8,14 +8,14 @@ use Rattle.many_ways.specs.Network.{Among}
 use Rattle.daemon_laws.specs.{Processes.Processes, Rest.IsUpIn, Rest.IsLeastWay, Rest.AreAtRest, Rest.entry_in_force}
 
 -- the router at this end of a link has published it as a next hop, in this session
-abbrev pub HasPublished : Processes → Prefix → LinkEnd → ℕ → Type 0
-HasPublished w p e session = Among (record { port = e.port; session = session }) (hops_at p ((w.routers e.router).hops).published)
+abbrev pub IsHopInForce : Processes → Prefix → LinkEnd → ℕ → Type 0
+IsHopInForce w p e session = Among (record { port = e.port; session = session }) (hops_at p ((w.routers e.router).hops).published)
 
 -- published next hops, whichever each router takes, lead along these ends, over links that are up in their sessions, from router i to
 -- router o, which is attached, and at the distance of its attachment
 abbrev pub IsHopChainAtDaemons : Topology → Processes → Prefix → ℕ → List LinkEnd → ℕ → Type 0
 IsHopChainAtDaemons t w p i [] o = (i ≡ o) × (attachment_of (w.routers o) p ≡ Some (machine_of (w.routers o) p).rd)
-IsHopChainAtDaemons t w p i (e ∷ es) o = (session : ℕ) × (e.router ≡ i) × IsUpIn t w e session × HasPublished w p e session × IsHopChainAtDaemons t w p (t.far e).router es o
+IsHopChainAtDaemons t w p i (e ∷ es) o = (session : ℕ) × (e.router ≡ i) × IsUpIn t w e session × IsHopInForce w p e session × IsHopChainAtDaemons t w p (t.far e).router es o
 
 -- each of the first n routers offers next hops of equal cost
 abbrev pub OfferEqual : ℕ → Processes → Type 0
@@ -30,7 +30,7 @@ EqualHopsAreLeastAtDaemons t w = (n : ℕ) → n ≤ most_routers → AreAtRest 
 -- where routers are at rest each published next hop, of equal cost or not, leads over a link that is up to a router that is nearer
 abbrev pub HopsComeNearerAtDaemons : Topology → Processes → Type 0
 HopsComeNearerAtDaemons t w = (n : ℕ) → n ≤ most_routers → AreAtRest t n w → (p : Prefix) (e : LinkEnd) (session : ℕ) → e.router < n
-    → HasPublished w p e session → IsUpIn t w e session × ((machine_of (w.routers (t.far e).router) p).rd < (machine_of (w.routers e.router) p).rd)
+    → IsHopInForce w p e session → IsUpIn t w e session × ((machine_of (w.routers (t.far e).router) p).rd < (machine_of (w.routers e.router) p).rd)
 
 -- the first that a router at rest published beside a Via row is that of the row itself, if the router offers any
 abbrev pub FirstIsTheRowAtDaemons : Topology → Processes → Type 0

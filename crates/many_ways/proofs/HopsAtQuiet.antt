@@ -9,7 +9,7 @@ use Rattle.no_packet_loops.specs.Packets.{published_entry}
 use Rattle.machine_laws.specs.Laws.{IsSound, is_up_at}
 use Rattle.quiet_routes.proofs.Routes.{quiet_routes}
 use Rattle.many_ways.specs.{Network.Among, QuietWorlds.SendsEqually, QuietWorlds.IsEqualChain}
-use Rattle.many_ways.specs.HopsAtQuiet.{SendsOver, IsHopChain, ComesNearer, EqualHopsAreLeast, HopsComeNearer, FirstIsTheRow, HopsAreInForce}
+use Rattle.many_ways.specs.HopsAtQuiet.{SendsOver, IsHopChain, ComesNearer, EqualHopsAreLeast, NextHopsComeNearer, FirstIsTheRow, HopsAreInForce}
 use Rattle.many_ways.proofs.{Feasible.feasible_hop, Offered.offers_feasible, Offered.EqualAt, Offered.equal_at, Offered.OneAlone, Offered.offered_now, First.first_published}
 use Rattle.many_ways.proofs.QuietWorlds.{attachments_count, comes_nearer, within_reach, equal_chains_are_least}
 
@@ -155,7 +155,7 @@ module _ (n : Network) (ss : List Step) (w : World) (V : IsNetwork n) (runs : Ru
 pub equal_hops_are_least : EqualHopsAreLeast
 equal_hops_are_least n ss w most V r equal quiet p i xs o lt c = equal_chains_are_least n ss w V r quiet p i xs o lt (equal_chain n ss w V r quiet p most equal i xs o c)
 
-pub hops_come_nearer : HopsComeNearer
+pub hops_come_nearer : NextHopsComeNearer
 hops_come_nearer n ss w V r quiet p i x h at a = nearer n ss w V r quiet p i x h at a
 
 pub first_is_the_row : FirstIsTheRow

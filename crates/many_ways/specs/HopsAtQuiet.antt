@@ -37,8 +37,8 @@ pub record ComesNearer (w : World) (p : Prefix) (i : ℕ) (h : NextHop) : Type 0
   pub routed : HasRoute w p to
 
 -- so does each that a router of a quiet world published, whatever the network offers
-abbrev pub HopsComeNearer : Type 0
-HopsComeNearer = (n : Network) (ss : List Step) (w : World) → IsNetwork n → Runs (opening n) ss w → is_quiet w ≡ true
+abbrev pub NextHopsComeNearer : Type 0
+NextHopsComeNearer = (n : Network) (ss : List Step) (w : World) → IsNetwork n → Runs (opening n) ss w → is_quiet w ≡ true
     → (p : Prefix) (i : ℕ) (r : Router) (h : NextHop) → slice_get w.routers i ≡ Some r → Among h (hops_at p (r.hops).published) → ComesNearer w p i h
 
 -- where the network offers any, the first that a router of a quiet world published beside a Via row is that of the row itself

@@ -32,7 +32,7 @@
 ghost use Rattle.many_ways.specs.Network.{ManyHopsLoopFree};
 ghost use Rattle.many_ways.specs.Packets.{HoldsInEveryHistory, NoFeasibleHopCircles, FeasibleHopWaysEnd};
 ghost use Rattle.many_ways.specs.InForce.{NoHopCircles, HopWaysEnd, SomeRouterHasAChoice, SomeHopOutlivesItsRow};
-ghost use Rattle.many_ways.specs.HopsAtQuiet.{EqualHopsAreLeast, HopsComeNearer, FirstIsTheRow, HopsAreInForce};
+ghost use Rattle.many_ways.specs.HopsAtQuiet.{EqualHopsAreLeast, NextHopsComeNearer, FirstIsTheRow, HopsAreInForce};
 ghost use Rattle.no_packet_loops.specs.Packets.{HoldsInEveryWorld};
 ghost use Rattle.many_ways.specs.Journeys.{NoHopJourneyCircles};
 ghost use Rattle.many_ways.specs.Quiet.{ManyHopsAtQuiet};
@@ -95,7 +95,7 @@ pub fn no_hop_circles()
 /// attached router, at the distance of its attachment, is a least walk.
 pub fn equal_hops_at_quiet()
     ensures least { EqualHopsAreLeast }
-    ensures nearer { HopsComeNearer }
+    ensures nearer { NextHopsComeNearer }
     ensures first { FirstIsTheRow }
     ensures in_force { HopsAreInForce }
 {}
